@@ -1,0 +1,327 @@
+-- totalOrder among the patterns of numbers is the order of the numbers: IEEE 754 §5.10 a) to c), for every pattern that is no NaN's.
+use mathlib.Core.Path.{_≡_, refl, sym, ap, _∙_, subst}
+use mathlib.Core.Logic.{_⊎_, inl, inr}
+use Prim.Native.Nat.{ℕ, zero, suc, _+_, _-_, _*_, _/_, _%_, _^_, _≤_, _<_}
+use native.Mathlib.Nat.{eq-or-lt-of-le, mul-assoc, mul-one, mul-comm, mul-right-comm, mul-pos, pow-succ', le-trans, le-of-eq, le-of-lt, lt-of-lt-of-le, mul-le-mul-left, mul-le-mul-right, mul-lt-mul-of-pos-right, lt-of-mul-lt-mul-right, le-of-mul-le-mul-right}
+use native.Mathlib.Omega.{arith}
+use mathlib.Core.Bool.{Bool, true, false, not, _&&_, _||_, cond, true≢false}
+use lib.Pow.{pow-pos, pow-mono}
+use lib.Dec.{leb, ltb, eqb}
+use lib.Ieee.{Float, nan, inf, fin, binary64, up, down, odd, ofFields, ofBits, nanBits, neg, lt, eq}
+use lib.Ieee.Fits.{down-pos}
+use lib.Ieee.Bits.{is-false, nanBits-above}
+use lib.Arith.{lt→nleb}
+use lib.Ieee.Exact.{HasValue, odd-sign}
+use borrow.Author.Tests.{lt-ltb, le-ltb, ltb-true, ltb-false, le-leb, lt-leb, eq-eqb}
+use Rattle.float.specs.Order.{negative, place, totalLess}
+use Rattle.float.proofs.Tests.{split, same-ltb}
+use Rattle.float.proofs.Values.{neg-odd}
+use Rattle.float.proofs.FromInteger.{ofBits-is, of-fields}
+use Rattle.float.proofs.Order.{place-clear, place-set, total-less-clear}
+
+-- ---- the value of a pattern with a clear sign bit grows with the pattern
+-- the number that an exponent's field x and the digits t stand for, in units of 2 ^ -1074
+abbrev pub size64 : ℕ → ℕ → ℕ
+size64 zero t = t
+size64 (suc x) t = (4503599627370496 + t) * 2 ^ x
+
+at-zero : (t : ℕ) → ofFields binary64 false 0 t ≡ odd 53 false t 0 1074
+unfolding ofFields
+at-zero t = refl
+
+pub bits-val : (b : ℕ) → b < 9218868437227405312 → HasValue (ofBits binary64 b) false (size64 (b / 4503599627370496) (b % 4503599627370496)) (2 ^ 1074)
+bits-val b h = go (b / 4503599627370496) (b % 4503599627370496) (omega arith) (omega arith) (omega arith)
+  where
+    go : (x t : ℕ) → b ≡ x * 4503599627370496 + t → x < 2047 → t < 4503599627370496 → HasValue (ofBits binary64 b) false (size64 x t) (2 ^ 1074)
+    go zero t e X H =
+        let low-b : b < 9223372036854775808 = omega arith in
+        let f : b % 9223372036854775808 / 4503599627370496 ≡ 0 = omega arith in
+        let d : b % 4503599627370496 ≡ t = omega arith in
+        subst (λ (y : Float). HasValue y false t (2 ^ 1074))
+        (sym (ofBits-is b
+        ∙ ap (λ (s : Bool). ofFields binary64 s (b % 9223372036854775808 / 4503599627370496) (b % 4503599627370496)) (is-false (leb 9223372036854775808 b) (lt→nleb 9223372036854775808 b low-b))
+        ∙ ap (λ (y : ℕ). ofFields binary64 false y (b % 4503599627370496)) f
+        ∙ ap (λ (y : ℕ). ofFields binary64 false 0 y) d
+        ∙ at-zero t))
+        (subst (λ (y : ℕ). HasValue (odd 53 false t 0 1074) false y (2 ^ 1074)) (mul-one t) (odd-sign 53 false t 0 1074))
+    go (suc x) t e X H = subst (λ (y : Float). HasValue y false ((4503599627370496 + t) * 2 ^ x) (2 ^ 1074)) (sym (of-fields b x t X H e)) (odd-sign 53 false (4503599627370496 + t) x 1074)
+
+size64-lt : (x t y u : ℕ) → t < 4503599627370496 → u < 4503599627370496 → x * 4503599627370496 + t < y * 4503599627370496 + u → size64 x t < size64 y u
+size64-lt zero t zero u H K h = omega arith
+size64-lt zero t (suc y) u H K h =
+    let p : 4503599627370496 + u ≤ (4503599627370496 + u) * 2 ^ y = le-trans (le-of-eq (sym (mul-one (4503599627370496 + u)))) (mul-le-mul-left (4503599627370496 + u) (pow-pos y)) in
+    omega arith
+size64-lt (suc x) t zero u H K h = absurd (no x t u K h)
+  where
+    no : (a b d : ℕ) → d < 4503599627370496 → suc a * 4503599627370496 + b < 0 * 4503599627370496 + d → ⊥
+    no a b d g l = omega arith
+size64-lt (suc x) t (suc y) u H K h = elim (eq-or-lt-of-le (le x t y u H K h)) [
+  | inl e ↦ subst (λ (z : ℕ). (4503599627370496 + t) * 2 ^ x < (4503599627370496 + u) * 2 ^ z) e (mul-lt-mul-of-pos-right (same x t y u e h) (pow-pos x))
+  | inr l ↦
+      lt-of-lt-of-le (mul-lt-mul-of-pos-right (twice t H) (pow-pos x))
+      (le-trans (le-of-eq (mul-assoc 4503599627370496 2 (2 ^ x) ∙ ap (λ (z : ℕ). 4503599627370496 * z) (sym (pow-succ' 2 x))))
+      (le-trans (mul-le-mul-left 4503599627370496 (pow-mono l)) (mul-le-mul-right (2 ^ y) (once u))))
+]
+  where
+    le : (x t y u : ℕ) → t < 4503599627370496 → u < 4503599627370496 → suc x * 4503599627370496 + t < suc y * 4503599627370496 + u → x ≤ y
+    le x t y u H K h = omega arith
+
+    same : (x t y u : ℕ) → x ≡ y → suc x * 4503599627370496 + t < suc y * 4503599627370496 + u → 4503599627370496 + t < 4503599627370496 + u
+    same x t y u e h = omega arith
+
+    twice : (t : ℕ) → t < 4503599627370496 → 4503599627370496 + t < 4503599627370496 * 2
+    twice t h = omega arith
+
+    once : (u : ℕ) → 4503599627370496 ≤ 4503599627370496 + u
+    once u = omega arith
+
+abbrev pub val : ℕ → ℕ
+val b = size64 (b / 4503599627370496) (b % 4503599627370496)
+
+val-lt : (b c : ℕ) → b < c → val b < val c
+val-lt b c h = size64-lt (b / 4503599627370496) (b % 4503599627370496) (c / 4503599627370496) (c % 4503599627370496) (omega arith) (omega arith) (omega arith)
+
+val-le : (b c : ℕ) → b ≤ c → val b ≤ val c
+val-le b c h = elim (eq-or-lt-of-le h) [ inl e ↦ le-of-eq (ap val e) | inr l ↦ le-of-lt (val-lt b c l) ]
+
+-- two floats that are a / c and b / c
+lt-values : (x y : Float) (a b c : ℕ) → 0 < c → HasValue x false a c → HasValue y false b c → ((a < b → lt x y ≡ true) × (b ≤ a → lt x y ≡ false))
+unfolding lt
+lt-values nan y a b c C v w = absurd v
+lt-values (inf s) y a b c C v w = absurd v
+lt-values (fin true m e) y a b c C v w = absurd (true≢false (v .0))
+lt-values (fin false m e) nan a b c C v w = absurd w
+lt-values (fin false m e) (inf s) a b c C v w = absurd w
+lt-values (fin false m e) (fin true n d) a b c C v w = absurd (true≢false (w .0))
+lt-values (fin false m e) (fin false n d) a b c C v w =
+    let l : m * up e * down d * c ≡ a * (down e * down d) = mul-right-comm (m * up e) (down d) c ∙ ap (λ (z : ℕ). z * down d) (v .1) ∙ mul-assoc a (down e) (down d) in
+    let r : n * up d * down e * c ≡ b * (down e * down d) = mul-right-comm (n * up d) (down e) c ∙ ap (λ (z : ℕ). z * down e) (w .1) ∙ mul-assoc b (down d) (down e) ∙ ap (λ (z : ℕ). b * z) (mul-comm (down d) (down e)) in (
+      λ h. lt-ltb (m * up e * down d) (n * up d * down e) (lt-of-mul-lt-mul-right c (subst (λ (z : ℕ). z < n * up d * down e * c) (sym l) (subst (λ (z : ℕ). a * (down e * down d) < z) (sym r) (mul-lt-mul-of-pos-right h (mul-pos (down-pos e) (down-pos d)))))),
+      λ h. le-ltb (m * up e * down d) (n * up d * down e) (le-of-mul-le-mul-right (subst (λ (z : ℕ). z ≤ m * up e * down d * c) (sym r) (subst (λ (z : ℕ). b * (down e * down d) ≤ z) (sym l) (mul-le-mul-right (down e * down d) h))) C),
+    )
+
+-- ---- patterns up to the infinity's, which is 0x7ff0_0000_0000_0000
+infinity-is : ofBits binary64 9218868437227405312 ≡ inf false
+unfolding ofBits
+infinity-is = refl
+
+-- a finite float with a clear sign is below the infinity, and nothing is above it
+value-below : (x : Float) (a c : ℕ) → HasValue x false a c → (lt x (inf false) ≡ true) × (lt (inf false) x ≡ false)
+unfolding lt
+value-below nan a c v = absurd v
+value-below (inf s) a c v = absurd v
+value-below (fin s m e) a c v = (refl, refl)
+
+infinity-level : lt (inf false) (inf false) ≡ false
+unfolding lt
+infinity-level = refl
+
+pub numbers-order : (p q : ℕ) → p ≤ 9218868437227405312 → q ≤ 9218868437227405312 → lt (ofBits binary64 p) (ofBits binary64 q) ≡ ltb p q
+numbers-order p q P Q = elim (eq-or-lt-of-le P) [
+  | inl i ↦ elim (eq-or-lt-of-le Q) [
+    | inl j ↦ top p i q j ∙ infinity-level ∙ sym (le-ltb p q (omega arith))
+    | inr k ↦ ap (λ (z : Float). lt z (ofBits binary64 q)) (ap (ofBits binary64) i ∙ infinity-is) ∙ value-below (ofBits binary64 q) _ _ (bits-val q k) .1 ∙ sym (le-ltb p q (omega arith))
+  ]
+  | inr h ↦ elim (eq-or-lt-of-le Q) [
+    | inl j ↦ ap (λ (z : Float). lt (ofBits binary64 p) z) (ap (ofBits binary64) j ∙ infinity-is) ∙ value-below (ofBits binary64 p) _ _ (bits-val p h) .0 ∙ sym (lt-ltb p q (omega arith))
+    | inr k ↦ both h k
+  ]
+]
+  where
+    top : (p : ℕ) → p ≡ 9218868437227405312 → (q : ℕ) → q ≡ 9218868437227405312 → lt (ofBits binary64 p) (ofBits binary64 q) ≡ lt (inf false) (inf false)
+    top p i q j =
+        ap (λ (z : Float). lt z (ofBits binary64 q)) (ap (ofBits binary64) i ∙ infinity-is)
+        ∙ ap (λ (z : Float). lt (inf false) z) (ap (ofBits binary64) j ∙ infinity-is)
+
+    both : p < 9218868437227405312 → q < 9218868437227405312 → lt (ofBits binary64 p) (ofBits binary64 q) ≡ ltb p q
+    both h k =
+        let l = lt-values (ofBits binary64 p) (ofBits binary64 q) (val p) (val q) (2 ^ 1074) (pow-pos 1074) (bits-val p h) (bits-val q k) in
+        split (ltb p q) (λ e. l .0 (val-lt p q (ltb-true p q e)) ∙ sym e) (λ e. l .1 (val-le q p (ltb-false p q e)) ∙ sym e)
+
+-- ---- with the sign bit set a pattern stands for the negated number
+neg-cond : (b c : Bool) (x y : Float) → neg x ≡ y → cond b (cond c (inf true) nan) y ≡ neg (cond b (cond c (inf false) nan) x)
+unfolding neg
+neg-cond true true x y h = refl
+neg-cond true false x y h = refl
+neg-cond false c x y h = sym h
+
+neg-fields : (x t : ℕ) → ofFields binary64 true x t ≡ neg (ofFields binary64 false x t)
+unfolding ofFields
+neg-fields zero t = sym (neg-odd 53 t 0 1074)
+neg-fields (suc x) t = neg-cond (eqb (suc x) 2047) (eqb t 0) (odd 53 false (4503599627370496 + t) x 1074) (odd 53 true (4503599627370496 + t) x 1074) (neg-odd 53 (4503599627370496 + t) x 1074)
+
+abbrev sign : ℕ
+sign = 9223372036854775808
+
+signed : (s : Bool) (b p : ℕ) → leb sign b ≡ s → b % sign ≡ p → b % 4503599627370496 ≡ p % 4503599627370496 → ofBits binary64 b ≡ ofFields binary64 s (p / 4503599627370496) (p % 4503599627370496)
+signed s b p h e d =
+    ofBits-is b
+    ∙ ap (λ (z : Bool). ofFields binary64 z (b % sign / 4503599627370496) (b % 4503599627370496)) h
+    ∙ ap (λ (z : ℕ). ofFields binary64 s (z / 4503599627370496) (b % 4503599627370496)) e
+    ∙ ap (λ (z : ℕ). ofFields binary64 s (p / 4503599627370496) z) d
+
+pub negated : (p : ℕ) → p < sign → ofBits binary64 (sign + p) ≡ neg (ofBits binary64 p)
+negated p h =
+    signed true (sign + p) p (le-leb sign (sign + p) (omega arith)) (omega arith) (omega arith)
+    ∙ neg-fields (p / 4503599627370496) (p % 4503599627370496)
+    ∙ ap neg (sym (signed false p p (lt-leb sign p h) (omega arith) refl))
+
+-- ---- the four pairs of signs
+-- a number with a clear sign
+abbrev Clear : Float → Type 0
+Clear nan = ⊥
+Clear (inf s) = s ≡ false
+Clear (fin s m e) = s ≡ false
+
+clear-infinity : Clear (inf false)
+clear-infinity = refl
+
+value-clear : (x : Float) (a c : ℕ) → HasValue x false a c → Clear x
+value-clear nan a c v = v
+value-clear (inf s) a c v = absurd v
+value-clear (fin s m e) a c v = v .0
+
+clear-bits : (p : ℕ) → p ≤ 9218868437227405312 → Clear (ofBits binary64 p)
+clear-bits p P = elim (eq-or-lt-of-le P) [
+  | inl i ↦ subst Clear (sym (ap (ofBits binary64) i ∙ infinity-is)) clear-infinity
+  | inr h ↦ value-clear (ofBits binary64 p) _ _ (bits-val p h)
+]
+
+-- what totalOrder says of two numbers: x is below y, or they are -0 and +0
+abbrev pub numbersLess : Float → Float → Bool
+numbersLess x y = lt x y || (eq x y && (negative x && not (negative y)))
+
+drop-equal : (l e : Bool) → (l || (e && false)) ≡ l
+drop-equal true e = refl
+drop-equal false true = refl
+drop-equal false false = refl
+
+clear-clear : (x y : Float) → Clear x → numbersLess x y ≡ lt x y
+clear-clear nan y c = absurd c
+clear-clear (inf true) y c = absurd (true≢false c)
+clear-clear (inf false) y c = drop-equal (lt (inf false) y) (eq (inf false) y)
+clear-clear (fin true m e) y c = absurd (true≢false c)
+clear-clear (fin false m e) y c = drop-equal (lt (fin false m e) y) (eq (fin false m e) y)
+
+set-set : (x y : Float) → Clear x → Clear y → numbersLess (neg x) (neg y) ≡ lt y x
+unfolding neg lt eq
+set-set nan y c d = absurd c
+set-set (inf true) y c d = absurd (true≢false c)
+set-set (fin true m e) y c d = absurd (true≢false c)
+set-set (inf false) nan c d = absurd d
+set-set (inf false) (inf true) c d = absurd (true≢false d)
+set-set (inf false) (inf false) c d = refl
+set-set (inf false) (fin true n k) c d = absurd (true≢false d)
+set-set (inf false) (fin false n k) c d = refl
+set-set (fin false m e) nan c d = absurd d
+set-set (fin false m e) (inf true) c d = absurd (true≢false d)
+set-set (fin false m e) (inf false) c d = refl
+set-set (fin false m e) (fin true n k) c d = absurd (true≢false d)
+set-set (fin false m e) (fin false n k) c d = drop-equal (ltb (n * up k * down e) (m * up e * down k)) (eq (fin true m e) (fin true n k))
+
+-- a clear sign is never below a set one
+clear-set : (x y : Float) → Clear x → Clear y → numbersLess x (neg y) ≡ false
+unfolding neg lt eq
+clear-set nan y c d = absurd c
+clear-set (inf true) y c d = absurd (true≢false c)
+clear-set (fin true m e) y c d = absurd (true≢false c)
+clear-set (inf false) nan c d = absurd d
+clear-set (inf false) (inf true) c d = absurd (true≢false d)
+clear-set (inf false) (inf false) c d = refl
+clear-set (inf false) (fin s n k) c d = refl
+clear-set (fin false m e) nan c d = absurd d
+clear-set (fin false m e) (inf true) c d = absurd (true≢false d)
+clear-set (fin false m e) (inf false) c d = refl
+clear-set (fin false m e) (fin true n k) c d = absurd (true≢false d)
+clear-set (fin false m e) (fin false n k) c d = drop-equal false (eq (fin false m e) (fin true n k))
+
+-- a set sign is below a clear one, the zeros included
+set-clear : (x y : Float) → Clear x → Clear y → numbersLess (neg x) y ≡ true
+unfolding neg lt eq
+set-clear nan y c d = absurd c
+set-clear (inf true) y c d = absurd (true≢false c)
+set-clear (fin true m e) y c d = absurd (true≢false c)
+set-clear (inf false) nan c d = absurd d
+set-clear (inf false) (inf true) c d = absurd (true≢false d)
+set-clear (inf false) (inf false) c d = refl
+set-clear (inf false) (fin s n k) c d = refl
+set-clear (fin false m e) nan c d = absurd d
+set-clear (fin false m e) (inf true) c d = absurd (true≢false d)
+set-clear (fin false m e) (inf false) c d = refl
+set-clear (fin false m e) (fin true n k) c d = absurd (true≢false d)
+set-clear (fin false m e) (fin false n k) c d = zeros (m * up e * down k) (n * up k * down e)
+  where
+    zeros : (a b : ℕ) → (ltb 0 (a + b) || ((eqb a b && eqb a 0) && true)) ≡ true
+    zeros a b = split (ltb 0 (a + b))
+        (λ h. ap (λ (t : Bool). t || ((eqb a b && eqb a 0) && true)) h)
+        (λ h.
+        let l = ltb-false 0 (a + b) h in
+        ap (λ (t : Bool). t || ((eqb a b && eqb a 0) && true)) h
+        ∙ ap (λ (t : Bool). (t && eqb a 0) && true) (eq-eqb a b (omega arith))
+        ∙ ap (λ (t : Bool). t && true) (eq-eqb a 0 (omega arith)))
+
+-- ---- totalOrder of two patterns that are no NaN's is the order of their numbers
+magnitude-no-nan : (b : ℕ) → nanBits binary64 b ≡ false → b % sign ≤ 9218868437227405312
+magnitude-no-nan b h = ltb-false 9218868437227405312 (b % sign) (sym (nanBits-above binary64 b) ∙ h)
+
+-- a pattern is its magnitude, or that with the sign bit set
+halves : (b : ℕ) → b < 2 * sign → (b ≡ b % sign) ⊎ (b ≡ sign + b % sign)
+halves b h = split (ltb b sign) (λ e. inl (small b (ltb-true b sign e))) (λ e. inr (large b h (ltb-false b sign e)))
+  where
+    small : (b : ℕ) → b < sign → b ≡ b % sign
+    small b l = omega arith
+
+    large : (b : ℕ) → b < 2 * sign → sign ≤ b → b ≡ sign + b % sign
+    large b h l = omega arith
+
+module _ (p q : ℕ) (P : p ≤ 9218868437227405312) (Q : q ≤ 9218868437227405312) where
+  -- by the places, and by the numbers
+  placed : (a b x y : ℕ) → place a ≡ x → place b ≡ y → totalLess a b ≡ ltb x y
+  unfolding totalLess
+  placed a b x y h k = ap (λ (z : ℕ). ltb z (place b)) h ∙ ap (λ (z : ℕ). ltb x z) k
+
+  two-clear : totalLess p q ≡ numbersLess (ofBits binary64 p) (ofBits binary64 q)
+  two-clear = total-less-clear p q (omega arith) (omega arith) ∙ sym (numbers-order p q P Q) ∙ sym (clear-clear (ofBits binary64 p) (ofBits binary64 q) (clear-bits p P))
+
+  two-set : totalLess (sign + p) (sign + q) ≡ numbersLess (ofBits binary64 (sign + p)) (ofBits binary64 (sign + q))
+  two-set =
+      placed (sign + p) (sign + q) (sign - 1 - p) (sign - 1 - q) (place-set (sign + p) (omega arith) ∙ omega arith) (place-set (sign + q) (omega arith) ∙ omega arith)
+      ∙ same-ltb (sign - 1 - p) (sign - 1 - q) q p (λ h. omega arith) (λ h. omega arith)
+      ∙ sym (numbers-order q p Q P)
+      ∙ sym (set-set (ofBits binary64 p) (ofBits binary64 q) (clear-bits p P) (clear-bits q Q))
+      ∙ sym (ap (λ (z : Float). numbersLess z (ofBits binary64 (sign + q))) (negated p (omega arith)) ∙ ap (λ (z : Float). numbersLess (neg (ofBits binary64 p)) z) (negated q (omega arith)))
+
+  set-then-clear : totalLess (sign + p) q ≡ numbersLess (ofBits binary64 (sign + p)) (ofBits binary64 q)
+  set-then-clear =
+      placed (sign + p) q (sign - 1 - p) (sign + q) (place-set (sign + p) (omega arith) ∙ omega arith) (place-clear q (omega arith))
+      ∙ lt-ltb (sign - 1 - p) (sign + q) (omega arith)
+      ∙ sym (set-clear (ofBits binary64 p) (ofBits binary64 q) (clear-bits p P) (clear-bits q Q))
+      ∙ sym (ap (λ (z : Float). numbersLess z (ofBits binary64 q)) (negated p (omega arith)))
+
+  clear-then-set : totalLess p (sign + q) ≡ numbersLess (ofBits binary64 p) (ofBits binary64 (sign + q))
+  clear-then-set =
+      placed p (sign + q) (sign + p) (sign - 1 - q) (place-clear p (omega arith)) (place-set (sign + q) (omega arith) ∙ omega arith)
+      ∙ le-ltb (sign + p) (sign - 1 - q) (omega arith)
+      ∙ sym (clear-set (ofBits binary64 p) (ofBits binary64 q) (clear-bits p P) (clear-bits q Q))
+      ∙ sym (ap (λ (z : Float). numbersLess (ofBits binary64 p) z) (negated q (omega arith)))
+
+pub total-less-numbers : (a b : ℕ) → a < 2 * sign → b < 2 * sign → nanBits binary64 a ≡ false → nanBits binary64 b ≡ false → totalLess a b ≡ numbersLess (ofBits binary64 a) (ofBits binary64 b)
+total-less-numbers a b A B na nb = go (halves a A) (halves b B)
+  where
+    Same : ℕ → ℕ → Type 0
+    Same x y = totalLess x y ≡ numbersLess (ofBits binary64 x) (ofBits binary64 y)
+
+    P : a % sign ≤ 9218868437227405312
+    P = magnitude-no-nan a na
+
+    Q : b % sign ≤ 9218868437227405312
+    Q = magnitude-no-nan b nb
+
+    at : (x y : ℕ) → a ≡ x → b ≡ y → Same x y → Same a b
+    at x y e f h = subst (λ (z : ℕ). Same a z) (sym f) (subst (λ (z : ℕ). Same z y) (sym e) h)
+
+    go : (a ≡ a % sign) ⊎ (a ≡ sign + a % sign) → (b ≡ b % sign) ⊎ (b ≡ sign + b % sign) → Same a b
+    go (inl e) (inl f) = at _ _ e f (two-clear (a % sign) (b % sign) P Q)
+    go (inl e) (inr f) = at _ _ e f (clear-then-set (a % sign) (b % sign) P Q)
+    go (inr e) (inl f) = at _ _ e f (set-then-clear (a % sign) (b % sign) P Q)
+    go (inr e) (inr f) = at _ _ e f (two-set (a % sign) (b % sign) P Q)

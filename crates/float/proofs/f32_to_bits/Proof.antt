@@ -1,0 +1,19 @@
+-- `float::f32_to_bits` meets its contract.
+use lib.Ieee.{binary32, toBits}
+use borrow.Author.Needs.{needs}
+use Rattle.float.proofs.Patterns.{nan-pattern, no-nan}
+use Rattle.float.proofs.f32_to_bits.Statement.{statement}
+use Rattle.float.proofs.f32_to_bits.Tie as tie
+
+float-to-bits-result : tie.Need-float-to-bits-result
+float-to-bits-result c = no-nan (c .before .args .x) (c .if1 .left)
+
+returns : tie.Need-returns
+unfolding toBits
+returns c = nan-pattern binary32 (c .before .args .x) (c .if1 .taken)
+
+returns-2 : tie.Need-returns-2
+returns-2 c = search needs
+
+pub f32-to-bits-spec : {M : Type 1} → statement M
+f32-to-bits-spec = tie.close (tie.spec float-to-bits-result returns returns-2)

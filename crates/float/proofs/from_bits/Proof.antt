@@ -1,0 +1,19 @@
+-- `float::from_bits` meets its contract.
+use lib.Ieee.{binary64, ofBits, div}
+use borrow.Author.Needs.{needs}
+use Rattle.float.proofs.Patterns.{nan-read, no-nan-read}
+use Rattle.float.proofs.from_bits.Statement.{statement}
+use Rattle.float.proofs.from_bits.Tie as tie
+
+float-from-bits-result : tie.Need-float-from-bits-result
+float-from-bits-result c = no-nan-read binary64 (c .before .args .b) (c .if1 .left)
+
+returns : tie.Need-returns
+unfolding ofBits div
+returns c = nan-read binary64 (c .before .args .b) (c .if1 .taken)
+
+returns-2 : tie.Need-returns-2
+returns-2 c = search needs
+
+pub from-bits-spec : {M : Type 1} → statement M
+from-bits-spec = tie.close (tie.spec float-from-bits-result returns returns-2)

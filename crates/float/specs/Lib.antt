@@ -1,0 +1,3 @@
+pub mod Integral
+pub mod Order
+pub mod Magnitude

@@ -1,0 +1,10 @@
+pub mod TestLaws
+pub mod WordLaws
+pub mod RecordLaws
+pub mod SpliceLaws
+pub mod OrderLaws
+pub mod SearchLaws
+pub mod PlaceLaws
+pub mod EditLaws
+pub mod LookupLaws
+pub mod TableLaws

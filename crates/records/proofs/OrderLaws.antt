@@ -1,0 +1,255 @@
+-- Laws of the order of records. Assumes nothing.
+use mathlib.Core.Path.{_≡_, refl, sym, ap, _∙_, subst}
+use mathlib.Core.Logic.{_⊎_, inl, inr, ⊎-elim}
+use mathlib.Core.Bool.{Bool, true, false, _&&_, or-false}
+use mathlib.Core.List.{List, [], _∷_}
+use Prim.Native.Nat.{ℕ, zero, suc, _+_, _-_, _≤_, _<_, zero-le, suc-le-suc}
+use native.Mathlib.Nat.{add-suc, le-of-suc-le-suc, not-suc-le-zero}
+use native.Mathlib.Numerals.{add-one}
+use native.Mathlib.Omega.{arith}
+use borrow.Author.Tests.{ltb-true, ltb-false, leb-true, lt-ltb, le-ltb, le-leb, lt-leb, eqb-true, eqb-false, eq-eqb, ne-eqb}
+use lib.Dec.{ltb, leb, eqb}
+use lib.ListN.{length, take, drop, getD}
+use lib.Seq.{drop-cons}
+use Rattle.records.specs.Records.{fits, key, keyed, before, same, leads, ascending}
+use Rattle.records.proofs.TestLaws.{contradiction, split, both, and-second}
+
+-- ---- words compared in turn
+module _ (x y : ℕ) (xs ys : List ℕ) where
+  pub before-less : x < y → before (x ∷ xs) (y ∷ ys) ≡ true
+  unfolding before
+  before-less h = rw (lt-ltb x y h)
+
+  pub before-equal : x ≡ y → before (x ∷ xs) (y ∷ ys) ≡ before xs ys
+  unfolding before
+  before-equal e = rw (le-ltb x y (omega arith), eq-eqb x y e)
+
+  pub before-differ : (x ≡ y → ⊥) → before (x ∷ xs) (y ∷ ys) ≡ ltb x y
+  unfolding before
+  before-differ h = rw (ne-eqb x y h, or-false)
+
+  pub before-more : y < x → before (x ∷ xs) (y ∷ ys) ≡ false
+  before-more h = before-differ (λ e. omega arith) ∙ le-ltb x y (omega arith)
+
+  pub before-cases : before (x ∷ xs) (y ∷ ys) ≡ true → (x < y) ⊎ ((x ≡ y) × (before xs ys ≡ true))
+  before-cases e = split (ltb x y)
+      (λ p. inl (ltb-true x y p))
+      (λ p. split (eqb x y)
+      (λ q. inr (eqb-true x y q, sym (before-equal (eqb-true x y q)) ∙ e))
+      (λ q. contradiction (sym e ∙ before-differ (eqb-false x y q) ∙ p)))
+
+  pub same-equal : x ≡ y → same (x ∷ xs) (y ∷ ys) ≡ same xs ys
+  unfolding same
+  same-equal e = rw (eq-eqb x y e)
+
+  pub same-differ : (x ≡ y → ⊥) → same (x ∷ xs) (y ∷ ys) ≡ false
+  unfolding same
+  same-differ h = rw (ne-eqb x y h)
+
+pub before-irrefl : (a : List ℕ) → before a a ≡ false
+unfolding before
+before-irrefl [] = refl
+before-irrefl (x ∷ xs) = before-equal x x xs xs refl ∙ before-irrefl xs
+
+pub before-trans : (a b c : List ℕ) → before a b ≡ true → before b c ≡ true → before a c ≡ true
+unfolding before
+before-trans [] [] c p q = q
+before-trans [] (y ∷ ys) [] p q = contradiction (sym q)
+before-trans [] (y ∷ ys) (z ∷ zs) p q = refl
+before-trans (x ∷ xs) [] c p q = contradiction (sym p)
+before-trans (x ∷ xs) (y ∷ ys) [] p q = contradiction (sym q)
+before-trans (x ∷ xs) (y ∷ ys) (z ∷ zs) p q =
+    ⊎-elim
+    (λ l. ⊎-elim (λ m. before-less x z xs zs (omega arith)) (λ m. before-less x z xs zs (omega arith)) (before-cases y z ys zs q))
+    (λ l. ⊎-elim (λ m. before-less x z xs zs (omega arith))
+    (λ m. before-equal x z xs zs (l .0 ∙ m .0) ∙ before-trans xs ys zs (l .1) (m .1))
+    (before-cases y z ys zs q))
+    (before-cases x y xs ys p)
+
+-- neither before the other: the same
+pub before-total : (a b : List ℕ) → before a b ≡ false → before b a ≡ false → a ≡ b
+unfolding before
+before-total [] [] p q = refl
+before-total [] (y ∷ ys) p q = contradiction p
+before-total (x ∷ xs) [] p q = contradiction q
+before-total (x ∷ xs) (y ∷ ys) p q =
+    split (ltb x y)
+    (λ l. contradiction (sym (before-less x y xs ys (ltb-true x y l)) ∙ p))
+    (λ l. split (ltb y x)
+    (λ m. contradiction (sym (before-less y x ys xs (ltb-true y x m)) ∙ q))
+    (λ m.
+    let e : x ≡ y = omega (arith, ltb-false x y l, ltb-false y x m) in
+    (λ k. e k ∷ before-total xs ys (sym (before-equal x y xs ys e) ∙ p) (sym (before-equal y x ys xs (sym e)) ∙ q) k)))
+
+pub before-asym : (a b : List ℕ) → before a b ≡ true → before b a ≡ false
+before-asym a b p = split (before b a) (λ q. contradiction (sym (before-trans a b a p q) ∙ before-irrefl a)) (λ q. q)
+
+-- before b, and b not above c: before c
+pub before-up : (a b c : List ℕ) → before a b ≡ true → before c b ≡ false → before a c ≡ true
+before-up a b c p q = split (before b c) (λ r. before-trans a b c p r) (λ r. subst (λ (z : List ℕ). before a z ≡ true) (before-total b c r q) p)
+
+-- a not above b, and b before c: before c
+pub before-down : (a b c : List ℕ) → before b a ≡ false → before b c ≡ true → before a c ≡ true
+before-down a b c p q = split (before a b) (λ r. before-trans a b c r q) (λ r. subst (λ (z : List ℕ). before z c ≡ true) (before-total b a p r) q)
+
+pub same-refl : (a : List ℕ) → same a a ≡ true
+unfolding same
+same-refl [] = refl
+same-refl (x ∷ xs) = same-equal x x xs xs refl ∙ same-refl xs
+
+pub same-eq : (a b : List ℕ) → same a b ≡ true → a ≡ b
+unfolding same
+same-eq [] [] p = refl
+same-eq [] (y ∷ ys) p = contradiction (sym p)
+same-eq (x ∷ xs) [] p = contradiction (sym p)
+same-eq (x ∷ xs) (y ∷ ys) p =
+    let q = both (eqb x y) (same xs ys) p in
+    (λ k. eqb-true x y (q .0) k ∷ same-eq xs ys (q .1) k)
+
+pub eq-same : (a b : List ℕ) → a ≡ b → same a b ≡ true
+eq-same a b e = ap (λ (z : List ℕ). same z b) e ∙ same-refl b
+
+pub ne-same : (a b : List ℕ) → (a ≡ b → ⊥) → same a b ≡ false
+ne-same a b h = split (same a b) (λ p. absurd (h (same-eq a b p))) (λ p. p)
+
+pub same-before : (a b : List ℕ) → before a b ≡ true → same a b ≡ false
+same-before a b p = ne-same a b (λ e. contradiction {A = ⊥} (sym p ∙ ap (λ (z : List ℕ). before z b) e ∙ before-irrefl b))
+
+pub same-after : (a b : List ℕ) → before b a ≡ true → same a b ≡ false
+same-after a b p = ne-same a b (λ e. contradiction {A = ⊥} (sym p ∙ ap (λ (z : List ℕ). before b z) e ∙ before-irrefl b))
+
+-- ---- records with keys
+pub record Keyed (len w d n : ℕ) : Type 0 where
+  pub some-words : 1 ≤ d
+  pub two-words : d ≤ 2
+  pub in-record : d ≤ w
+  pub fit : fits len w n ≡ true
+
+module _ (len w d n : ℕ) where
+  pub keyed-says : keyed len w d n ≡ true → Keyed len w d n
+  unfolding keyed
+  keyed-says e =
+      let a = both (leb 1 d) _ e in
+      let b = both (leb d 2) _ (a .1) in
+      let c = both (leb d w) _ (b .1) in
+      record { some-words = leb-true 1 d (a .0); two-words = leb-true d 2 (b .0); in-record = leb-true d w (c .0); fit = c .1 }
+
+  pub no-key : d ≡ 0 → keyed len w d n ≡ false
+  unfolding keyed
+  no-key h = rw (lt-leb 1 d (omega arith))
+
+  pub long-key : 2 < d → keyed len w d n ≡ false
+  unfolding keyed
+  long-key h = rw (le-leb 1 d (omega arith), lt-leb d 2 h)
+
+  pub wide-key : (d ≡ 0 → ⊥) → d ≤ 2 → w < d → keyed len w d n ≡ false
+  unfolding keyed
+  wide-key h k l = rw (le-leb 1 d (omega arith), le-leb d 2 k, lt-leb d w l)
+
+  pub keyed-is : (d ≡ 0 → ⊥) → d ≤ 2 → d ≤ w → fits len w n ≡ keyed len w d n
+  unfolding keyed
+  keyed-is h k l = rw (le-leb 1 d (omega arith), le-leb d 2 k, le-leb d w l)
+
+-- the words of the key of the record at index `at`
+pub key-first : (d : ℕ) (t : List ℕ) (at : ℕ) → at < length t → take (suc d) (drop at t) ≡ getD t at 0 ∷ take d (drop (suc at) t)
+key-first d t at h = ap (take (suc d)) (drop-cons t at 0 h)
+
+pub key-one : (t : List ℕ) (at : ℕ) → at + 1 ≤ length t → take 1 (drop at t) ≡ getD t at 0 ∷ []
+key-one t at h = key-first 0 t at (omega arith)
+
+pub key-two : (t : List ℕ) (at : ℕ) → at + 2 ≤ length t → take 2 (drop at t) ≡ getD t at 0 ∷ getD t (at + 1) 0 ∷ []
+key-two t at h =
+    key-first 1 t at (omega arith)
+    ∙ ap (λ (l : List ℕ). getD t at 0 ∷ l) (key-first 0 t (suc at) (omega arith) ∙ ap (λ (k : ℕ). getD t k 0 ∷ []) (sym (add-one at)))
+
+module _ (t : List ℕ) (at d a b : ℕ) (h : 1 ≤ d) (k : d ≤ 2) (l : at + d ≤ length t) where
+  one : d ≡ 1 → key d (drop at t) ≡ getD t at 0 ∷ []
+  one e = ap (λ (m : ℕ). take m (drop at t)) e ∙ key-one t at (omega arith)
+
+  two : (d ≡ 1 → ⊥) → d ≡ 2
+  two e = omega arith
+
+  pub second-one : (z : ℕ) → d ≡ 1 → key d (getD t at 0 ∷ z ∷ []) ≡ key d (drop at t)
+  second-one z e = ap (λ (m : ℕ). take m (getD t at 0 ∷ z ∷ [])) e ∙ sym (one e)
+
+  both-words : (d ≡ 1 → ⊥) → key d (drop at t) ≡ getD t at 0 ∷ getD t (at + 1) 0 ∷ []
+  both-words e = ap (λ (m : ℕ). take m (drop at t)) (two e) ∙ key-two t at (omega (arith, two e))
+
+  pub second-two : (d ≡ 1 → ⊥) → key d (getD t at 0 ∷ getD t (at + 1) 0 ∷ []) ≡ key d (drop at t)
+  second-two e = ap (λ (m : ℕ). take m (getD t at 0 ∷ getD t (at + 1) 0 ∷ [])) (two e) ∙ sym (both-words e)
+
+  -- the tests, word by word
+  module _ (f : List ℕ → List ℕ → Bool) where
+    pub test-one : d ≡ 1 → f (key d (drop at t)) (key d (a ∷ b ∷ [])) ≡ f (getD t at 0 ∷ []) (a ∷ [])
+    test-one e = (λ j. f (one e j) (take (e j) (a ∷ b ∷ [])))
+
+    pub test-two : (d ≡ 1 → ⊥) → f (key d (drop at t)) (key d (a ∷ b ∷ [])) ≡ f (getD t at 0 ∷ getD t (at + 1) 0 ∷ []) (a ∷ b ∷ [])
+    test-two e = (λ j. f (both-words e j) (take (two e j) (a ∷ b ∷ [])))
+
+    pub test-first : (c : Bool) → ((xs ys : List ℕ) → f (getD t at 0 ∷ xs) (a ∷ ys) ≡ c) → f (key d (drop at t)) (key d (a ∷ b ∷ [])) ≡ c
+    test-first c q = split (eqb d 1) (λ e. test-one (eqb-true d 1 e) ∙ q [] []) (λ e. test-two (eqb-false d 1 e) ∙ q (getD t (at + 1) 0 ∷ []) (b ∷ []))
+
+  pub below-differ : (getD t at 0 ≡ a → ⊥) → before (key d (drop at t)) (key d (a ∷ b ∷ [])) ≡ ltb (getD t at 0) a
+  below-differ e = test-first before (ltb (getD t at 0) a) (λ xs ys. before-differ (getD t at 0) a xs ys e)
+
+  pub below-one : getD t at 0 ≡ a → d ≡ 1 → before (key d (drop at t)) (key d (a ∷ b ∷ [])) ≡ false
+  below-one e q = test-one before q ∙ before-equal (getD t at 0) a [] [] e ∙ before-irrefl []
+
+  pub below-two : getD t at 0 ≡ a → (d ≡ 1 → ⊥) → before (key d (drop at t)) (key d (a ∷ b ∷ [])) ≡ ltb (getD t (at + 1) 0) b
+  below-two e q = test-two before q ∙ before-equal (getD t at 0) a (getD t (at + 1) 0 ∷ []) (b ∷ []) e ∙ last-word (getD t (at + 1) 0) b
+    where
+      last-word : (x y : ℕ) → before (x ∷ []) (y ∷ []) ≡ ltb x y
+      last-word x y = split (eqb x y)
+          (λ p. before-equal x y [] [] (eqb-true x y p) ∙ before-irrefl [] ∙ sym (le-ltb x y (omega (arith, eqb-true x y p))))
+          (λ p. before-differ x y [] [] (eqb-false x y p))
+
+  pub has-differ : (getD t at 0 ≡ a → ⊥) → same (key d (drop at t)) (key d (a ∷ b ∷ [])) ≡ false
+  has-differ e = test-first same false (λ xs ys. same-differ (getD t at 0) a xs ys e)
+
+  pub has-one : getD t at 0 ≡ a → d ≡ 1 → same (key d (drop at t)) (key d (a ∷ b ∷ [])) ≡ true
+  has-one e q = test-one same q ∙ same-equal (getD t at 0) a [] [] e ∙ same-refl []
+
+  pub has-two : getD t at 0 ≡ a → (d ≡ 1 → ⊥) → same (key d (drop at t)) (key d (a ∷ b ∷ [])) ≡ eqb (getD t (at + 1) 0) b
+  has-two e q = test-two same q ∙ same-equal (getD t at 0) a (getD t (at + 1) 0 ∷ []) (b ∷ []) e ∙ last-word (getD t (at + 1) 0) b
+    where
+      last-word : (x y : ℕ) → same (x ∷ []) (y ∷ []) ≡ eqb x y
+      last-word x y = split (eqb x y)
+          (λ p. same-equal x y [] [] (eqb-true x y p) ∙ same-refl [] ∙ sym p)
+          (λ p. same-differ x y [] [] (eqb-false x y p) ∙ sym p)
+
+-- ---- ascending records
+abbrev pub keyAt : ℕ → List (List ℕ) → ℕ → List ℕ
+keyAt d rs i = key d (getD rs i [])
+
+pub asc-next : (d : ℕ) (rs : List (List ℕ)) → ascending d rs ≡ true → (i : ℕ) → suc i < length rs → before (keyAt d rs i) (keyAt d rs (suc i)) ≡ true
+unfolding ascending leads
+asc-next d [] e i h = absurd (not-suc-le-zero h)
+asc-next d (r ∷ []) e i h = absurd (not-suc-le-zero (le-of-suc-le-suc h))
+asc-next d (r ∷ s ∷ rs) e zero h = both (before (key d r) (key d s)) (ascending d (s ∷ rs)) e .0
+asc-next d (r ∷ s ∷ rs) e (suc i) h = asc-next d (s ∷ rs) (both (before (key d r) (key d s)) (ascending d (s ∷ rs)) e .1) i (le-of-suc-le-suc h)
+
+asc-add : (d : ℕ) (rs : List (List ℕ)) → ascending d rs ≡ true → (i k : ℕ) → i + suc k < length rs → before (keyAt d rs i) (keyAt d rs (i + suc k)) ≡ true
+asc-add d rs a i zero h =
+    subst (λ (n : ℕ). before (keyAt d rs i) (keyAt d rs n) ≡ true) (sym (add-one i)) (asc-next d rs a i (omega arith))
+asc-add d rs a i (suc k) h =
+    subst (λ (n : ℕ). before (keyAt d rs i) (keyAt d rs n) ≡ true) (sym (add-suc i (suc k)))
+    (before-trans (keyAt d rs i) (keyAt d rs (i + suc k)) (keyAt d rs (suc (i + suc k))) (asc-add d rs a i k (omega arith)) (asc-next d rs a (i + suc k) (omega arith)))
+
+-- an earlier key is before a later one
+pub asc-lt : (d : ℕ) (rs : List (List ℕ)) → ascending d rs ≡ true → (i j : ℕ) → i < j → j < length rs → before (keyAt d rs i) (keyAt d rs j) ≡ true
+asc-lt d rs a i j h l =
+    let e : i + suc (j - suc i) ≡ j = omega arith in
+    subst (λ (n : ℕ). before (keyAt d rs i) (keyAt d rs n) ≡ true) e (asc-add d rs a i (j - suc i) (omega arith))
+
+pub asc-intro : (d : ℕ) (rs : List (List ℕ)) → ((i : ℕ) → suc i < length rs → before (keyAt d rs i) (keyAt d rs (suc i)) ≡ true) → ascending d rs ≡ true
+unfolding ascending leads
+asc-intro d [] h = refl
+asc-intro d (r ∷ []) h = refl
+asc-intro d (r ∷ s ∷ rs) h = ap (λ (b : Bool). b && ascending d (s ∷ rs)) (h 0 (suc-le-suc (suc-le-suc zero-le))) ∙ asc-intro d (s ∷ rs) (λ i l. h (suc i) (suc-le-suc l))
+
+pub asc-fail : (d : ℕ) (rs : List (List ℕ)) (i : ℕ) → suc i < length rs → before (keyAt d rs i) (keyAt d rs (suc i)) ≡ false → ascending d rs ≡ false
+unfolding ascending leads
+asc-fail d [] i h l = absurd (not-suc-le-zero h)
+asc-fail d (r ∷ []) i h l = absurd (not-suc-le-zero (le-of-suc-le-suc h))
+asc-fail d (r ∷ s ∷ rs) zero h l = ap (λ (b : Bool). b && ascending d (s ∷ rs)) l
+asc-fail d (r ∷ s ∷ rs) (suc i) h l = and-second (before (key d r) (key d s)) (ascending d (s ∷ rs)) (asc-fail d (s ∷ rs) i (le-of-suc-le-suc h) l)

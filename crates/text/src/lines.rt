@@ -1,0 +1,186 @@
+// Lines of standard input, however many, through a buffer that the caller lends.
+use libc::STDIN_FILENO;
+ghost use mathlib.Core.Path.{_≡_};
+ghost use mathlib.Core.Bool.{false};
+ghost use Prim.Native.Nat.{_≤_};
+ghost use lib.ListN.{length};
+ghost use Rattle.text.specs.Input.{Within};
+
+// Bytes from..to of the buffer are read and not yet handed out.
+pub struct Lines {
+    pub from: usize,
+    pub to: usize,
+}
+
+// What came: a line, one that did not fit the buffer and was passed over, or the end of the input.
+pub enum Kind {
+    Whole,
+    TooLong,
+    End,
+}
+
+// A line is bytes start..end of the buffer, without its line feed.
+pub struct Line {
+    pub start: usize,
+    pub end: usize,
+    pub kind: Kind,
+    pub rest: Lines,
+}
+
+// The index of the first line feed from `from` on, or `to` where there is none before it.
+fn line_end(buf: &[u8], from: usize, to: usize) -> usize
+    requires { ⌜ (from ≤ to) × (to ≤ length (now buf)) ⌝ }
+    ensures { λ r. ⌜ (from ≤ r) × (r ≤ to) ⌝ }
+{
+    from + crate::index_of(&buf[from..to], b'\n')
+}
+
+// Moves bytes from..to to the front.
+fn to_front(buf: &mut [u8], from: usize, to: usize)
+    requires { ⌜ (from ≤ to) × (to ≤ length (now buf)) ⌝ }
+{
+    let mut i = from;
+    while i < to {
+        buf[i - from] = buf[i];
+        i += 1;
+    }
+}
+
+// Reads once into the buffer from `to` on, and answers where the bytes end then.
+fn read_more(buf: &mut [u8], to: usize) -> usize
+    requires { ⌜ to ≤ length (now buf) ⌝ }
+    ensures { λ r. ⌜ (to ≤ r) × (r ≤ length (now (buf .entry))) ⌝ }
+{
+    let part = &mut buf[to..];
+    let got = libc::read(STDIN_FILENO, part);
+    to + io::count(got, part)
+}
+
+// What is in hand while a line is looked for: bytes from..to, and whether the line's first bytes
+// were given up for want of room.
+struct Window {
+    from: usize,
+    to: usize,
+    given_up: bool,
+}
+
+// Makes room behind what is in hand: it goes to the front, or is given up where it fills the buffer.
+fn make_room(buf: &mut [u8], w: Window) -> Window
+    requires { ⌜ (w .from ≤ w .to) × (w .to ≤ length (now buf)) ⌝ }
+    ensures { λ r. ⌜ (r .from ≡ 0) × (r .to ≤ length (now (buf .entry))) ⌝ }
+{
+    let from = w.from;
+    let to = w.to;
+    if from == 0 {
+        if to == buf.len() {
+            return Window {
+                from: 0,
+                to: 0,
+                given_up: true,
+            };
+        }
+        return w;
+    }
+    to_front(buf, from, to);
+    Window {
+        from: 0,
+        to: to - from,
+        given_up: w.given_up,
+    }
+}
+
+// The line start..end, with what follows it.
+fn line_of(start: usize, end: usize, given_up: bool, from: usize, to: usize) -> Line
+    ensures { λ r. ⌜ (r .start ≡ start) × (r .end ≡ end) ⌝ }
+{
+    let rest = Lines { from, to };
+    if given_up {
+        Line {
+            start,
+            end,
+            kind: Kind::TooLong,
+            rest,
+        }
+    } else {
+        Line {
+            start,
+            end,
+            kind: Kind::Whole,
+            rest,
+        }
+    }
+}
+
+// What is left where the input ends: a last line without its line feed, or nothing.
+fn last_line(w: Window) -> Line
+    ensures { λ r. ⌜ (r .start ≡ 0) × (r .end ≤ w .to) ⌝ }
+{
+    if w.to == 0 && !w.given_up {
+        Line {
+            start: 0,
+            end: 0,
+            kind: Kind::End,
+            rest: Lines { from: 0, to: 0 },
+        }
+    } else {
+        line_of(0, w.to, w.given_up, 0, 0)
+    }
+}
+
+// What stands in the buffer before the first line is read.
+pub fn start() -> Lines
+    ensures { λ r. ⌜ (r .from ≡ 0) × (r .to ≡ 0) ⌝ }
+{
+    Lines { from: 0, to: 0 }
+}
+
+// The bytes in hand, within the buffer whatever the numbers say.
+fn in_hand(s: Lines, len: usize) -> Window
+    ensures { λ r. ⌜ (r .from ≤ r .to) × (r .to ≤ len) ⌝ }
+{
+    let from = s.from;
+    let to = s.to;
+    if from <= to && to <= len {
+        Window {
+            from,
+            to,
+            given_up: false,
+        }
+    } else {
+        Window {
+            from: 0,
+            to: 0,
+            given_up: false,
+        }
+    }
+}
+
+// The next line, read as far as need be. The loop counts its turns down from a number that no run
+// uses up.
+pub fn next_line(buf: &mut [u8], s: Lines) -> Line
+    ensures { λ r. ⌜ Within r (now (buf .exit)) ⌝ }
+{
+    let mut w = in_hand(s, buf.len());
+    let mut turns = u64::MAX;
+    while 0 < turns {
+        let from = w.from;
+        let to = w.to;
+        let e = line_end(buf, from, to);
+        if e < to {
+            return line_of(from, e, w.given_up, e + 1, to);
+        }
+        w = make_room(buf, w);
+        let more = read_more(buf, w.to);
+        if more == w.to {
+            return last_line(w);
+        }
+        w.to = more;
+        turns -= 1;
+    }
+    Line {
+        start: 0,
+        end: 0,
+        kind: Kind::End,
+        rest: Lines { from: 0, to: 0 },
+    }
+}

@@ -1,0 +1,50 @@
+//! Scripts made from a seed: the same layer, seed and count give the same script.
+
+mod demand;
+mod helpers;
+mod hot_set;
+mod mangle;
+mod meter;
+mod peers;
+mod rng;
+mod values;
+
+use std::io::{self, Write};
+
+use rng::Rng;
+
+/// Makes the calls of one layer, one after the other.
+trait Source {
+    fn next(&mut self, rng: &mut Rng) -> String;
+}
+
+fn source(layer: &str) -> Option<Box<dyn Source>> {
+    Some(match layer {
+        "helpers" => Box::new(helpers::Helpers),
+        "meter" => Box::<meter::Meter>::default(),
+        "demand" => Box::new(demand::Estimators),
+        "hotset" => Box::<hot_set::HotSets>::default(),
+        "peers" => Box::<peers::Peers>::default(),
+        _ => return None,
+    })
+}
+
+/// Writes `count` calls. Here and there an empty line, a comment, or a spoiled copy of the call goes before one.
+pub fn write(layer: &str, seed: u64, count: u64, out: &mut impl Write) -> io::Result<()> {
+    let mut source = source(layer).ok_or_else(|| io::Error::other("no such layer"))?;
+    let mut rng = Rng::new(seed, layer);
+    writeln!(out, "# {layer}, seed {seed}: {count} calls")?;
+    for _ in 0..count {
+        match rng.below(500) {
+            0 => writeln!(out)?,
+            1 => writeln!(out, "# passed over")?,
+            _ => {}
+        }
+        let call = source.next(&mut rng);
+        if rng.chance(2) {
+            writeln!(out, "{}", mangle::spoiled(&call, &mut rng))?;
+        }
+        writeln!(out, "{call}")?;
+    }
+    Ok(())
+}

@@ -1,0 +1,61 @@
+//! A script: its lines, the state that its calls share, and the table of calls.
+
+use std::collections::HashMap;
+use std::io::{self, Write};
+
+use rateguard_core::hot_set::HotSet;
+use rateguard_core::peer_demand::PeerDemand;
+
+use crate::fields::Fields;
+use crate::{demand, helpers, hot_set, meter, peers};
+
+/// The longest line that can be a call.
+const LONGEST_LINE: usize = 3 << 20;
+
+/// What calls leave for later ones; `None` before the call that makes it.
+#[derive(Default)]
+pub struct State {
+    pub hot_set: Option<HotSet>,
+    pub peers: Option<PeerDemand>,
+}
+
+/// A call reads its fields and answers; `None` says that the line is no call, and then nothing has changed.
+pub type Call = fn(&mut State, &mut Fields) -> Option<String>;
+
+/// The calls of each layer, by name.
+const LAYERS: &[&[(&str, Call)]] = &[helpers::CALLS, meter::CALLS, demand::CALLS, hot_set::CALLS, peers::CALLS];
+
+/// What a call answers on a state that nothing has made yet.
+pub fn no_state() -> Option<String> {
+    Some("nostate".into())
+}
+
+/// The lines of a script that get an answer.
+pub fn calls(script: &[u8]) -> impl Iterator<Item = &[u8]> {
+    script.split(|&byte| byte == b'\n').filter(|line| !line.is_empty() && line[0] != b'#')
+}
+
+pub fn answer_all(script: &[u8], out: &mut impl Write) -> io::Result<()> {
+    let table = table();
+    let mut state = State::default();
+    for line in calls(script) {
+        let answer = answer(&table, &mut state, line);
+        out.write_all(answer.as_deref().unwrap_or("?").as_bytes())?;
+        out.write_all(b"\n")?;
+    }
+    Ok(())
+}
+
+fn table() -> HashMap<&'static [u8], Call> {
+    let all = LAYERS.iter().flat_map(|layer| layer.iter());
+    all.map(|&(name, call)| (name.as_bytes(), call)).collect()
+}
+
+fn answer(table: &HashMap<&[u8], Call>, state: &mut State, line: &[u8]) -> Option<String> {
+    if line.len() > LONGEST_LINE {
+        return None;
+    }
+    let mut fields = Fields::of(line);
+    let call = table.get(fields.word()?)?;
+    call(state, &mut fields)
+}
