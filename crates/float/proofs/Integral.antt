@@ -69,6 +69,10 @@ Middle nan s = ⊥
 Middle (inf t) s = ⊥
 Middle (fin t m e) s = (t ≡ s) × (m * up e < 4503599627370496 * down e)
 
+-- no float with a clear sign is below zero
+lt-zero : (n : ℕ) (d : ℤ) → ltb (n * up d * 1) (0 * down d) ≡ true → ⊥
+lt-zero n d g = let a = ltb-true (n * up d * 1) (0 * down d) g in omega arith
+
 pub middle-pos : (x : Float) → lt (fin false 0 (pos 0)) x ≡ true → lt x (fin false 1 (pos 52)) ≡ true → Middle x false
 unfolding lt
 middle-pos nan h k = false≢true h
@@ -84,9 +88,6 @@ middle-neg (inf true) h k = false≢true k
 middle-neg (inf false) h k = false≢true h
 middle-neg (fin true m e) h k = (refl, omega (arith, ltb-true (m * up e * 1) (4503599627370496 * down e) k))
 middle-neg (fin false m e) h k = absurd (lt-zero m e h)
-  where
-    lt-zero : (n : ℕ) (d : ℤ) → ltb (n * up d * 1) (0 * down d) ≡ true → ⊥
-    lt-zero n d g = let a = ltb-true (n * up d * 1) (0 * down d) g in omega arith
 
 -- x is a NaN, an infinity, a zero or 2 ^ 52 or more in size: it is its own `ceil` and its own `roundAway`
 abbrev Own : Float → Type 0
@@ -119,9 +120,6 @@ own-below nan F h k = own-nan
 own-below (inf s) F h k = own-inf s
 own-below (fin true m e) F h k = own-large true m e F (omega (arith, ltb-false (m * up e * 1) (4503599627370496 * down e) k))
 own-below (fin false m e) F h k = absurd (lt-zero m e h)
-  where
-    lt-zero : (n : ℕ) (d : ℤ) → ltb (n * up d * 1) (0 * down d) ≡ true → ⊥
-    lt-zero n d g = let a = ltb-true (n * up d * 1) (0 * down d) g in omega arith
 
 pub own-neither : (x : Float) → T (fits binary64 x) → lt (fin false 0 (pos 0)) x ≡ false → lt x (fin false 0 (pos 0)) ≡ false → Own x
 unfolding lt

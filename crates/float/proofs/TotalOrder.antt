@@ -5,6 +5,7 @@ use Prim.Native.Nat.{ℕ, zero, suc, _+_, _-_, _*_, _/_, _%_, _^_, _≤_, _<_}
 use native.Mathlib.Nat.{eq-or-lt-of-le, mul-assoc, mul-one, mul-comm, mul-right-comm, mul-pos, pow-succ', le-trans, le-of-eq, le-of-lt, lt-of-lt-of-le, mul-le-mul-left, mul-le-mul-right, mul-lt-mul-of-pos-right, lt-of-mul-lt-mul-right, le-of-mul-le-mul-right}
 use native.Mathlib.Omega.{arith}
 use mathlib.Core.Bool.{Bool, true, false, not, _&&_, _||_, cond, true≢false}
+use lib.IntN.{ℤ}
 use lib.Pow.{pow-pos, pow-mono}
 use lib.Dec.{leb, ltb, eqb}
 use lib.Ieee.{Float, nan, inf, fin, binary64, up, down, odd, ofFields, ofBits, nanBits, neg, lt, eq}
@@ -168,22 +169,19 @@ negated p h =
 
 -- ---- the four pairs of signs
 -- a number with a clear sign
-abbrev Clear : Float → Type 0
-Clear nan = ⊥
-Clear (inf s) = s ≡ false
-Clear (fin s m e) = s ≡ false
-
-clear-infinity : Clear (inf false)
-clear-infinity = refl
+data Clear : Float → Type 0 where
+  infinite : Clear (inf false)
+  whole : (m : ℕ) (e : ℤ) → Clear (fin false m e)
 
 value-clear : (x : Float) (a c : ℕ) → HasValue x false a c → Clear x
-value-clear nan a c v = v
+value-clear nan a c v = absurd v
 value-clear (inf s) a c v = absurd v
-value-clear (fin s m e) a c v = v .0
+value-clear (fin true m e) a c v = absurd (true≢false (v .0))
+value-clear (fin false m e) a c v = whole m e
 
 clear-bits : (p : ℕ) → p ≤ 9218868437227405312 → Clear (ofBits binary64 p)
 clear-bits p P = elim (eq-or-lt-of-le P) [
-  | inl i ↦ subst Clear (sym (ap (ofBits binary64) i ∙ infinity-is)) clear-infinity
+  | inl i ↦ subst Clear (sym (ap (ofBits binary64) i ∙ infinity-is)) infinite
   | inr h ↦ value-clear (ofBits binary64 p) _ _ (bits-val p h)
 ]
 
@@ -196,63 +194,36 @@ drop-equal true e = refl
 drop-equal false true = refl
 drop-equal false false = refl
 
-clear-clear : (x y : Float) → Clear x → numbersLess x y ≡ lt x y
-clear-clear nan y c = absurd c
-clear-clear (inf true) y c = absurd (true≢false c)
-clear-clear (inf false) y c = drop-equal (lt (inf false) y) (eq (inf false) y)
-clear-clear (fin true m e) y c = absurd (true≢false c)
-clear-clear (fin false m e) y c = drop-equal (lt (fin false m e) y) (eq (fin false m e) y)
+clear-clear : {x : Float} (y : Float) → Clear x → numbersLess x y ≡ lt x y
+clear-clear y infinite = drop-equal (lt (inf false) y) (eq (inf false) y)
+clear-clear y (whole m e) = drop-equal (lt (fin false m e) y) (eq (fin false m e) y)
 
-set-set : (x y : Float) → Clear x → Clear y → numbersLess (neg x) (neg y) ≡ lt y x
+set-set : {x y : Float} → Clear x → Clear y → numbersLess (neg x) (neg y) ≡ lt y x
 unfolding neg lt eq
-set-set nan y c d = absurd c
-set-set (inf true) y c d = absurd (true≢false c)
-set-set (fin true m e) y c d = absurd (true≢false c)
-set-set (inf false) nan c d = absurd d
-set-set (inf false) (inf true) c d = absurd (true≢false d)
-set-set (inf false) (inf false) c d = refl
-set-set (inf false) (fin true n k) c d = absurd (true≢false d)
-set-set (inf false) (fin false n k) c d = refl
-set-set (fin false m e) nan c d = absurd d
-set-set (fin false m e) (inf true) c d = absurd (true≢false d)
-set-set (fin false m e) (inf false) c d = refl
-set-set (fin false m e) (fin true n k) c d = absurd (true≢false d)
-set-set (fin false m e) (fin false n k) c d = drop-equal (ltb (n * up k * down e) (m * up e * down k)) (eq (fin true m e) (fin true n k))
+set-set infinite infinite = refl
+set-set infinite (whole n k) = refl
+set-set (whole m e) infinite = refl
+set-set (whole m e) (whole n k) = drop-equal (ltb (n * up k * down e) (m * up e * down k)) (eq (fin true m e) (fin true n k))
 
 -- a clear sign is never below a set one
-clear-set : (x y : Float) → Clear x → Clear y → numbersLess x (neg y) ≡ false
+clear-set : {x y : Float} → Clear x → Clear y → numbersLess x (neg y) ≡ false
 unfolding neg lt eq
-clear-set nan y c d = absurd c
-clear-set (inf true) y c d = absurd (true≢false c)
-clear-set (fin true m e) y c d = absurd (true≢false c)
-clear-set (inf false) nan c d = absurd d
-clear-set (inf false) (inf true) c d = absurd (true≢false d)
-clear-set (inf false) (inf false) c d = refl
-clear-set (inf false) (fin s n k) c d = refl
-clear-set (fin false m e) nan c d = absurd d
-clear-set (fin false m e) (inf true) c d = absurd (true≢false d)
-clear-set (fin false m e) (inf false) c d = refl
-clear-set (fin false m e) (fin true n k) c d = absurd (true≢false d)
-clear-set (fin false m e) (fin false n k) c d = drop-equal false (eq (fin false m e) (fin true n k))
+clear-set infinite infinite = refl
+clear-set infinite (whole n k) = refl
+clear-set (whole m e) infinite = refl
+clear-set (whole m e) (whole n k) = drop-equal false (eq (fin false m e) (fin true n k))
 
 -- a set sign is below a clear one, the zeros included
-set-clear : (x y : Float) → Clear x → Clear y → numbersLess (neg x) y ≡ true
+set-clear : {x y : Float} → Clear x → Clear y → numbersLess (neg x) y ≡ true
 unfolding neg lt eq
-set-clear nan y c d = absurd c
-set-clear (inf true) y c d = absurd (true≢false c)
-set-clear (fin true m e) y c d = absurd (true≢false c)
-set-clear (inf false) nan c d = absurd d
-set-clear (inf false) (inf true) c d = absurd (true≢false d)
-set-clear (inf false) (inf false) c d = refl
-set-clear (inf false) (fin s n k) c d = refl
-set-clear (fin false m e) nan c d = absurd d
-set-clear (fin false m e) (inf true) c d = absurd (true≢false d)
-set-clear (fin false m e) (inf false) c d = refl
-set-clear (fin false m e) (fin true n k) c d = absurd (true≢false d)
-set-clear (fin false m e) (fin false n k) c d = zeros (m * up e * down k) (n * up k * down e)
+set-clear infinite infinite = refl
+set-clear infinite (whole n k) = refl
+set-clear (whole m e) infinite = refl
+set-clear (whole m e) (whole n k) = zeros (m * up e * down k) (n * up k * down e)
   where
     zeros : (a b : ℕ) → (ltb 0 (a + b) || ((eqb a b && eqb a 0) && true)) ≡ true
-    zeros a b = split (ltb 0 (a + b))
+    zeros a b =
+        split (ltb 0 (a + b))
         (λ h. ap (λ (t : Bool). t || ((eqb a b && eqb a 0) && true)) h)
         (λ h.
         let l = ltb-false 0 (a + b) h in
@@ -281,28 +252,28 @@ module _ (p q : ℕ) (P : p ≤ 9218868437227405312) (Q : q ≤ 9218868437227405
   placed a b x y h k = ap (λ (z : ℕ). ltb z (place b)) h ∙ ap (λ (z : ℕ). ltb x z) k
 
   two-clear : totalLess p q ≡ numbersLess (ofBits binary64 p) (ofBits binary64 q)
-  two-clear = total-less-clear p q (omega arith) (omega arith) ∙ sym (numbers-order p q P Q) ∙ sym (clear-clear (ofBits binary64 p) (ofBits binary64 q) (clear-bits p P))
+  two-clear = total-less-clear p q (omega arith) (omega arith) ∙ sym (numbers-order p q P Q) ∙ sym (clear-clear (ofBits binary64 q) (clear-bits p P))
 
   two-set : totalLess (sign + p) (sign + q) ≡ numbersLess (ofBits binary64 (sign + p)) (ofBits binary64 (sign + q))
   two-set =
       placed (sign + p) (sign + q) (sign - 1 - p) (sign - 1 - q) (place-set (sign + p) (omega arith) ∙ omega arith) (place-set (sign + q) (omega arith) ∙ omega arith)
       ∙ same-ltb (sign - 1 - p) (sign - 1 - q) q p (λ h. omega arith) (λ h. omega arith)
       ∙ sym (numbers-order q p Q P)
-      ∙ sym (set-set (ofBits binary64 p) (ofBits binary64 q) (clear-bits p P) (clear-bits q Q))
+      ∙ sym (set-set (clear-bits p P) (clear-bits q Q))
       ∙ sym (ap (λ (z : Float). numbersLess z (ofBits binary64 (sign + q))) (negated p (omega arith)) ∙ ap (λ (z : Float). numbersLess (neg (ofBits binary64 p)) z) (negated q (omega arith)))
 
   set-then-clear : totalLess (sign + p) q ≡ numbersLess (ofBits binary64 (sign + p)) (ofBits binary64 q)
   set-then-clear =
       placed (sign + p) q (sign - 1 - p) (sign + q) (place-set (sign + p) (omega arith) ∙ omega arith) (place-clear q (omega arith))
       ∙ lt-ltb (sign - 1 - p) (sign + q) (omega arith)
-      ∙ sym (set-clear (ofBits binary64 p) (ofBits binary64 q) (clear-bits p P) (clear-bits q Q))
+      ∙ sym (set-clear (clear-bits p P) (clear-bits q Q))
       ∙ sym (ap (λ (z : Float). numbersLess z (ofBits binary64 q)) (negated p (omega arith)))
 
   clear-then-set : totalLess p (sign + q) ≡ numbersLess (ofBits binary64 p) (ofBits binary64 (sign + q))
   clear-then-set =
       placed p (sign + q) (sign + p) (sign - 1 - q) (place-clear p (omega arith)) (place-set (sign + q) (omega arith) ∙ omega arith)
       ∙ le-ltb (sign + p) (sign - 1 - q) (omega arith)
-      ∙ sym (clear-set (ofBits binary64 p) (ofBits binary64 q) (clear-bits p P) (clear-bits q Q))
+      ∙ sym (clear-set (clear-bits p P) (clear-bits q Q))
       ∙ sym (ap (λ (z : Float). numbersLess (ofBits binary64 p) z) (negated q (omega arith)))
 
 pub total-less-numbers : (a b : ℕ) → a < 2 * sign → b < 2 * sign → nanBits binary64 a ≡ false → nanBits binary64 b ≡ false → totalLess a b ≡ numbersLess (ofBits binary64 a) (ofBits binary64 b)

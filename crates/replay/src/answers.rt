@@ -19,3 +19,12 @@ pub(crate) fn float64(out: &mut [u8], at: usize, x: f64) -> usize {
         text::put_hex(out, at, float::to_bits(x), 16)
     }
 }
+
+// Yes or no.
+pub(crate) fn flag(out: &mut [u8], at: usize, yes: bool) -> usize {
+    if yes {
+        text::put(out, at, b"1")
+    } else {
+        text::put(out, at, b"0")
+    }
+}

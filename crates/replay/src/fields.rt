@@ -3,11 +3,13 @@ ghost use Prim.Native.Nat.{_≤_};
 ghost use lib.ListN.{length};
 
 // A place among the fields. The next field starts at `at`, past the line's end where none is left;
-// `good`: each field so far was of the kind wanted; `value`: what the last one holds.
+// `good`: each field so far was of the kind wanted; `value`: what the last one holds, and `none`:
+// that it was the word for a missing value.
 pub(crate) struct Fields {
     pub(crate) at: usize,
     pub(crate) good: bool,
     pub(crate) value: u64,
+    pub(crate) none: bool,
 }
 
 // A field is bytes start..end of the line.
@@ -62,22 +64,20 @@ fn next_field(line: &[u8], f: Fields) -> Field
 // Past a field that holds a number, if it does and that is no more than `most`.
 fn past(end: usize, good: bool, n: text::Number, most: u64) -> Fields {
     match n {
-        text::Number::Value(value) => Fields {
-            at: after_space(end),
-            good: good && value <= most,
-            value,
-        },
-        text::Number::Unfit => Fields {
-            at: after_space(end),
-            good: false,
-            value: 0,
-        },
+        text::Number::Value(value) => place(end, good && value <= most, value, false),
+        text::Number::Unfit => place(end, false, 0, false),
     }
 }
 
-// Where the field after one that ends there starts.
-fn after_space(end: usize) -> usize {
-    if end < usize::MAX { end + 1 } else { end }
+// The place behind a field that ends there.
+fn place(end: usize, good: bool, value: u64, none: bool) -> Fields {
+    let at = if end < usize::MAX { end + 1 } else { end };
+    Fields {
+        at,
+        good,
+        value,
+        none,
+    }
 }
 
 // Whether the line's first field is this name.
@@ -88,11 +88,7 @@ pub(crate) fn is_call(line: &[u8], name: &[u8]) -> bool {
 
 // The place after a name.
 pub(crate) fn after(name: &[u8]) -> Fields {
-    Fields {
-        at: after_space(name.len()),
-        good: true,
-        value: 0,
-    }
+    place(name.len(), true, 0, false)
 }
 
 // Whether every field was good and none is left.
@@ -116,4 +112,15 @@ pub(crate) fn bits(line: &[u8], f: Fields, digits: usize) -> Fields {
     let end = field.end;
     let n = text::hex(&line[start..end], digits);
     past(end, field.good, n, u64::MAX)
+}
+
+// A whole number up to `most`, or `none`.
+pub(crate) fn optional(line: &[u8], f: Fields, most: u64) -> Fields {
+    let field = next_field(line, f);
+    let start = field.start;
+    let end = field.end;
+    if same(&line[start..end], b"none") {
+        return place(end, field.good, 0, true);
+    }
+    whole(line, f, most)
 }

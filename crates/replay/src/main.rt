@@ -3,15 +3,22 @@
 mod answers;
 mod fields;
 mod helpers;
-
-use libc::STDOUT_FILENO;
+mod meter;
 
 // Room that the answer to a line may take.
 const ANSWER: usize = 8192;
 
 // Answers the calls of each layer in turn; `at` where the line is none of them.
 fn call(line: &[u8], out: &mut [u8], at: usize) -> usize {
-    helpers::call(line, out, at)
+    let helped = helpers::call(line, out, at);
+    if helped != at {
+        return helped;
+    }
+    let quoted = meter::call_quota(line, out, at);
+    if quoted != at {
+        return quoted;
+    }
+    meter::call_gcra(line, out, at)
 }
 
 // The answer to a line, with its line feed; nothing to an empty line or a comment.
@@ -28,18 +35,6 @@ fn answer(line: &[u8], out: &mut [u8], at: usize) -> usize {
     } else {
         text::put(out, end, b"\n")
     }
-}
-
-// Writes out what is ready once little room is left, and answers where to go on.
-fn flush(out: &[u8], at: usize, room: usize) -> usize {
-    if out.len() < at {
-        return 0;
-    }
-    if room <= out.len() - at {
-        return at;
-    }
-    io::write_all(STDOUT_FILENO, &out[..at]);
-    0
 }
 
 // Answers what came: a line, one too long to be a call, or the end of the input.
@@ -77,7 +72,7 @@ fn turn_of(input: &mut [u8], out: &mut [u8], rest: text::lines::Lines, at: usize
     let next = respond(kind, &input[start..end], out, at);
     Turn {
         ended: is_end(kind),
-        at: flush(out, next, ANSWER),
+        at: text::flush(out, next, ANSWER),
         from: left.from,
         to: left.to,
     }
@@ -100,7 +95,7 @@ fn run(input: &mut [u8], out: &mut [u8]) {
         t = turn_of(input, out, rest, t.at);
         turns -= 1;
     }
-    flush(out, t.at, out.len());
+    text::flush(out, t.at, out.len());
 }
 
 fn main() {

@@ -22,3 +22,7 @@ pub record Spelled (base least n at r : ℕ) (xs ys : List ℕ) : Type 0 where
   pub fewest : Fewest base least n count
   pub text : ys ≡ written at (digits base count n) xs
   pub ends : r ≡ end at (digits base count n) xs
+
+-- where to go on writing: behind what is there where that leaves `room` bytes, else at the front
+unfoldable pub flushed : ℕ → ℕ → List ℕ → ℕ
+flushed at room xs = cond (leb (at + room) (length xs)) at 0

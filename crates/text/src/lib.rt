@@ -1,12 +1,13 @@
 // Text for the programs: numbers in ASCII, read and written, and the lines of standard input.
 pub mod lines;
 
+use libc::STDOUT_FILENO;
 ghost use mathlib.Core.Path.{_≡_};
 ghost use Prim.Native.Nat.{_≤_, _<_, min, max};
 ghost use lib.ListN.{length};
 ghost use Rattle.text.specs.Input.{indexOf};
 ghost use Rattle.text.specs.Numbers.{digit, numeral, decimalNumber, hexNumber};
-ghost use Rattle.text.specs.Output.{written, end, Spelled};
+ghost use Rattle.text.specs.Output.{written, end, Spelled, flushed};
 
 pub enum Number {
     Value(u64),
@@ -121,4 +122,19 @@ pub fn put_hex(out: &mut [u8], at: usize, n: u64, width: usize) -> usize
     let mut text = [0u8; 16];
     let k = io::hex(n, width, &mut text);
     put(out, at, &text[..k])
+}
+
+// Writes the first `at` bytes of the buffer to standard output where fewer than `room` are left
+// behind them, and answers where to go on.
+pub fn flush(out: &[u8], at: usize, room: usize) -> usize
+    ensures { λ r. ⌜ r ≡ flushed at room (now (out .entry)) ⌝ }
+{
+    if out.len() < at {
+        return 0;
+    }
+    if room <= out.len() - at {
+        return at;
+    }
+    io::write_all(STDOUT_FILENO, &out[..at]);
+    0
 }

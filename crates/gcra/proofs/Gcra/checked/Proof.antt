@@ -1,0 +1,43 @@
+-- `gcra::Gcra::checked` meets its contract.
+use mathlib.Core.Path.{_≡_, sym, _∙_}
+use borrow.Author.Needs.{needs}
+use Rattle.gcra.specs.Meter.{attempt, parameters, tatAt}
+use Rattle.gcra.proofs.Checks.{checked-allow, checked-deny}
+use Rattle.gcra.proofs.Gcra.checked.Statement.{statement}
+use Rattle.gcra.proofs.Gcra.checked.Tie as tie
+
+abbrev start : tie.After-attempt → tie.Start
+start c = c .before .before .before .before
+
+attempted : (c : tie.After-attempt)
+    → c .attempt .result ≡ attempt (parameters (start c .args .self .quota)) (tatAt (start c .args .self .tat) (start c .args .now)) (start c .args .now)
+attempted c = cc
+
+t-and-tau-requires : tie.Need-t-and-tau-requires
+t-and-tau-requires c κs = search needs
+
+or-reading-requires : tie.Need-or-reading-requires
+or-reading-requires c κs = search needs
+
+attempt-requires : tie.Need-attempt-requires
+attempt-requires c κs = search needs
+
+is-allow-requires : tie.Need-is-allow-requires
+is-allow-requires c κs = search needs
+
+returns : tie.Need-returns
+returns c = checked-allow _ _ _ (attempted (c .before .before)) (sym (c .before .is-allow .ensures) ∙ c .if1 .taken)
+
+returns-2 : tie.Need-returns-2
+returns-2 c = checked-deny _ _ _ (attempted (c .before .before)) (sym (c .before .is-allow .ensures) ∙ c .if1 .left)
+
+pub checked-spec : {M : Type 1} → statement M
+checked-spec =
+    tie.close
+    (tie.spec
+    t-and-tau-requires
+    or-reading-requires
+    attempt-requires
+    is-allow-requires
+    returns
+    returns-2)

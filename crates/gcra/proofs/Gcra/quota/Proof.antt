@@ -1,0 +1,21 @@
+-- `gcra::Gcra::quota` meets its contract.
+use borrow.Author.Needs.{needs}
+use Rattle.gcra.specs.Calls.{gcraQuota}
+use Rattle.gcra.proofs.Cases.{told-no, told-yes}
+use Rattle.gcra.proofs.Answers.{alone-no, alone-yes}
+use Rattle.gcra.proofs.Gcra.quota.Statement.{statement}
+use Rattle.gcra.proofs.Gcra.quota.Tie as tie
+
+is-valid-requires : tie.Need-is-valid-requires
+is-valid-requires c κs = search needs
+
+returns : tie.Need-returns
+unfolding gcraQuota
+returns c = alone-no 2 _ (told-no (c .before .is-valid .ensures) (c .if1 .taken))
+
+returns-2 : tie.Need-returns-2
+unfolding gcraQuota
+returns-2 c = alone-yes 2 _ (told-yes (c .before .is-valid .ensures) (c .if1 .left))
+
+pub quota-spec : {M : Type 1} → statement M
+quota-spec = tie.close (tie.spec is-valid-requires returns returns-2)

@@ -1,0 +1,50 @@
+-- `gcra::Gcra::set_quota` meets its contract.
+use Prim.Native.Nat.{ℕ}
+use mathlib.Core.Path.{_≡_, _∙_}
+use mathlib.Core.Bool.{true, false, _&&_, and-false}
+use borrow.Author.Needs.{needs}
+use Rattle.gcra.specs.declared.Quota.{Quota}
+use Rattle.gcra.specs.declared.Gcra.{Gcra}
+use Rattle.gcra.specs.declared.SetAnswer.the-variants.{No, Done}
+use Rattle.gcra.specs.Packed.{unitNanos, validQuota}
+use Rattle.gcra.specs.Rate.{setQuota}
+use Rattle.gcra.specs.Calls.{GcraSets}
+use Rattle.gcra.proofs.Cases.{told-no, told-yes, and-true}
+use Rattle.gcra.proofs.Answers.{alone-no, alone-yes, kept-no, kept-yes}
+use Rattle.gcra.proofs.Gcra.set_quota.Statement.{statement}
+use Rattle.gcra.proofs.Gcra.set_quota.Tie as tie
+
+module _ (g : Gcra) (q : Quota) (now : ℕ) where
+  refuses : (validQuota unitNanos (g .quota) && validQuota unitNanos q) ≡ false → GcraSets g q now (record { answer = No 2; gcra = g })
+  refuses n = record { set = alone-no 2 tt n; left = kept-no 2 g (setQuota g q now) n }
+
+  refuses-new : validQuota unitNanos q ≡ false → GcraSets g q now (record { answer = No 2; gcra = g })
+  refuses-new n = refuses (rw n (and-false (validQuota unitNanos (g .quota))))
+
+  sets : {h : Gcra} → (validQuota unitNanos (g .quota) && validQuota unitNanos q) ≡ true → h ≡ setQuota g q now → GcraSets g q now (record { answer = Done; gcra = h })
+  sets y e = record { set = alone-yes 2 tt y; left = e ∙ kept-yes 2 g (setQuota g q now) y }
+
+is-valid-requires : tie.Need-is-valid-requires
+is-valid-requires c κs = search needs
+
+returns : tie.Need-returns
+returns c = refuses _ _ _ (rw (told-no (c .before .is-valid .ensures) (c .if1 .taken)))
+
+is-valid-requires-2 : tie.Need-is-valid-requires-2
+is-valid-requires-2 c κs = search needs
+
+returns-2 : tie.Need-returns-2
+returns-2 c = refuses-new _ _ _ (told-no (c .before .is-valid2 .ensures) (c .if2 .taken))
+
+changed-requires : tie.Need-changed-requires
+changed-requires c κs = search needs
+
+returns-3 : tie.Need-returns-3
+returns-3 c =
+    sets _ _ _ (and-true (told-yes (c .before .before .before .before .is-valid .ensures) (c .before .before .before .if1 .left)) (told-yes (c .before .before .is-valid2 .ensures) (c .before .if2 .left)))
+    (c .changed .ensures)
+
+pub set-quota-spec : {M : Type 1} → statement M
+set-quota-spec =
+    tie.close
+    (tie.spec is-valid-requires returns is-valid-requires-2 returns-2 changed-requires returns-3)

@@ -1,0 +1,13 @@
+pub mod Cases
+pub mod Answers
+pub mod Encoding
+pub mod Validity
+pub mod Checks
+pub mod Packing
+pub mod Retry
+pub mod Count
+pub mod Schedule
+pub mod Points
+pub mod Rates
+pub mod Fractions
+pub mod Carry

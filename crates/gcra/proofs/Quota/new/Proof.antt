@@ -1,0 +1,48 @@
+-- `gcra::Quota::new` meets its contract.
+use mathlib.Core.Path.{_≡_}
+use mathlib.Core.Bool.{true}
+use native.Mathlib.Nat.{pos-of-ne-zero}
+use lib.Dec.{ltb}
+use borrow.Author.Needs.{needs}
+use borrow.Author.Tests.{lt-ltb}
+use Rattle.gcra.specs.Calls.{quotaNew}
+use Rattle.gcra.specs.Questions.{answer}
+use Rattle.gcra.proofs.Cases.{told-no, told-yes}
+use Rattle.gcra.proofs.Quota.new.Statement.{statement}
+use Rattle.gcra.proofs.Quota.new.Tie as tie
+
+rate-above : (c : tie.Else1) → ltb 0 (c .before .args .rate-per-sec) ≡ true
+rate-above c = lt-ltb 0 (c .before .args .rate-per-sec) (pos-of-ne-zero (c .if1 .left))
+
+returns : tie.Need-returns
+unfolding quotaNew answer
+returns c = rw (c .if1 .taken)
+
+burst-fits-requires : tie.Need-burst-fits-requires
+burst-fits-requires c κs = search needs
+
+returns-2 : tie.Need-returns-2
+unfolding quotaNew answer
+returns-2 c = rw (rate-above (c .before .before), told-no (c .before .burst-fits .ensures) (c .if2 .taken))
+
+div-ceil-requires : tie.Need-div-ceil-requires
+div-ceil-requires c κs = search needs
+
+with-interval-requires : tie.Need-with-interval-requires
+with-interval-requires c κs = search needs
+
+returns-3 : tie.Need-returns-3
+unfolding quotaNew answer
+returns-3 c =
+    rw (rate-above (c .before .before .before .before), told-yes (c .before .before .before .burst-fits .ensures) (c .before .before .if2 .left), c .with-interval .ensures, c .before .div-ceil .ensures)
+
+pub new-spec : {M : Type 1} → statement M
+new-spec =
+    tie.close
+    (tie.spec
+    returns
+    burst-fits-requires
+    returns-2
+    div-ceil-requires
+    with-interval-requires
+    returns-3)

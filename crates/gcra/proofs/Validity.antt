@@ -1,0 +1,67 @@
+-- What question 2 says of a lone quota, as facts. Assumes nothing.
+use Prim.Native.Nat.{ℕ, _*_, _≤_, min, max}
+use mathlib.Core.Path.{_≡_}
+use mathlib.Core.Bool.{true}
+use native.Mathlib.Omega.{arith}
+use borrow.Author.Tests.{leb-true, eqb-true, le-leb, eq-eqb}
+use Rattle.gcra.specs.declared.Units.{Units}
+use Rattle.gcra.specs.declared.Quota.{Quota}
+use Rattle.gcra.specs.Packed.{Accepted, maxBurst, rounded, maxInterval, withInterval, validBurst, validQuota, width, valueOf, unitOf, unpack}
+use Rattle.gcra.proofs.Cases.{and-both, and-true}
+use Rattle.gcra.proofs.Encoding.{rounded-back, rounded-rounded}
+
+pub record ValidBurst (b : ℕ) : Type 0 where
+  pub least : 1 ≤ b
+  pub most : b ≤ maxBurst
+
+pub record Valid (u : Units) (q : Quota) : Type 0 where
+  pub least : 1 ≤ q .interval
+  pub most : q .interval ≤ maxInterval u
+  pub burst : ValidBurst (q .burst)
+  pub own : rounded u (q .interval) ≡ q .interval
+
+pub valid-burst : (b : ℕ) → validBurst b ≡ true → ValidBurst b
+valid-burst b h = let p = and-both _ _ h in record { least = leb-true 1 b (p .0); most = leb-true b maxBurst (p .1) }
+
+pub burst-valid : (b : ℕ) → ValidBurst b → validBurst b ≡ true
+burst-valid b v = and-true (le-leb 1 b (v .least)) (le-leb b maxBurst (v .most))
+
+pub valid-quota : (u : Units) (q : Quota) → validQuota u q ≡ true → Valid u q
+unfolding validQuota
+valid-quota u q h =
+    let p = and-both _ _ h in
+    let i = and-both _ _ (p .0) in
+    let r = and-both _ _ (p .1) in
+    record {
+      least = leb-true 1 (q .interval) (i .0);
+      most = leb-true (q .interval) (maxInterval u) (i .1);
+      burst = valid-burst (q .burst) (r .0);
+      own = eqb-true (rounded u (q .interval)) (q .interval) (r .1);
+    }
+
+pub quota-valid : (u : Units) (q : Quota) → Valid u q → validQuota u q ≡ true
+unfolding validQuota
+quota-valid u q v =
+    and-true (and-true (le-leb 1 (q .interval) (v .least)) (le-leb (q .interval) (maxInterval u) (v .most)))
+    (and-true (burst-valid (q .burst) (v .burst)) (eq-eqb (rounded u (q .interval)) (q .interval) (v .own)))
+
+-- What a word unpacks to fits, whatever the word.
+pub unpack-fits : (u : Units) → Accepted u → (w : ℕ) {q : Quota} → q ≡ unpack u w → (q .interval ≤ maxInterval u) × (q .burst ≤ maxBurst)
+unfolding unpack withInterval
+unpack-fits u a w e =
+    let n = valueOf w * width u (unitOf w) in
+    let m = min (max n 1) (maxInterval u) in
+    let l : m ≤ maxInterval u = omega arith in
+    rw e (rounded-back u a m l .most, omega arith)
+
+-- A quota made of any interval and a burst that fits is valid.
+pub made-valid : (u : Units) → Accepted u → (n b : ℕ) → ValidBurst b → Valid u (withInterval u n b)
+unfolding withInterval
+made-valid u a n b v =
+    let m = min (max n 1) (maxInterval u) in
+    let l : m ≤ maxInterval u = omega arith in
+    let r = rounded-back u a m l in
+    record { least = omega arith; most = r .most; burst = v; own = rounded-rounded u a m l }
+
+pub with-interval-valid : (u : Units) → Accepted u → (n b : ℕ) → validBurst b ≡ true → validQuota u (withInterval u n b) ≡ true
+with-interval-valid u a n b h = quota-valid u (withInterval u n b) (made-valid u a n b (valid-burst b h))

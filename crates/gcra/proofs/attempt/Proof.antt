@@ -1,0 +1,28 @@
+-- `gcra::attempt` meets its contract: a reading below the retry time is denied, any other allowed.
+use mathlib.Core.Path.{sym}
+use borrow.Author.Needs.{needs}
+use Rattle.gcra.proofs.Checks.{attempt-deny, attempt-allow}
+use Rattle.gcra.proofs.attempt.Statement.{statement}
+use Rattle.gcra.proofs.attempt.Tie as tie
+
+saturating-sub-requires : tie.Need-saturating-sub-requires
+saturating-sub-requires c κs = search needs
+
+returns : tie.Need-returns
+returns c = let h = c .before .saturating-sub .ensures in rw h (sym (attempt-deny _ _ _ (rw h at (c .if1 .taken))))
+
+max-requires : tie.Need-max-requires
+max-requires c κs = search needs
+
+saturating-add-requires : tie.Need-saturating-add-requires
+saturating-add-requires c κs = search needs
+
+returns-2 : tie.Need-returns-2
+returns-2 c =
+    let h = c .before .before .before .saturating-sub .ensures in
+    rw (c .saturating-add .ensures, c .before .max .ensures) (sym (attempt-allow _ _ _ (rw h at (c .before .before .if1 .left))))
+
+pub attempt-spec : {M : Type 1} → statement M
+attempt-spec =
+    tie.close
+    (tie.spec saturating-sub-requires returns max-requires saturating-add-requires returns-2)

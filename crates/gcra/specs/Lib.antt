@@ -1,0 +1,7 @@
+pub mod Questions
+pub mod Packed
+pub mod Meter
+pub mod Rate
+pub mod Run
+pub mod Calls
+pub mod Schedule

@@ -1,0 +1,82 @@
+-- The meter (01, 'The meter (001)'). Definitions only.
+use Prim.Native.Nat.{ℕ, _+_, _-_, _^_, min, max}
+use mathlib.Core.Bool.{Bool, true, false, cond}
+use mathlib.Core.Option.{Option, none, some}
+use lib.Dec.{ltb}
+use Rattle.gcra.specs.declared.Quota.{Quota}
+use Rattle.gcra.specs.declared.Tat.{Tat}
+use Rattle.gcra.specs.declared.Tat.the-variants.{Unset, At}
+use Rattle.gcra.specs.declared.Gcra.{Gcra}
+use Rattle.gcra.specs.declared.Decision.{Decision}
+use Rattle.gcra.specs.declared.Decision.the-variants.{Allow, Deny}
+use Rattle.gcra.specs.declared.CheckAnswer.the-variants.{Is}
+use Rattle.gcra.specs.declared.Checked.{Checked}
+use Rattle.gcra.specs.declared.Decoded.{Decoded}
+use Rattle.gcra.specs.declared.Stepped.{Stepped}
+use Rattle.gcra.specs.Packed.{tau, decode}
+use Rattle.gcra.specs.declared.Units.{Units}
+
+abbrev pub isAllow : Decision → Bool
+isAllow Allow = true
+isAllow (Deny retry-at) = false
+
+-- the retry time: TAT - tau, never below 0
+abbrev pub earliest : Decoded → ℕ → ℕ
+earliest d tat = tat - d .tau
+
+-- a reading below the retry time is denied with it
+unfoldable pub decide : Decoded → ℕ → ℕ → Decision
+decide d tat now = cond (ltb now (earliest d tat)) (Deny (earliest d tat)) Allow
+
+-- TAT after an allowed check: max(TAT, reading) + T, held at 2^64 - 1
+abbrev pub moved : Decoded → ℕ → ℕ → ℕ
+moved d tat now = min (max tat now + d .t) (2 ^ 64 - 1)
+
+-- a check at any T and tau, with the TAT that it leaves
+unfoldable pub attempt : Decoded → ℕ → ℕ → Stepped
+attempt d tat now =
+    record { decision = decide d tat now; tat = cond (isAllow (decide d tat now)) (moved d tat now) tat }
+
+-- one attempt on a TAT, 0 for none, and a packed word
+abbrev pub step : Units → ℕ → ℕ → ℕ → Stepped
+step u tat w now = attempt (decode u w) tat now
+
+-- a TAT as `step` takes it: 0 for none
+abbrev pub tatWord : Tat → ℕ
+tatWord Unset = 0
+tatWord (At tat) = tat
+
+-- T and tau of a quota
+abbrev pub parameters : Quota → Decoded
+parameters q = record { t = q .interval; tau = tau (q .interval) (q .burst) }
+
+-- a missing TAT counts as the reading
+abbrev pub tatAt : Tat → ℕ → ℕ
+tatAt Unset now = now
+tatAt (At tat) now = tat
+
+unfoldable pub decision : Gcra → ℕ → Decision
+decision g now = decide (parameters (g .quota)) (tatAt (g .tat) now) now
+
+-- the Gcra after a check: as it was after a denied one
+unfoldable pub check : Gcra → ℕ → Gcra
+check g now =
+    cond (isAllow (decision g now))
+    (record { quota = g .quota; tat = At (moved (parameters (g .quota)) (tatAt (g .tat) now) now) })
+    g
+
+-- both, as the code answers them
+unfoldable pub checked : Gcra → ℕ → Checked
+checked g now = record { answer = Is (decision g now); gcra = check g now }
+
+-- whether a TAT is ahead of the reading
+unfoldable pub hasDebt : Gcra → ℕ → Bool
+hasDebt g now = ltb now (tatAt (g .tat) now)
+
+-- how long until a check would be allowed; none where it would be now
+abbrev pub retryFrom : Decision → ℕ → Option ℕ
+retryFrom Allow now = none
+retryFrom (Deny retry-at) now = some (retry-at - now)
+
+unfoldable pub retryAfter : Gcra → ℕ → Option ℕ
+retryAfter g now = retryFrom (decision g now) now
