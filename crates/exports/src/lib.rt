@@ -4,6 +4,7 @@ ghost use lib.IntN.{pos};
 ghost use lib.Ieee as Ieee;
 ghost use lib.Ieee.{binary64};
 ghost use Prim.Native.Nat.{_*_, _/_, _^_};
+ghost use Rattle.demand.specs.Weight.{weight};
 
 // `float::u64_to_f64`.
 #[no_mangle]
@@ -27,4 +28,12 @@ pub extern "C" fn nultiway_high_product(a: u64, b: u64) -> u64
     ensures { λ r. ⌜ r ≡ a * b / 2 ^ 64 ⌝ }
 {
     float::wide::high_product(a, b)
+}
+
+// `demand::decay::decay_weight`.
+#[no_mangle]
+pub extern "C" fn nultiway_decay_weight(elapsed: u64, time_constant: u64) -> u64
+    ensures { λ r. ⌜ r ≡ weight elapsed «time_constant» ⌝ }
+{
+    demand::decay::decay_weight(elapsed, time_constant)
 }

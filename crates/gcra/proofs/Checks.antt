@@ -14,7 +14,7 @@ use Rattle.gcra.specs.declared.Decision.the-variants.{Allow, Deny}
 use Rattle.gcra.specs.declared.CheckAnswer.the-variants.{Is}
 use Rattle.gcra.specs.declared.Decoded.{Decoded}
 use Rattle.gcra.specs.declared.Stepped.{Stepped}
-use Rattle.gcra.specs.Meter.{isAllow, earliest, decide, moved, attempt, tatWord, parameters, tatAt, decision, check, checked}
+use Rattle.gcra.specs.Meter.{isAllow, earliest, decide, moved, attempt, tatWord, parameters, tatAt, decision, check, outcome, checked}
 use Rattle.gcra.specs.Run.{allowed}
 use Rattle.float.proofs.Tests.{split}
 
@@ -80,7 +80,7 @@ module _ (g : Gcra) (now : ℕ) where
 
   -- the quota stays
   pub check-quota : check g now .quota ≡ g .quota
-  check-quota = split (isAllow (decision g now)) (λ h. ap (λ (x : Gcra). x .quota) (check-allow h)) (λ h. ap (λ (x : Gcra). x .quota) (check-deny h))
+  check-quota = split (isAllow (decision g now)) (λ h. rw (check-allow h)) (λ h. rw (check-deny h))
 
   -- a TAT that fits a u64 is followed by one
   pub check-fits : tatWord (g .tat) < 2 ^ 64 → tatWord (check g now .tat) < 2 ^ 64
@@ -89,20 +89,22 @@ module _ (g : Gcra) (now : ℕ) where
 -- A missing TAT decides and moves as TAT 0 does.
 pub unset-is-zero : (d : Decoded) (tat : Tat) (now : ℕ) → attempt d (tatAt tat now) now ≡ attempt d (tatWord tat) now
 unset-is-zero d Unset now =
-    attempt-allow d now now (omega arith) ∙ ap (λ (n : ℕ). record { decision = Allow; tat = min (n + d .t) (2 ^ 64 - 1) }) same ∙ sym (attempt-allow d 0 now (omega arith))
+    attempt-allow d now now (omega arith)
+    ∙ ap (λ (n : ℕ). record { decision = Allow; tat = min (n + d .t) (2 ^ 64 - 1) }) same
+    ∙ sym (attempt-allow d 0 now (omega arith))
   where
     same : max now now ≡ max 0 now
     same = omega arith
 unset-is-zero d (At t) now = refl
 
--- A check as one attempt on its TAT, a missing one counting as the reading.
-pub check-attempts : (q : Quota) (tat : Tat) (now : ℕ) → attempt (parameters q) (tatAt tat now) now ≡ record { decision = decision (record { quota = q; tat = tat }) now; tat = tatWord (check (record { quota = q; tat = tat }) now .tat) }
+-- A check is one attempt on its TAT, a missing one counting as the reading.
+pub check-attempts : (q : Quota) (tat : Tat) (now : ℕ) → attempt (parameters q) (tatAt tat now) now ≡ outcome (record { quota = q; tat = tat }) now
 unfolding attempt decision check
 check-attempts q Unset now = let e : decide (parameters q) now now ≡ Allow = decide-allow (parameters q) now now (omega arith) in rw e
 check-attempts q (At t) now = split (isAllow (decide (parameters q) t now)) (λ h. rw h) (λ h. rw h)
 
--- And with 0 for none.
-pub check-is-attempt : (g : Gcra) (now : ℕ) → attempt (parameters (g .quota)) (tatWord (g .tat)) now ≡ record { decision = decision g now; tat = tatWord (check g now .tat) }
+-- And so with 0 for none.
+pub check-is-attempt : (g : Gcra) (now : ℕ) → attempt (parameters (g .quota)) (tatWord (g .tat)) now ≡ outcome g now
 check-is-attempt g now = sym (unset-is-zero (parameters (g .quota)) (g .tat) now) ∙ check-attempts (g .quota) (g .tat) now
 
 -- the allowed readings of a list, by how the first check is decided

@@ -115,9 +115,14 @@ module _ (q : Quota) (short : q .interval < 2 ^ 61) (some : 1 ≤ q .burst) (s w
       let f = denied-first (at q tat) t ts e in
       rw f (count tat ts (rw f at h)))
 
--- Of any list of checks of a Gcra of a valid quota, at any starting TAT: if all allowed readings are below 2^62, those allowed from s to s + w number at most the quoted ceiling.
-pub allowed-within : (u : Units) → Accepted u → (g : Gcra) → validQuota u (g .quota) ≡ true → (s w : ℕ) (readings : List ℕ) → allBelow (2 ^ 62) (allowed g readings) ≡ true → countIn s w (allowed g readings) ≤ ceiling (g .quota) w
+-- Of any list of checks of a Gcra of a valid quota, at any starting TAT: if all allowed readings are below 2^62,
+-- those allowed from s to s + w number at most the quoted ceiling.
+pub allowed-within : (u : Units) → Accepted u → (g : Gcra) → validQuota u (g .quota) ≡ true → (s w : ℕ) (readings : List ℕ)
+    → allBelow (2 ^ 62) (allowed g readings) ≡ true
+    → countIn s w (allowed g readings) ≤ ceiling (g .quota) w
 unfolding ceiling
 allowed-within u a g h s w readings below =
-    let v = valid-quota u (g .quota) h in
-    quotient (g .quota .interval) (g .quota .burst) s w (v .burst .least) (tatWord (g .tat)) _ (v .least) (count (g .quota) (omega (arith, v .most)) (v .burst .least) s w (g .tat) readings below)
+    let q = g .quota in
+    let v = valid-quota u q h in
+    quotient (q .interval) (q .burst) s w (v .burst .least) (tatWord (g .tat)) _ (v .least)
+    (count q (omega (arith, v .most)) (v .burst .least) s w (g .tat) readings below)

@@ -49,10 +49,13 @@ takes-third u n h k = rw (h, k)
 pub first-unit : (u : Units) (n : ℕ) {v : ℕ} → v ≡ roundUp n (u .first) → v < 2 ^ 40 → record { value = v; unit = 0 } ≡ encode u n
 first-unit u n {v} e l = rw e (sym (takes-first u n (lt-ltb _ _ (rw e at l))))
 
-pub second-unit : (u : Units) (n : ℕ) {v w : ℕ} → v ≡ roundUp n (u .first) → 2 ^ 40 ≤ v → w ≡ roundUp n (u .second) → w < 2 ^ 40 → record { value = w; unit = 1 } ≡ encode u n
+pub second-unit : (u : Units) (n : ℕ) {v w : ℕ} → v ≡ roundUp n (u .first) → 2 ^ 40 ≤ v → w ≡ roundUp n (u .second) → w < 2 ^ 40
+    → record { value = w; unit = 1 } ≡ encode u n
 second-unit u n e l f m = rw f (sym (takes-second u n (le-ltb _ _ (rw e at l)) (lt-ltb _ _ (rw f at m))))
 
-pub third-unit : (u : Units) (n : ℕ) {v w x : ℕ} → v ≡ roundUp n (u .first) → 2 ^ 40 ≤ v → w ≡ roundUp n (u .second) → 2 ^ 40 ≤ w → x ≡ roundUp n (u .third) → record { value = x; unit = 2 } ≡ encode u n
+pub third-unit : (u : Units) (n : ℕ) {v w x : ℕ} → v ≡ roundUp n (u .first) → 2 ^ 40 ≤ v → w ≡ roundUp n (u .second) → 2 ^ 40 ≤ w
+    → x ≡ roundUp n (u .third)
+    → record { value = x; unit = 2 } ≡ encode u n
 third-unit u n e l f m g = rw g (sym (takes-third u n (le-ltb _ _ (rw e at l)) (le-ltb _ _ (rw f at m))))
 
 -- the unit holds the interval, none before it does, and the value is the interval rounded up to it
@@ -120,29 +123,33 @@ module _ (u : Units) (a : Accepted u) where
   unfolding rounded
   back n e h = ap (λ (x : Encoded). x .value * width u (x .unit)) h
 
+  -- the value of an interval that came back, at the unit it took
+  again : (n : ℕ) (k : ℕ) → rounded u n ≡ roundUp n (width u k) * width u k → roundUp (rounded u n) (width u k) ≡ roundUp n (width u k)
+  again n k r = rw r (round-up-exact (roundUp n (width u k)) (width u k) (width-pos k))
+
+  -- a unit that does not hold an interval does not hold what it comes back as
+  still-not : (n k : ℕ) → n ≤ maxInterval u → holds u n k ≡ false → holds u (rounded u n) k ≡ false
+  still-not n k l h =
+      le-ltb _ _ (le-trans (ltb-false _ _ h) (round-up-mono n (rounded u n) (width u k) (width-pos k) (rounded-back n l .least)))
+
   -- What came back takes the same unit and value again.
   pub encode-rounded : (n : ℕ) → n ≤ maxInterval u → encode u (rounded u n) ≡ encode u n
   encode-rounded n l =
       split (holds u n 0)
       (λ h.
       let e = takes-first u n h in
-      let r = back n _ e in
-      let x : roundUp (rounded u n) (u .first) ≡ roundUp n (u .first) = rw r (round-up-exact _ (u .first) (width-pos 0)) in
+      let x = again n 0 (back n _ e) in
       takes-first u (rounded u n) (rw x h) ∙ ap (λ (v : ℕ). record { value = v; unit = 0 }) x ∙ sym e)
       (λ h.
-      let g : holds u (rounded u n) 0 ≡ false = le-ltb _ _ (le-trans (ltb-false _ _ h) (round-up-mono n (rounded u n) (u .first) (width-pos 0) (rounded-back n l .least))) in
       split (holds u n 1)
       (λ k.
       let e = takes-second u n h k in
-      let r = back n _ e in
-      let x : roundUp (rounded u n) (u .second) ≡ roundUp n (u .second) = rw r (round-up-exact _ (u .second) (width-pos 1)) in
-      takes-second u (rounded u n) g (rw x k) ∙ ap (λ (v : ℕ). record { value = v; unit = 1 }) x ∙ sym e)
+      let x = again n 1 (back n _ e) in
+      takes-second u (rounded u n) (still-not n 0 l h) (rw x k) ∙ ap (λ (v : ℕ). record { value = v; unit = 1 }) x ∙ sym e)
       (λ k.
       let e = takes-third u n h k in
-      let r = back n _ e in
-      let x : roundUp (rounded u n) (u .third) ≡ roundUp n (u .third) = rw r (round-up-exact _ (u .third) (width-pos 2)) in
-      takes-third u (rounded u n) g (le-ltb _ _ (le-trans (ltb-false _ _ k) (round-up-mono n (rounded u n) (u .second) (width-pos 1) (rounded-back n l .least))))
-      ∙ ap (λ (v : ℕ). record { value = v; unit = 2 }) x ∙ sym e))
+      let x = again n 2 (back n _ e) in
+      takes-third u (rounded u n) (still-not n 0 l h) (still-not n 1 l k) ∙ ap (λ (v : ℕ). record { value = v; unit = 2 }) x ∙ sym e))
 
   -- So an interval that came back comes back as itself.
   pub rounded-rounded : (n : ℕ) → n ≤ maxInterval u → rounded u (rounded u n) ≡ rounded u n

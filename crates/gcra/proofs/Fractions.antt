@@ -20,7 +20,7 @@ part-times {a} {c} {v} {w} {m} {n} {a′} {c′} {v′} {w′} {m′} {n′} h k
     record { holds = le-trans (le-of-eq (pairs a a′ w w′ m m′)) (le-trans (mul-le-mul (h .holds) (k .holds)) (le-of-eq (sym (pairs v v′ c c′ n n′)))) }
   where
     pairs : (a b c d e f : ℕ) → a * b * (c * d) * (e * f) ≡ a * c * e * (b * d * f)
-    pairs a b c d e f = simp (mul-assoc, mul-comm, mul-left-comm)
+    pairs a b c d e f = simp (mul-assoc, mul-left-comm)
 
 pub part-then : {a c v w x y m n m′ n′ : ℕ} → 0 < w → Part a c v w m n → Part v w x y m′ n′ → Part a c x y (m * m′) (n * n′)
 part-then {a} {c} {v} {w} {x} {y} {m} {n} {m′} {n′} W h k =
@@ -56,10 +56,13 @@ sized-times {a} {c} {p} {a′} {c′} {p′} h k =
     }
   where
     pairs : (a b c d : ℕ) → a * b * (c * d) ≡ a * c * (b * d)
-    pairs a b c d = simp (mul-assoc, mul-comm, mul-left-comm)
+    pairs a b c d = simp (mul-assoc, mul-left-comm)
 
 pub sized-over : {a c p : ℕ} → Sized a c p → Sized c a p
 sized-over h = record { lo = h .hi; hi = h .lo }
+
+pub sized-wider : {a c p q : ℕ} → p ≤ q → Sized a c p → Sized a c q
+sized-wider {a} {c} h s = record { lo = le-trans (s .lo) (mul-le-mul-left a h); hi = le-trans (s .hi) (mul-le-mul-left c h) }
 
 -- ---- one rounding of a fraction of moderate size
 pub rounds : {a c p : ℕ} → 0 < c → Sized a c p → p ≤ 2 ^ 1022 → Near binary64 (round binary64 false a c) a c

@@ -1,13 +1,13 @@
+-- The laws that the proofs of the functions, and the crates above, cite.
 pub mod Cases
 pub mod Answers
 pub mod Encoding
 pub mod Validity
-pub mod Checks
 pub mod Packing
+pub mod Checks
+pub mod Schedule
 pub mod Retry
 pub mod Count
-pub mod Schedule
-pub mod Points
 pub mod Rates
 pub mod Fractions
 pub mod Carry

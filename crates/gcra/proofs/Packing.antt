@@ -5,12 +5,13 @@ use mathlib.Core.Path.{_≡_, ap}
 use mathlib.Core.Bool.{true}
 use Rattle.gcra.specs.declared.Units.{Units}
 use Rattle.gcra.specs.declared.Quota.{Quota}
-use Rattle.gcra.specs.declared.Tat.{Tat}
+use Rattle.gcra.specs.declared.Gcra.{Gcra}
 use native.Mathlib.Omega.{arith}
 use lib.Dec.{ltb, eqb}
 use borrow.Author.Tests.{lt-ltb, eq-eqb, ltb-true, eqb-true}
-use Rattle.gcra.specs.Packed.{Accepted, width, encode, rounded, maxInterval, withInterval, validQuota, pack, valueOf, unitOf, burstOf, unpacks, unpack, validWord, decode}
-use Rattle.gcra.specs.Meter.{step, tatWord, parameters, decision, check}
+use Rattle.gcra.specs.Packed.{Accepted, width, encode, rounded, maxInterval, withInterval, validQuota}
+use Rattle.gcra.specs.Packed.{pack, valueOf, unitOf, burstOf, unpacks, unpack, validWord, decode}
+use Rattle.gcra.specs.Meter.{step, tatWord, parameters, outcome}
 use Rattle.gcra.proofs.Cases.{and-both, and-true}
 use Rattle.gcra.proofs.Encoding.{encode-takes}
 use Rattle.gcra.proofs.Validity.{Valid, valid-quota, quota-valid, made-valid}
@@ -76,18 +77,22 @@ module _ (u : Units) (a : Accepted u) (q : Quota) (h : validQuota u q ≡ true) 
       let t = encode-takes u (q .interval) a (valid .most) in
       omega (arith, t .fits, t .code, valid .burst .most)
 
-  -- `step` on a packed word decides as a check does, and leaves its TAT; TAT 0 stands for none.
-  pub step-is-check : (tat : Tat) (now : ℕ) → step u (tatWord tat) (pack u q) now ≡ record { decision = decision (record { quota = q; tat = tat }) now; tat = tatWord (check (record { quota = q; tat = tat }) now .tat) }
-  step-is-check tat now = rw decode-pack (check-is-attempt (record { quota = q; tat = tat }) now)
+-- `step` on a packed word decides as a check does, and leaves its TAT; TAT 0 stands for none.
+pub step-is-check : (u : Units) → Accepted u → (g : Gcra) → validQuota u (g .quota) ≡ true → (now : ℕ) → step u (tatWord (g .tat)) (pack u (g .quota)) now ≡ outcome g now
+step-is-check u a g h now = rw (decode-pack u a (g .quota) h) (check-is-attempt g now)
 
--- A valid word is the word of the quota that it unpacks to, and that quota is valid.
+-- A valid word is the word of the quota that it unpacks to.
 pub word-back : (u : Units) (w : ℕ) → validWord u w ≡ true → pack u (unpack u w) ≡ w
 unfolding validWord
 word-back u w h = eqb-true _ _ (and-both (unpacks w) (eqb (pack u (unpack u w)) w) h .1)
 
-pub word-quota : (u : Units) → Accepted u → (w : ℕ) → validWord u w ≡ true → validQuota u (unpack u w) ≡ true
-unfolding validWord unpack
-word-quota u a w h =
-    let p = and-both (unpacks w) (eqb (pack u (unpack u w)) w) h in
-    let b : 0 < burstOf w = ltb-true 0 (burstOf w) (and-both (ltb (unitOf w) 3) (ltb 0 (burstOf w)) (p .0) .1) in
+-- What a word that unpacks gives is a valid quota; so is that of a valid word.
+pub unpack-valid : (u : Units) → Accepted u → (w : ℕ) → unpacks w ≡ true → validQuota u (unpack u w) ≡ true
+unfolding unpack
+unpack-valid u a w h =
+    let b : 0 < burstOf w = ltb-true 0 (burstOf w) (and-both (ltb (unitOf w) 3) (ltb 0 (burstOf w)) h .1) in
     quota-valid u _ (made-valid u a (valueOf w * width u (unitOf w)) (burstOf w) (record { least = b; most = omega arith }))
+
+pub word-valid : (u : Units) → Accepted u → (w : ℕ) → validWord u w ≡ true → validQuota u (unpack u w) ≡ true
+unfolding validWord
+word-valid u a w h = unpack-valid u a w (and-both (unpacks w) (eqb (pack u (unpack u w)) w) h .0)

@@ -53,7 +53,8 @@ pub same-keeps : (g : Gcra) (q : Quota) (now : ℕ) → sameQuota q (g .quota) �
 unfolding setQuota
 same-keeps g q now h = rw h
 
-pub other-carries : (g : Gcra) (q : Quota) (now : ℕ) {t : Tat} → sameQuota q (g .quota) ≡ false → t ≡ carried (g .tat) (g .quota) q now → record { quota = q; tat = t } ≡ setQuota g q now
+pub other-carries : (g : Gcra) (q : Quota) (now : ℕ) {t : Tat} → sameQuota q (g .quota) ≡ false
+    → t ≡ carried (g .tat) (g .quota) q now → record { quota = q; tat = t } ≡ setQuota g q now
 unfolding setQuota
 other-carries g q now h e = rw (h, e)
 

@@ -11,7 +11,7 @@ use Rattle.gcra.specs.declared.Gcra.{Gcra}
 use Rattle.gcra.specs.declared.Decoded.{Decoded}
 use Rattle.gcra.specs.declared.Stepped.{Stepped}
 use Rattle.gcra.specs.Packed.{tau}
-use Rattle.gcra.specs.Meter.{isAllow, moved, attempt, parameters, tatAt, tatWord, decision, check}
+use Rattle.gcra.specs.Meter.{isAllow, moved, attempt, parameters, tatAt, outcome}
 use Rattle.gcra.specs.Schedule.{Cell, arrives, virtualScheduling}
 use Rattle.float.proofs.Tests.{split}
 use Rattle.gcra.proofs.Checks.{attempt-allow, attempt-deny, check-attempts}
@@ -54,8 +54,10 @@ first-cell I L Unset now = refl
 first-cell I L (At t) now = refl
 
 -- A check decides and moves the TAT as virtual scheduling does, where tau and TAT are not held at their limits.
-pub check-schedules : (g : Gcra) (now : ℕ) → g .quota .interval * (g .quota .burst - 1) < 2 ^ 63 → max (tatAt (g .tat) now) now + g .quota .interval < 2 ^ 64
-    → record { conforms = isAllow (decision g now); tat = tatWord (check g now .tat) } ≡ virtualScheduling (g .quota .interval) (g .quota .interval * (g .quota .burst - 1)) (theoretical (g .tat)) now
+pub check-schedules : (g : Gcra) (now : ℕ)
+    → g .quota .interval * (g .quota .burst - 1) < 2 ^ 63
+    → max (tatAt (g .tat) now) now + g .quota .interval < 2 ^ 64
+    → cell (outcome g now) ≡ virtualScheduling (g .quota .interval) (g .quota .interval * (g .quota .burst - 1)) (theoretical (g .tat)) now
 check-schedules g now free fits =
     let q = g .quota in
     let tat = tatAt (g .tat) now in

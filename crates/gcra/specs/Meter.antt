@@ -65,7 +65,11 @@ check g now =
     (record { quota = g .quota; tat = At (moved (parameters (g .quota)) (tatAt (g .tat) now) now) })
     g
 
--- both, as the code answers them
+-- a check as `step` answers it: the decision and the TAT that it leaves, 0 for none
+abbrev pub outcome : Gcra → ℕ → Stepped
+outcome g now = record { decision = decision g now; tat = tatWord (check g now .tat) }
+
+-- a check as the code answers it
 unfoldable pub checked : Gcra → ℕ → Checked
 checked g now = record { answer = Is (decision g now); gcra = check g now }
 

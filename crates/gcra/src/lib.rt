@@ -1,5 +1,7 @@
-// GCRA, the Generic Cell Rate Algorithm: a token bucket kept as one number, the theoretical arrival time (TAT) of the next request.
-// A request is allowed if it comes no earlier than TAT - tau, and then moves the TAT one interval T forward.
+// GCRA, the Generic Cell Rate Algorithm: a token bucket kept as one number, the theoretical arrival
+// time (TAT) of the next request.
+// A request is allowed if it comes no earlier than TAT - tau, and then moves the TAT one interval T
+// forward.
 ghost use mathlib.Core.Path.{_≡_};
 ghost use Prim.Native.Nat.{_+_, _-_, _*_, _^_, _≤_, _<_, min, max};
 ghost use Rattle.gcra.specs.Packed as Packed;
@@ -10,10 +12,12 @@ ghost use Rattle.gcra.specs.Calls as Calls;
 
 const ONE_SEC: u64 = 1_000_000_000;
 
-// The longest interval of a quota: 2^40 - 1 milliseconds, about 34 years. A slower rate is held at it.
+// The longest interval of a quota: 2^40 - 1 milliseconds, about 34 years. A slower rate is held at
+// it.
 pub const MAX_INTERVAL: u64 = ((1 << Quota::INTERVAL_BITS) - 1) * 1_000_000;
 
-// The longest burst tolerance: 2^63 - 1 ns. Were it longer, the saturated TAT would pass every check.
+// The longest burst tolerance: 2^63 - 1 ns. Were it longer, the saturated TAT would pass every
+// check.
 pub const MAX_TAU: u64 = u64::MAX / 2;
 
 // The nanoseconds of each unit that an interval is counted in, by the unit's code in a packed word.
@@ -29,7 +33,8 @@ const UNIT_NANOS: Units = Units {
     third: 1_000_000,
 };
 
-// One past the largest value of an interval in its unit; and what a unit code and a value count in a packed word.
+// One past the largest value of an interval in its unit; and what a unit code and a value count in
+// a packed word.
 const VALUES: u64 = 1 << Quota::INTERVAL_BITS;
 
 const UNIT_SCALE: u64 = 1 << Quota::BURST_BITS;
@@ -219,7 +224,8 @@ impl Quota {
         QuotaAnswer::Is(Self::with_interval(UNIT_NANOS, interval, burst))
     }
 
-    // Any rate, fractions of a request per second included. One too slow to hold, zero, infinite or not a number, is held at the longest interval.
+    // Any rate, fractions of a request per second included. One too slow to hold, zero, infinite or
+    // not a number, is held at the longest interval.
     pub fn per_second(rate: f64, burst: u32) -> QuotaAnswer
         ensures { λ r. ⌜ Calls.quotaAnswer r ≡ Calls.quotaPerSecond rate burst ⌝ }
     {
@@ -284,7 +290,8 @@ impl Quota {
         min(max(interval, 1), Self::max_interval(units))
     }
 
-    // The interval in the finest unit that holds it, rounded up where the unit is coarser than a nanosecond.
+    // The interval in the finest unit that holds it, rounded up where the unit is coarser than a
+    // nanosecond.
     fn encode_interval(units: Units, interval: u64) -> Encoded
         requires { ⌜ Accepted units × (interval ≤ Packed.maxInterval units) ⌝ }
         ensures { λ r. ⌜ r ≡ Packed.encode units interval ⌝ }
@@ -336,7 +343,8 @@ impl Quota {
         Self::rounded(units, interval) == interval
     }
 
-    // The rate in requests per second: the one it was made with, up to the rounding of the interval.
+    // The rate in requests per second: the one it was made with, up to the rounding of the
+    // interval.
     pub fn rate_per_sec(self) -> RateAnswer
         ensures { λ r. ⌜ Calls.rateAnswer r ≡ Calls.quotaRate self ⌝ }
     {
@@ -456,7 +464,8 @@ impl Quota {
         }
     }
 
-    // The quoted ceiling: how many requests at most are allowed with readings from s to s + window, both ends counted.
+    // The quoted ceiling: how many requests at most are allowed with readings from s to s + window,
+    // both ends counted.
     pub fn ceiling(self, window: u64) -> NumberAnswer
         ensures { λ r. ⌜ Calls.numberAnswer r ≡ Calls.quotaCeiling self window ⌝ }
     {
@@ -517,7 +526,8 @@ pub fn step(tat: u64, packed: u64, now: u64) -> Stepped
     attempt(Quota::decode(UNIT_NANOS, packed), tat, now)
 }
 
-// How many slots of the old quota a TAT is ahead of the reading. A saturated TAT is no measure: the debt is then at least both bursts.
+// How many slots of the old quota a TAT is ahead of the reading. A saturated TAT is no measure: the
+// debt is then at least both bursts.
 fn debt_slots(tat: u64, old: Quota, new: Quota, now: u64) -> f64
     ensures { λ r. ⌜ r ≡ Rate.debtSlots tat old new now ⌝ }
 {
@@ -629,7 +639,8 @@ impl Gcra {
         }
     }
 
-    // Switches to a new quota. The debt is carried over in requests; the same quota changes nothing.
+    // Switches to a new quota. The debt is carried over in requests; the same quota changes
+    // nothing.
     pub fn set_quota(self, quota: Quota, now: u64) -> QuotaSet
         ensures { λ r. ⌜ Calls.GcraSets self quota now r ⌝ }
     {

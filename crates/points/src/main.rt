@@ -1,4 +1,8 @@
 // Runs points on the edge through the code and prints a line each.
+use demand::allocation::ShareAnswer;
+use demand::allocation::View;
+use demand::decay::decay_weight;
+use demand::peer_demand::RoundsAnswer;
 use gcra::Gcra;
 use gcra::NumberAnswer;
 use gcra::Quota;
@@ -127,13 +131,88 @@ fn floats(out: &mut [u8], at: usize) -> usize {
     )
 }
 
+fn put_share(out: &mut [u8], at: usize, name: &[u8], own: f64, others: f64) -> usize {
+    let view = View {
+        limit: 100.0,
+        cluster_size: 4,
+        floor_factor: 0.5,
+        own,
+        others,
+    };
+    let answer = demand::allocation::share(view);
+    match answer {
+        ShareAnswer::No(n) => line(out, at, b"refused ", n as u64),
+        ShareAnswer::Is(share) => line(out, at, name, float::f64_to_u64(share)),
+    }
+}
+
+fn shares(out: &mut [u8], at: usize) -> usize {
+    let a = put_share(
+        out,
+        at,
+        b"share of 100, n 4, floor 0.5, own 3, others 1: ",
+        3.0,
+        1.0,
+    );
+    put_share(
+        out,
+        a,
+        b"share of 100, n 4, floor 0.5, own 0, others 0: ",
+        0.0,
+        0.0,
+    )
+}
+
+fn weights(out: &mut [u8], at: usize) -> usize {
+    let a = line(
+        out,
+        at,
+        b"weight of 1 in 2^52: ",
+        decay_weight(1, 0x10_0000_0000_0000),
+    );
+    let b = line(
+        out,
+        a,
+        b"weight of 1 in 2^52 + 1: ",
+        decay_weight(1, 0x10_0000_0000_0001),
+    );
+    line(out, b, b"weight of 1 in 1: ", decay_weight(1, 1))
+}
+
+fn rounds_of(n: usize) -> u64 {
+    let answer = demand::peer_demand::stale_after_rounds(n);
+    match answer {
+        RoundsAnswer::No(_) => 0,
+        RoundsAnswer::Is(rounds) => rounds,
+    }
+}
+
+fn newer(a: u16, b: u16) -> u64 {
+    if demand::peer_demand::round_is_newer(a, b) {
+        1
+    } else {
+        0
+    }
+}
+
+fn rounds(out: &mut [u8], at: usize) -> usize {
+    let a = line(out, at, b"stale_after_rounds(3): ", rounds_of(3));
+    let b = line(out, a, b"stale_after_rounds(4): ", rounds_of(4));
+    let c = line(out, b, b"round 1 newer than 65535: ", newer(1, 65535));
+    let d = line(out, c, b"round 32768 newer than 0: ", newer(32768, 0));
+    line(out, d, b"round 0 newer than 32768: ", newer(0, 32768))
+}
+
 fn print(out: &mut [u8]) {
     let a = three_two(out, 0);
     let b = intervals(out, a);
     let c = five_micros(out, b);
     let d = carried(out, c);
     let e = floats(out, d);
-    text::flush(out, e, out.len());
+    let f = shares(out, e);
+    let g = weights(out, f);
+    let h = rounds(out, g);
+    text::flush(out, h, out.len());
 }
 
 fn main() {

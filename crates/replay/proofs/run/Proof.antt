@@ -6,10 +6,22 @@ use Rattle.replay.proofs.run.Statement.{statement}
 use Rattle.replay.proofs.run.Tie as tie
 
 abbrev Inv-loop : tie.InvT-loop
-Inv-loop input₀ out₀ t₀ turns₀ input out t turns = (length input ≡ length input₀) × (length out ≡ length out₀)
+Inv-loop input₀ out₀ hot₀ peers₀ keys₀ contested₀ t₀ turns₀ input out hot peers keys contested t turns =
+    (length input ≡ length input₀)
+    × (length out ≡ length out₀)
+    × (length hot ≡ length hot₀)
+    × (length peers ≡ length peers₀)
+    × (length keys ≡ length keys₀)
+    × (length contested ≡ length contested₀)
 
 abbrev μ-loop : tie.MeasureT-loop
-μ-loop input₀ out₀ t₀ turns₀ input out t turns = turns
+μ-loop input₀ out₀ hot₀ peers₀ keys₀ contested₀ t₀ turns₀ input out hot peers keys contested t turns = turns
+
+nothing-requires : tie.Need-nothing-requires Inv-loop μ-loop
+nothing-requires c κs = search needs
+
+nothing-requires-2 : tie.Need-nothing-requires-2 Inv-loop μ-loop
+nothing-requires-2 c κs = search needs
 
 loop-holds : tie.Need-loop-holds Inv-loop μ-loop
 loop-holds c = search needs
@@ -35,6 +47,18 @@ same-length c = search needs
 same-length-2 : tie.Need-same-length-2 Inv-loop μ-loop
 same-length-2 c = search needs
 
+same-length-3 : tie.Need-same-length-3 Inv-loop μ-loop
+same-length-3 c = search needs
+
+same-length-4 : tie.Need-same-length-4 Inv-loop μ-loop
+same-length-4 c = search needs
+
+same-length-5 : tie.Need-same-length-5 Inv-loop μ-loop
+same-length-5 c = search needs
+
+same-length-6 : tie.Need-same-length-6 Inv-loop μ-loop
+same-length-6 c = search needs
+
 returns : tie.Need-returns Inv-loop μ-loop
 returns c = search needs
 
@@ -44,6 +68,8 @@ run-spec =
     (tie.spec
     Inv-loop
     μ-loop
+    nothing-requires
+    nothing-requires-2
     loop-holds
     turn-of-requires
     sub-turns
@@ -52,4 +78,8 @@ run-spec =
     flush-requires
     same-length
     same-length-2
+    same-length-3
+    same-length-4
+    same-length-5
+    same-length-6
     returns)

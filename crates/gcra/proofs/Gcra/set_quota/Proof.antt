@@ -41,8 +41,9 @@ changed-requires c κs = search needs
 
 returns-3 : tie.Need-returns-3
 returns-3 c =
-    sets _ _ _ (and-true (told-yes (c .before .before .before .before .is-valid .ensures) (c .before .before .before .if1 .left)) (told-yes (c .before .before .is-valid2 .ensures) (c .before .if2 .left)))
-    (c .changed .ensures)
+    let o = told-yes (c .before .before .before .before .is-valid .ensures) (c .before .before .before .if1 .left) in
+    let n = told-yes (c .before .before .is-valid2 .ensures) (c .before .if2 .left) in
+    sets _ _ _ (and-true o n) (c .changed .ensures)
 
 pub set-quota-spec : {M : Type 1} → statement M
 set-quota-spec =

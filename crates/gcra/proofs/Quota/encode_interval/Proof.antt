@@ -20,7 +20,9 @@ div-ceil-requires-3 : tie.Need-div-ceil-requires-3
 div-ceil-requires-3 c κs = search needs
 
 returns-3 : tie.Need-returns-3
-returns-3 c = third-unit _ _ (c .before .before .before .before .div-ceil .ensures) (c .before .before .before .if1 .left) (c .before .before .div-ceil2 .ensures) (c .before .if2 .left) (c .div-ceil3 .ensures)
+returns-3 c =
+    third-unit _ _ (c .before .before .before .before .div-ceil .ensures) (c .before .before .before .if1 .left) (c .before .before .div-ceil2 .ensures) (c .before .if2 .left)
+    (c .div-ceil3 .ensures)
 
 pub encode-interval-spec : {M : Type 1} → statement M
 encode-interval-spec =

@@ -18,7 +18,10 @@ returns-2 : tie.Need-returns-2
 unfolding validQuota
 returns-2 c =
     let s = c .before .before .before .args in
-    rw (le-leb 1 (s .self .interval) (c .before .before .if1 .left), lt-leb (s .self .interval) (maxInterval (s .units)) (rw (c .before .max-interval .ensures) at (c .if2 .taken)))
+    rw (
+      le-leb 1 (s .self .interval) (c .before .before .if1 .left),
+      lt-leb (s .self .interval) (maxInterval (s .units)) (rw (c .before .max-interval .ensures) at (c .if2 .taken)),
+    )
 
 burst-fits-requires : tie.Need-burst-fits-requires
 burst-fits-requires c κs = search needs

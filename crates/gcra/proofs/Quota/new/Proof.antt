@@ -34,7 +34,12 @@ with-interval-requires c κs = search needs
 returns-3 : tie.Need-returns-3
 unfolding quotaNew answer
 returns-3 c =
-    rw (rate-above (c .before .before .before .before), told-yes (c .before .before .before .burst-fits .ensures) (c .before .before .if2 .left), c .with-interval .ensures, c .before .div-ceil .ensures)
+    rw (
+      rate-above (c .before .before .before .before),
+      told-yes (c .before .before .before .burst-fits .ensures) (c .before .before .if2 .left),
+      c .with-interval .ensures,
+      c .before .div-ceil .ensures,
+    )
 
 pub new-spec : {M : Type 1} → statement M
 new-spec =

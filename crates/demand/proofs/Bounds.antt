@@ -1,0 +1,111 @@
+-- Bounds on products, over variables alone. Each is a sum of the given bounds times something, once both sides are written as sums of products. Assumes nothing.
+use mathlib.Core.Path.{_≡_, ap}
+use Prim.Native.Nat.{ℕ, zero, _+_, _*_, _≤_, _<_}
+use native.Mathlib.Nat.{mul-assoc, mul-comm, mul-left-comm, mul-add, add-mul, mul-one, one-mul, mul-le-mul, mul-le-mul-left, mul-le-mul-right, le-of-mul-le-mul-right}
+use native.Mathlib.Omega.{arith}
+
+pub ruleset sums = (mul-add, add-mul, mul-assoc, mul-comm, mul-left-comm, mul-one, one-mul)
+
+-- the next term, rounded down twice, is at most the exact one
+pub term-low : (s y c r T T' n d R : ℕ) → zero < s → T' * (n * s) ≤ T * y → y * c ≤ r * s → T * d ≤ s * R → T' * (d * (n * c)) ≤ s * (R * r)
+term-low s y c r T T' n d R hs h₁ h₂ h₃ =
+    le-of-mul-le-mul-right {k = s}
+    (simp sums
+    (omega (arith, simp sums at (mul-le-mul-right (c * d) h₁), simp sums at (mul-le-mul-left (T * d) h₂), simp sums at (mul-le-mul-right (r * s) h₃))))
+    hs
+
+-- and falls short of it by at most ε' where the last fell short by at most ε
+pub term-high : (s y c r T T' n d R ε ε' : ℕ) → zero < s → T * y ≤ (T' + 1) * (n * s) → r * s ≤ (y + 1) * c → s * R ≤ (T + ε) * d → T ≤ s → y + 1 ≤ s → 1 + n + ε ≤ ε' * n
+    → s * (R * r) ≤ (T' + ε') * (d * (n * c))
+term-high s y c r T T' n d R ε ε' hs h₁ h₂ h₃ hT hy hε =
+    le-of-mul-le-mul-right {k = s}
+    (simp sums
+    (omega (
+      arith,
+      simp sums at (mul-le-mul-right (r * s) h₃),
+      simp sums at (mul-le-mul-left ((T + ε) * d) h₂),
+      simp sums at (mul-le-mul-right (d * c) h₁),
+      simp sums at (mul-le-mul-right (d * c) hT),
+      simp sums at (mul-le-mul-right (ε * (d * c)) hy),
+      simp sums at (mul-le-mul-right (s * (d * c)) hε),
+    )))
+    hs
+
+-- A sum P of rounded terms against the exact sum hi / d, in s parts: what holds before a term holds after it, with the term's own error.
+
+pub minus-high : (s hi lo d n c P T R ε : ℕ) → lo + R ≡ hi * (n * c) → s * hi ≤ (P + T + ε) * d → T * (d * (n * c)) ≤ s * R → s * lo ≤ (P + ε) * (d * (n * c))
+minus-high s hi lo d n c P T R ε e h t =
+    simp sums (omega (arith, simp sums at (ap (λ (x : ℕ). s * x) e), simp sums at (mul-le-mul-right (n * c) h), simp sums at t))
+
+pub plus-high : (s lo d n c P T R ε ε' : ℕ) → s * lo ≤ (P + ε) * d → s * R ≤ (T + ε') * (d * (n * c)) → s * (lo * (n * c) + R) ≤ (P + T + (ε + ε')) * (d * (n * c))
+plus-high s lo d n c P T R ε ε' h t = simp sums (omega (arith, simp sums at (mul-le-mul-right (n * c) h), simp sums at t))
+
+pub minus-low : (s hi lo d n c P T R δ ε' : ℕ) → lo + R ≡ hi * (n * c) → (P + T) * d ≤ s * hi + δ * d → s * R ≤ (T + ε') * (d * (n * c)) → P * (d * (n * c)) ≤ s * lo + (δ + ε') * (d * (n * c))
+minus-low s hi lo d n c P T R δ ε' e h t =
+    simp sums (omega (arith, simp sums at (ap (λ (x : ℕ). s * x) e), simp sums at (mul-le-mul-right (n * c) h), simp sums at t))
+
+pub plus-low : (s lo d n c P T R δ : ℕ) → P * d ≤ s * lo + δ * d → T * (d * (n * c)) ≤ s * R → (P + T) * (d * (n * c)) ≤ s * (lo * (n * c) + R) + δ * (d * (n * c))
+plus-low s lo d n c P T R δ h t = simp sums (omega (arith, simp sums at (mul-le-mul-right (n * c) h), simp sums at t))
+
+-- A power, one factor more: E' is E * F / s, rounded down, and F is within a of s * h / b.
+
+pub power-high : (s E E' F h b H B ε a : ℕ) → zero < s → s * h ≤ (F + a) * b → s * H ≤ (E + ε) * B → E * F ≤ (E' + 1) * s → E ≤ s → s + a * s + ε * F + a * ε ≤ ε * s
+    → s * (H * h) ≤ (E' + ε) * (B * b)
+power-high s E E' F h b H B ε a hs h₁ h₂ h₃ hE side =
+    le-of-mul-le-mul-right {k = s}
+    (simp sums
+    (omega (
+      arith,
+      simp sums at (mul-le-mul h₂ h₁),
+      simp sums at (mul-le-mul-right (B * b) h₃),
+      simp sums at (mul-le-mul-right (a * (B * b)) hE),
+      simp sums at (mul-le-mul-right (B * b) side),
+    )))
+    hs
+
+pub power-low : (s E E' F l b L B δ a g : ℕ) → zero < s → F * b ≤ s * l + a * b → E * B ≤ s * L + δ * B → E' * s ≤ E * F → L ≤ B → s * l ≤ g * b → a * s + δ * g + a * δ ≤ δ * s
+    → E' * (B * b) ≤ s * (L * l) + δ * (B * b)
+power-low s E E' F l b L B δ a g hs h₁ h₂ h₃ hL hg side =
+    le-of-mul-le-mul-right {k = s}
+    (simp sums
+    (omega (
+      arith,
+      simp sums at (mul-le-mul h₂ h₁),
+      simp sums at (mul-le-mul-right (B * b) h₃),
+      simp sums at (mul-le-mul-right (s * (a * b)) hL),
+      simp sums at (mul-le-mul-right (δ * B) hg),
+      simp sums at (mul-le-mul-right (B * b) side),
+    )))
+    hs
+
+-- The product of the two, rounded down.
+
+pub product-high : (s P E W hi d H B ε η z : ℕ) → zero < s → s * hi ≤ (P + ε) * d → s * H ≤ (E + η) * B → P * E ≤ (W + 1) * s → P ≤ s → E ≤ s → s + η * s + ε * s + ε * η ≤ z * s
+    → s * (hi * H) ≤ (W + z) * (d * B)
+product-high s P E W hi d H B ε η z hs h₁ h₂ h₃ hP hE side =
+    le-of-mul-le-mul-right {k = s}
+    (simp sums
+    (omega (
+      arith,
+      simp sums at (mul-le-mul h₁ h₂),
+      simp sums at (mul-le-mul-right (d * B) h₃),
+      simp sums at (mul-le-mul-right (η * (d * B)) hP),
+      simp sums at (mul-le-mul-right (ε * (d * B)) hE),
+      simp sums at (mul-le-mul-right (d * B) side),
+    )))
+    hs
+
+pub product-low : (s P E W lo d L B ε η z : ℕ) → zero < s → P * d ≤ s * lo + ε * d → E * B ≤ s * L + η * B → W * s ≤ P * E → lo ≤ d → L ≤ B → η * s + ε * s + ε * η ≤ z * s
+    → W * (d * B) ≤ s * (lo * L) + z * (d * B)
+product-low s P E W lo d L B ε η z hs h₁ h₂ h₃ hlo hL side =
+    le-of-mul-le-mul-right {k = s}
+    (simp sums
+    (omega (
+      arith,
+      simp sums at (mul-le-mul h₁ h₂),
+      simp sums at (mul-le-mul-right (d * B) h₃),
+      simp sums at (mul-le-mul-right (s * (η * B)) hlo),
+      simp sums at (mul-le-mul-right (ε * (d * s)) hL),
+      simp sums at (mul-le-mul-right (d * B) side),
+    )))
+    hs

@@ -1,0 +1,247 @@
+-- What an update keeps, whatever its arguments: a hot set that passes its questions passes them again, it never holds more keys than its
+-- size, and the answer says whether the key is in it. And 01's points of an eviction. Assumes nothing.
+use mathlib.Core.Path.{_≡_, refl, sym, ap, _∙_, subst}
+use mathlib.Core.Bool.{Bool, true, false, cond, _||_}
+use mathlib.Core.List.{List, [], _∷_, map}
+use mathlib.Core.Option.{Option, none, some}
+use Prim.Native.Nat.{ℕ, _-_, _*_, _≤_}
+use native.Mathlib.Omega.{arith}
+use borrow.Author.Tests.{ltb-true, leb-true, le-leb, eqb-true}
+use lib.Dec.{T, ltb, leb, eqb}
+use lib.Ieee.{Float, binary64, ofBits, fits, lt, mul}
+use lib.ListN.{length}
+use Rattle.float.specs.Magnitude.{magnitude}
+use Rattle.records.specs.Records.{records, table, ascending}
+use Rattle.records.proofs.TestLaws.{split, both, and-intro}
+use Rattle.gcra.specs.Questions.{Question, given, refused, answer, passes}
+use Rattle.demand.specs.HotSet.{words, entries, allEntries, validEntries, validSize, valid, get, put, remove, weakestOf, weakest, Outcome, hotWith, coldWith, newEntry, renewed, evict, admit, promoteFrom, promote, cooled, coolFrom, cool, settle, belowThreshold, updateWith, there, isHot}
+use Rattle.demand.specs.HotSetCalls.{room, askNew, askSet, askUpdate, evictionMargin, held, newAnswer, updateAnswer, updated, rewritten, MadeNew, UpdatedWith}
+use Rattle.demand.specs.declared.hot_set.HotEntry.{HotEntry}
+use Rattle.demand.specs.declared.hot_set.HotSet.{HotSet}
+use Rattle.demand.specs.declared.hot_set.NewAnswer.{NewAnswer}
+use Rattle.demand.specs.declared.hot_set.UpdateAnswer.{UpdateAnswer}
+use Rattle.demand.specs.declared.hot_set.Updated.{Updated}
+use Rattle.demand.proofs.HotSetTests.{cooled-key, cooled-demand}
+use Rattle.demand.proofs.HotSetWords.{length-entries, records-table, entries-table, length-table}
+use Rattle.demand.proofs.HotSetMap.{Asc, hit, above-down, above-miss, asc-entries, hit-put-length, miss-put-length}
+use Rattle.demand.proofs.HotSetKept.{Good, Goods, fits-goods, goods-entries, valid-words, asc-remove, goods-remove, hit-remove-length, remove-le, none-remove, asc-put, goods-put, get-put, get-key, get-hit, get-miss, in-hit, weakest-in}
+use Rattle.demand.proofs.HotSetAnswers.{Passed, passed-set, update-passed-set}
+
+-- a removed key is not there
+get-remove : (k : ℕ) (es : List HotEntry) → Asc es → get k (remove k es) ≡ none
+unfolding get remove
+get-remove k [] a = refl
+get-remove k (e ∷ es) a = split (eqb (e .key) k)
+    (λ p. rw p (above-miss k es (above-down k (e .key) es (omega (arith, eqb-true (e .key) k p)) (a .0))))
+    (λ p. rw (p, p) (get-remove k es (a .1)))
+
+-- ---- what holds of every outcome
+pub record Kept (size key : ℕ) (o : Outcome) : Type 0 where
+  pub ascends : Asc (o .left)
+  pub good : Goods (o .left)
+  pub bound : length (o .left) ≤ size
+  pub says : isHot key (o .left) ≡ o .hot
+
+-- an outcome by a test
+by-test : {size key : ℕ} (b : Bool) (x y : Outcome) → (b ≡ true → Kept size key x) → (b ≡ false → Kept size key y) → Kept size key (cond b x y)
+by-test true x y f g = f refl
+by-test false x y f g = g refl
+
+module _ (margin : Float) (size key : ℕ) (demand : Float) (now : ℕ) (f : T (fits binary64 demand)) (m : magnitude demand ≡ true) (es : List HotEntry) (a : Asc es) (g : Goods es) (l : length es ≤ size) where
+  -- an entry put under the key
+  kept-put : (fs : List HotEntry) (x : HotEntry) → Asc fs → Goods fs → Good x → x .key ≡ key → length (put x fs) ≤ size → Kept size key (hotWith (put x fs))
+  kept-put fs x b h w k q = record {
+    ascends = asc-put x fs b;
+    good = goods-put x fs w h;
+    bound = q;
+    says = ap there (subst (λ (j : ℕ). get j (put x fs) ≡ some x) k (get-put x fs));
+  }
+
+  kept-there : (e x : HotEntry) → get key es ≡ some e → x .key ≡ e .key → Good x → Kept size key (hotWith (put x es))
+  kept-there e x q k w =
+      let j : x .key ≡ key = k ∙ get-key key es e q in
+      let h : hit (x .key) es ≡ true = ap (λ (i : ℕ). hit i es) j ∙ get-hit key es e a q in
+      kept-put es x a g w j (omega (arith, hit-put-length x es h))
+
+  kept-cold : get key es ≡ none → Kept size key (coldWith es)
+  kept-cold q = record { ascends = a; good = g; bound = l; says = ap there q }
+
+  kept-evict : (b : Bool) (o : Option HotEntry) → o ≡ weakest es → get key es ≡ none → Kept size key (evict margin (newEntry key demand b now) es o)
+  unfolding evict
+  kept-evict b none w q = kept-cold q
+  kept-evict b (some e) w q =
+      let x : HotEntry = newEntry key demand b now in
+      let one-less = hit-remove-length (e .key) es (in-hit es e a (weakest-in es e w)) in
+      let again = miss-put-length x (remove (e .key) es) (get-miss key (remove (e .key) es) x (none-remove key (e .key) es q)) in
+      by-test (lt (mul binary64 (e .demand) margin) demand) _ _
+      (λ t. kept-put (remove (e .key) es) x (asc-remove (e .key) es a) (goods-remove (e .key) es g) (f, m) refl (omega (arith, one-less, again)))
+      (λ t. kept-cold q)
+
+  kept-admit : (b : Bool) → get key es ≡ none → Kept size key (admit margin size (newEntry key demand b now) es)
+  unfolding admit
+  kept-admit b q =
+      let x : HotEntry = newEntry key demand b now in
+      by-test (ltb (length es) size) _ _
+      (λ t. kept-put es x a g (f, m) refl (omega (arith, ltb-true (length es) size t, miss-put-length x es (get-miss key es x q))))
+      (λ t. kept-evict b (weakest es) refl q)
+
+  kept-promote-from : (b : Bool) (o : Option HotEntry) → get key es ≡ o → Kept size key (promoteFrom margin size key demand b now es o)
+  unfolding promoteFrom
+  kept-promote-from b none q = kept-admit b q
+  kept-promote-from b (some e) q = kept-there e (renewed demand b e) q refl (f, m)
+
+  pub kept-promote : (b : Bool) → Kept size key (promote margin size key demand b now es)
+  unfolding promote
+  kept-promote b = kept-promote-from b (get key es) refl
+
+  -- an entry that cools
+  module _ (cooldown : ℕ) (elsewhere : Bool) where
+    kept-cooled : (e : HotEntry) → get key es ≡ some e → Kept size key (settle margin size key demand now elsewhere (put (cooled cooldown demand now e) es) (some (cooled cooldown demand now e)))
+    unfolding settle
+    kept-cooled e q =
+        let x : HotEntry = cooled cooldown demand now e in
+        let d : demand ≡ x .demand = sym (cooled-demand cooldown demand now e) in
+        let k : Kept size key (hotWith (put x es)) = kept-there e x q (cooled-key cooldown demand now e) (subst (λ (y : Float). T (fits binary64 y)) d f, ap magnitude (sym d) ∙ m) in
+        by-test (x .primary || elsewhere) _ _
+        (λ t. k)
+        (λ t. record {
+          ascends = asc-remove key (put x es) (k .ascends);
+          good = goods-remove key (put x es) (k .good);
+          bound = omega (arith, remove-le key (put x es), k .bound);
+          says = ap there (get-remove key (put x es) (k .ascends));
+        })
+
+    kept-below-from : (o : Option HotEntry) → get key es ≡ o → Kept size key (settle margin size key demand now elsewhere (coolFrom cooldown demand now es o) (get key (coolFrom cooldown demand now es o)))
+    unfolding settle
+    kept-below-from none q =
+        subst (λ (o : Option HotEntry). Kept size key (settle margin size key demand now elsewhere es o)) (sym q)
+        (by-test elsewhere _ _ (λ t. kept-promote false) (λ t. kept-cold q))
+    kept-below-from (some e) q =
+        let x : HotEntry = cooled cooldown demand now e in
+        let j : x .key ≡ key = cooled-key cooldown demand now e ∙ get-key key es e q in
+        subst (λ (o : Option HotEntry). Kept size key (settle margin size key demand now elsewhere (put x es) o))
+        (sym (subst (λ (i : ℕ). get i (put x es) ≡ some x) j (get-put x es)))
+        (kept-cooled e q)
+
+    pub kept-below : Kept size key (belowThreshold margin cooldown size key demand now elsewhere es)
+    unfolding belowThreshold cool
+    kept-below = kept-below-from (get key es) refl
+
+-- every update
+pub kept-update : (margin : Float) (s : HotSet) (key : ℕ) (demand threshold : Float) (now : ℕ) (elsewhere : Bool) → T (fits binary64 demand) → magnitude demand ≡ true → (es : List HotEntry) → Asc es → Goods es → length es ≤ s .«max_size» → Kept (s .«max_size») key (updateWith margin s key demand threshold now elsewhere es)
+unfolding updateWith
+kept-update margin s key demand threshold now elsewhere f m es a g l = by-test (lt threshold demand) _ _
+    (λ t. kept-promote margin (s .«max_size») key demand now f m es a g l true)
+    (λ t. kept-below margin (s .«max_size») key demand now f m es a g l (s .cooldown) elsewhere)
+
+-- ---- the same of the calls
+
+-- a value is given only where every question was passed
+given-passed : {A : Type 0} (qs : List Question) (u v : A) → given u ≡ answer qs v → (passes qs ≡ true) × (u ≡ v)
+unfolding answer passes
+given-passed [] u v e = (refl, cc)
+given-passed (q ∷ qs) u v e = split (q .passed)
+    (λ p. let r = given-passed qs u v (rw p at e) in (rw p (r .0), r .1))
+    (λ p. let w : given u ≡ refused (q .number) = rw p at e in let z : _≡_ {A = ℕ} 0 1 = cc in absurd (omega arith))
+
+-- entries as they should be, written in the words of a set, pass the questions
+pub passes-table : (s : HotSet) (xs : List ℕ) (es : List HotEntry) → validSize (s .«max_size») ≡ true → room (s .«max_size») ≤ length xs → s .len ≡ length es → length es ≤ s .«max_size» → Asc es → Goods es → passes (askSet s (table (map words es) xs)) ≡ true
+unfolding passes valid validSize
+passes-table s xs es z r n l a g =
+    let most = leb-true (s .«max_size») 64 (both (leb 1 (s .«max_size»)) _ z .1) in
+    let small : length es * 6 ≤ length xs = omega arith in
+    let good : validEntries (records 6 (s .len) (table (map words es) xs)) ≡ true = ap (λ (k : ℕ). validEntries (records 6 k (table (map words es) xs))) n ∙ ap validEntries (records-table es xs) ∙ valid-words es a g in
+    let long : leb (room (s .«max_size»)) (length (table (map words es) xs)) ≡ true = le-leb (room (s .«max_size»)) _ (omega (arith, length-table es xs small)) in
+    let count : leb (s .len) (s .«max_size») ≡ true = le-leb (s .len) (s .«max_size») (omega arith) in
+    and-intro _ _ long (and-intro _ _ (and-intro _ _ z (and-intro _ _ count good)) refl)
+
+module _ (s : HotSet) (xs : List ℕ) (key : ℕ) (demand threshold : Float) (now : ℕ) (elsewhere : Bool) (r : UpdateAnswer) (ys : List ℕ) (c : UpdatedWith s xs key demand threshold now elsewhere r ys) (f : T (fits binary64 demand)) (u : Updated) (e : updateAnswer r ≡ given u) where
+  abbrev pub outcome : Outcome
+  outcome = updateWith evictionMargin s key demand threshold now elsewhere (held s xs)
+
+  asked : (passes (askUpdate s xs demand) ≡ true) × (u ≡ updated s outcome)
+  asked = given-passed (askUpdate s xs demand) u (updated s outcome) (sym e ∙ c .answered)
+
+  before : Passed s xs
+  before = passed-set s xs (update-passed-set s xs demand (asked .0))
+
+  number : magnitude demand ≡ true
+  unfolding passes
+  number = both (magnitude demand) _ (both (valid s (records 6 (s .len) xs)) _ (both (leb (room (s .«max_size»)) (length xs)) _ (asked .0) .1) .1) .0
+
+  kept : Kept (s .«max_size») key outcome
+  kept =
+      let n = length-entries (s .len) xs in
+      let k = before .count in
+      kept-update evictionMargin s key demand threshold now elsewhere f number (held s xs) (asc-entries (s .len) xs (before .held)) (goods-entries (s .len) xs (before .held)) (omega arith)
+
+  small : length (outcome .left) * 6 ≤ length xs
+  small = omega (arith, kept .bound, before .space)
+
+  written : ys ≡ table (map words (outcome .left)) xs
+  unfolding passes
+  written = c .left ∙ ap (λ (b : Bool). cond b (rewritten outcome xs) xs) (asked .0)
+
+  read : held (u .set) ys ≡ outcome .left
+  read =
+      (λ i. entries (asked .1 i .set .len) (written i))
+      ∙ entries-table (outcome .left) xs (fits-goods (outcome .left) (kept .good))
+
+  -- never more than its size, which stays
+  pub size-kept : (u .set .len ≤ s .«max_size») × (u .set .«max_size» ≡ s .«max_size») × (u .set .cooldown ≡ s .cooldown)
+  size-kept =
+      (subst (λ (n : ℕ). n ≤ s .«max_size») (sym (ap (λ (v : Updated). v .set .len) (asked .1))) (kept .bound), ap (λ (v : Updated). v .set .«max_size») (asked .1), ap (λ (v : Updated). v .set .cooldown) (asked .1))
+
+  -- the answer says whether the key is in the set
+  pub answer-means : isHot key (held (u .set) ys) ≡ u .«is_hot»
+  answer-means = ap (isHot key) read ∙ kept .says ∙ sym (ap (λ (v : Updated). v .«is_hot») (asked .1))
+
+  sized : validSize (s .«max_size») ≡ true
+  unfolding validSize
+  sized = and-intro (leb 1 (s .«max_size»)) _ (le-leb 1 (s .«max_size») (before .some-size)) (le-leb (s .«max_size») 64 (before .most-size))
+
+  -- the set passes its questions again: its entries ascend and are valid
+  pub passed-again : passes (askSet (u .set) ys) ≡ true
+  passed-again =
+      let d : room (s .«max_size») ≤ length xs = let p = before .most-size in let q = before .space in omega arith in
+      (λ i. passes (askSet (asked .1 i .set) (written i)))
+      ∙ passes-table (updated s outcome .set) xs (outcome .left) sized d refl (kept .bound) (kept .ascends) (kept .good)
+
+-- what `new` gives passes the questions in the words it was asked with, and holds no key
+pub new-passes : (xs : List ℕ) (cooldown size : ℕ) (r : NewAnswer) (s : HotSet) → MadeNew xs cooldown size r → newAnswer r ≡ given s → (passes (askSet s xs) ≡ true) × (held s xs ≡ [])
+unfolding passes valid validEntries allEntries ascending records entries
+new-passes xs cooldown size r s c e =
+    let w = given-passed (askNew size xs) s (record { cooldown = cooldown; «max_size» = size; len = 0 }) (sym e ∙ c) in
+    let p = both (leb (room size) (length xs)) _ (w .0) in
+    let q = both (validSize size) _ (p .1) in
+    subst (λ (t : HotSet). (passes (askSet t xs) ≡ true) × (held t xs ≡ [])) (sym (w .1))
+    (and-intro _ _ (p .0) (and-intro _ _ (and-intro _ _ (q .0) (and-intro _ _ (le-leb 0 size (omega arith)) refl)) refl), refl)
+
+-- ---- 01: 'least 10, newcomer 11: no (10 × 1.1 is 11); 11.5: yes', in a full set of one
+abbrev pub ten : Float
+ten = ofBits binary64 0x4024000000000000
+
+abbrev pub eleven : Float
+eleven = ofBits binary64 0x4026000000000000
+
+abbrev pub eleven-and-a-half : Float
+eleven-and-a-half = ofBits binary64 0x4027000000000000
+
+-- the one key of a full set
+abbrev pub only : HotEntry
+only = newEntry 1 ten true 0
+
+abbrev pub full : HotSet
+full = record { cooldown = 0; «max_size» = 1; len = 1 }
+
+pub ten-by-margin : mul binary64 ten evictionMargin ≡ eleven
+unfolding ofBits mul
+ten-by-margin = refl
+
+pub eleven-stays-out : (now : ℕ) (elsewhere : Bool) → updateWith evictionMargin full 2 eleven ten now elsewhere (only ∷ []) ≡ coldWith (only ∷ [])
+unfolding ofBits mul lt updateWith promote promoteFrom get admit evict weakest weakestOf
+eleven-stays-out now elsewhere = refl
+
+pub eleven-and-a-half-comes-in : (now : ℕ) (elsewhere : Bool) → updateWith evictionMargin full 2 eleven-and-a-half ten now elsewhere (only ∷ []) ≡ hotWith (newEntry 2 eleven-and-a-half true now ∷ [])
+unfolding ofBits mul lt updateWith promote promoteFrom get admit evict weakest weakestOf put remove
+eleven-and-a-half-comes-in now elsewhere = refl

@@ -1,0 +1,208 @@
+-- Entries and their words: there and back, and records of entries in lent words. Assumes nothing.
+use mathlib.Core.Path.{_≡_, refl, sym, ap, _∙_}
+use mathlib.Core.Bool.{Bool, true, false, _&&_, _||_}
+use mathlib.Core.List.{List, [], _∷_, _++_, map}
+use Prim.Native.Nat.{ℕ, zero, suc, _+_, _-_, _*_, _≤_, _<_}
+use native.Mathlib.Nat.{add-zero}
+use native.Mathlib.Omega.{arith}
+use borrow.Author.Tests.{ltb-true, leb-true, eqb-true, eqb-false, le-leb, lt-leb, eq-eqb, ne-eqb}
+use lib.Dec.{T, leb, eqb, lit<}
+use lib.Ieee.{binary64, toBits, ofBits, fits}
+use lib.Ieee.Bits.{ofBits-toBits, toBits-ofBits, ofBits-fits}
+use lib.ListN.{length, getD, take, drop, length-map, length-drop}
+use lib.Seq.{getD-drop, getD-take, drop-append-add, drop-drop, length-take-le}
+use Rattle.float.specs.Magnitude.{magnitude}
+use Rattle.float.proofs.Patterns.{magnitude-bits, magnitude-no-nan}
+use Rattle.records.specs.Records.{records, flat, table}
+use Rattle.records.proofs.TestLaws.{split, both}
+use Rattle.records.proofs.TableLaws as records
+use Rattle.records.proofs.TableLaws.{Wide}
+use Rattle.records.proofs.RecordLaws.{length-records}
+use Rattle.demand.specs.HotSet.{flag, coolingFlag, coolingTime, words, cooling, entry, entries, isEntry, allEntries}
+use Rattle.demand.specs.declared.hot_set.Cooling.{Cooling}
+use Rattle.demand.specs.declared.hot_set.Cooling.the-variants.{Unset, Since}
+use Rattle.demand.specs.declared.hot_set.HotEntry.{HotEntry}
+
+-- ---- the tests of a record's words, which begin at `at`
+module _ (at : ℕ) (xs : List ℕ) where
+  abbrev pub word : ℕ → ℕ
+  word i = getD xs (at + i) 0
+
+  abbrev pub number : Bool
+  number = magnitude (ofBits binary64 (word 1))
+
+  is-entry-at : isEntry (drop at xs) ≡ (number && (leb (word 2) 1 && (leb (word 3) 1 && (eqb (word 3) 1 || eqb (word 4) 0))))
+  unfolding isEntry
+  is-entry-at = simp getD-drop
+
+  pub no-number : number ≡ false → false ≡ isEntry (drop at xs)
+  no-number e = rw is-entry-at (rw e)
+
+  pub no-primary : number ≡ true → 1 < word 2 → false ≡ isEntry (drop at xs)
+  no-primary e h = rw is-entry-at (rw (e, lt-leb (word 2) 1 h))
+
+  pub no-flag : number ≡ true → word 2 ≤ 1 → 1 < word 3 → false ≡ isEntry (drop at xs)
+  no-flag e h k = rw is-entry-at (rw (e, le-leb (word 2) 1 h, lt-leb (word 3) 1 k))
+
+  pub flag-set : number ≡ true → word 2 ≤ 1 → word 3 ≡ 1 → true ≡ isEntry (drop at xs)
+  flag-set e h k = rw is-entry-at (rw (e, le-leb (word 2) 1 h, le-leb (word 3) 1 (omega arith), eq-eqb (word 3) 1 k))
+
+  pub flag-clear : number ≡ true → word 2 ≤ 1 → word 3 ≤ 1 → (word 3 ≡ 1 → ⊥) → eqb (word 4) 0 ≡ isEntry (drop at xs)
+  flag-clear e h k l = rw is-entry-at (rw (e, le-leb (word 2) 1 h, le-leb (word 3) 1 k, ne-eqb (word 3) 1 l))
+
+pub entry-at : (at : ℕ) (xs : List ℕ) → entry (drop at xs) ≡ record {
+  key = getD xs at 0;
+  demand = ofBits binary64 (getD xs (at + 1) 0);
+  primary = eqb (getD xs (at + 2) 0) 1;
+  «cooling_since» = cooling (eqb (getD xs (at + 3) 0) 1) (getD xs (at + 4) 0);
+  since = getD xs (at + 5) 0;
+}
+unfolding entry
+entry-at at xs = simp (getD-drop, add-zero)
+
+-- only the first six words count
+pub is-entry-take : (r : List ℕ) → isEntry (take 6 r) ≡ isEntry r
+unfolding isEntry
+is-entry-take r = rw (getD-take 6 r 1 0 (lit< tt), getD-take 6 r 2 0 (lit< tt), getD-take 6 r 3 0 (lit< tt), getD-take 6 r 4 0 (lit< tt))
+
+pub entry-take : (r : List ℕ) → entry (take 6 r) ≡ entry r
+unfolding entry
+entry-take r = rw (getD-take 6 r 0 0 (lit< tt), getD-take 6 r 1 0 (lit< tt), getD-take 6 r 2 0 (lit< tt), getD-take 6 r 3 0 (lit< tt), getD-take 6 r 4 0 (lit< tt), getD-take 6 r 5 0 (lit< tt))
+
+-- ---- there and back
+T-of : (b : Bool) → b ≡ true → T b
+T-of b e = rw e tt
+
+pub bits-back : (b : ℕ) → magnitude (ofBits binary64 b) ≡ true → toBits binary64 (ofBits binary64 b) ≡ b
+bits-back b e =
+    let h : b < 9218868437227405312 = ltb-true b 9218868437227405312 (magnitude-bits binary64 b ∙ e) in
+    toBits-ofBits binary64 b (omega arith) (magnitude-no-nan (ofBits binary64 b) (T-of (magnitude (ofBits binary64 b)) e))
+
+flag-back : (p : ℕ) → p ≤ 1 → flag (eqb p 1) ≡ p
+flag-back p h = split (eqb p 1)
+    (λ e. ap flag e ∙ sym (eqb-true p 1 e))
+    (λ e. ap flag e ∙ let k = eqb-false p 1 e in omega arith)
+
+cooling-flag-back : (f t : ℕ) → f ≤ 1 → coolingFlag (cooling (eqb f 1) t) ≡ f
+cooling-flag-back f t h = split (eqb f 1)
+    (λ e. ap (λ (b : Bool). coolingFlag (cooling b t)) e ∙ sym (eqb-true f 1 e))
+    (λ e. ap (λ (b : Bool). coolingFlag (cooling b t)) e ∙ let k = eqb-false f 1 e in omega arith)
+
+cooling-time-back : (f t : ℕ) → (eqb f 1 || eqb t 0) ≡ true → coolingTime (cooling (eqb f 1) t) ≡ t
+cooling-time-back f t h = split (eqb f 1)
+    (λ e. ap (λ (b : Bool). coolingTime (cooling b t)) e)
+    (λ e. ap (λ (b : Bool). coolingTime (cooling b t)) e ∙ sym (eqb-true t 0 (sym (ap (λ (b : Bool). b || eqb t 0) e) ∙ h)))
+
+pub words-entry : (r : List ℕ) → length r ≡ 6 → isEntry r ≡ true → words (entry r) ≡ r
+unfolding words entry isEntry
+words-entry (a ∷ b ∷ p ∷ f ∷ t ∷ s ∷ []) h g =
+    let m = both (magnitude (ofBits binary64 b)) _ g in
+    let q = both (leb p 1) _ (m .1) in
+    let u = both (leb f 1) _ (q .1) in
+    rw (bits-back b (m .0), flag-back p (leb-true p 1 (q .0)), cooling-flag-back f t (leb-true f 1 (u .0)), cooling-time-back f t (u .1))
+words-entry [] h g = absurd (omega arith)
+words-entry (a ∷ []) h g = absurd (omega arith)
+words-entry (a ∷ b ∷ []) h g = absurd (omega arith)
+words-entry (a ∷ b ∷ p ∷ []) h g = absurd (omega arith)
+words-entry (a ∷ b ∷ p ∷ f ∷ []) h g = absurd (omega arith)
+words-entry (a ∷ b ∷ p ∷ f ∷ t ∷ []) h g = absurd (omega arith)
+words-entry (a ∷ b ∷ p ∷ f ∷ t ∷ s ∷ z ∷ zs) h g = absurd (omega arith)
+
+flag-read : (b : Bool) → eqb (flag b) 1 ≡ b
+flag-read true = refl
+flag-read false = refl
+
+cooling-read : (c : Cooling) → cooling (eqb (coolingFlag c) 1) (coolingTime c) ≡ c
+cooling-read Unset = refl
+cooling-read (Since t) = refl
+
+pub entry-words : (e : HotEntry) → T (fits binary64 (e .demand)) → entry (words e) ≡ e
+unfolding words entry
+entry-words e F = rw (ofBits-toBits binary64 (e .demand) F, flag-read (e .primary), cooling-read (e .«cooling_since»))
+
+pub length-words : (e : HotEntry) → length (words e) ≡ 6
+unfolding words
+length-words e = refl
+
+flag-small : (b : Bool) → leb (flag b) 1 ≡ true
+flag-small true = refl
+flag-small false = refl
+
+cooling-small : (c : Cooling) → leb (coolingFlag c) 1 ≡ true
+cooling-small Unset = refl
+cooling-small (Since t) = refl
+
+cooling-zero : (c : Cooling) → (eqb (coolingFlag c) 1 || eqb (coolingTime c) 0) ≡ true
+cooling-zero Unset = refl
+cooling-zero (Since t) = refl
+
+pub is-entry-words : (e : HotEntry) → T (fits binary64 (e .demand)) → magnitude (e .demand) ≡ true → isEntry (words e) ≡ true
+unfolding words isEntry
+is-entry-words e F m = rw (ofBits-toBits binary64 (e .demand) F, m, flag-small (e .primary), cooling-small (e .«cooling_since»), cooling-zero (e .«cooling_since»))
+
+-- ---- the first n records
+pub length-entries : (n : ℕ) (xs : List ℕ) → length (entries n xs) ≡ n
+unfolding entries
+length-entries n xs = length-map (records 6 n xs) entry ∙ length-records 6 n xs
+
+-- records that are entries are the words of what they stand for
+pub words-entries : (n : ℕ) (xs : List ℕ) → n * 6 ≤ length xs → allEntries (records 6 n xs) ≡ true → map words (entries n xs) ≡ records 6 n xs
+unfolding entries records allEntries
+words-entries zero xs h a = refl
+words-entries (suc n) xs h a =
+    let b = both (isEntry (take 6 xs)) _ a in
+    (λ i.
+    words-entry (take 6 xs) (length-take-le 6 xs (omega arith)) (b .0) i
+    ∷ words-entries n (drop 6 xs) (simp length-drop (omega arith)) (b .1) i)
+
+pub wide-words : (es : List HotEntry) → Wide 6 (map words es)
+wide-words [] = tt
+wide-words (e ∷ es) = (length-words e, wide-words es)
+
+-- six words an entry
+pub length-flat : (es : List HotEntry) → length (flat (map words es)) ≡ length es * 6
+length-flat es = records.length-flat 6 (map words es) (wide-words es) ∙ ap (λ (n : ℕ). n * 6) (length-map es words)
+
+-- every demand is one that the format holds
+abbrev pub Fit : HotEntry → Type 0
+Fit e = T (fits binary64 (e .demand))
+
+abbrev pub Fits : List HotEntry → Type 0
+Fits [] = Unit
+Fits (e ∷ es) = Fit e × Fits es
+
+back : (es : List HotEntry) → Fits es → map entry (map words es) ≡ es
+back [] f = refl
+back (e ∷ es) f = (λ i. entry-words e (f .0) i ∷ back es (f .1) i)
+
+-- what was written is read
+pub records-table : (es : List HotEntry) (xs : List ℕ) → records 6 (length es) (table (map words es) xs) ≡ map words es
+records-table es xs = records.records-table 6 (length es) (map words es) xs (wide-words es) (length-map es words)
+
+pub entries-table : (es : List HotEntry) (xs : List ℕ) → Fits es → entries (length es) (table (map words es) xs) ≡ es
+unfolding entries
+entries-table es xs f = ap (map entry) (records-table es xs) ∙ back es f
+
+pub length-table : (es : List HotEntry) (xs : List ℕ) → length es * 6 ≤ length xs → length (table (map words es) xs) ≡ length xs
+length-table es xs h = records.length-table (map words es) xs (omega (arith, length-flat es))
+
+-- a table that is written over by no fewer words leaves no trace
+over : (rs ss : List (List ℕ)) (xs : List ℕ) → length (flat rs) ≤ length (flat ss) → table ss (table rs xs) ≡ table ss xs
+unfolding table
+over rs ss xs h =
+    let a : ℕ = length (flat rs) in
+    let b : ℕ = length (flat ss) in
+    let e : a + (b - a) ≡ b = omega arith in
+    ap (λ (l : List ℕ). flat ss ++ l)
+    (ap (λ (m : ℕ). drop m (flat rs ++ drop a xs)) (sym e)
+    ∙ drop-append-add (flat rs) (drop a xs) (b - a)
+    ∙ drop-drop (b - a) a xs
+    ∙ ap (λ (m : ℕ). drop m xs) e)
+
+pub table-table : (es fs : List HotEntry) (xs : List ℕ) → length es ≤ length fs → table (map words fs) (table (map words es) xs) ≡ table (map words fs) xs
+table-table es fs xs h = over (map words es) (map words fs) xs (omega (arith, length-flat es, length-flat fs))
+
+pub fits-entries : (n : ℕ) (xs : List ℕ) → Fits (entries n xs)
+unfolding entries records entry
+fits-entries zero xs = tt
+fits-entries (suc n) xs = (ofBits-fits binary64 _, fits-entries n (drop 6 xs))

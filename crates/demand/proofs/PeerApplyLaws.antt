@@ -1,0 +1,212 @@
+-- Laws: what a report that passed its questions finds in the tables, and what they hold after it. Assumes nothing.
+use mathlib.Core.Path.{_≡_, refl, sym, ap, _∙_}
+use mathlib.Core.Bool.{Bool, true, false, cond, _||_}
+use mathlib.Core.List.{List, [], _∷_, _++_, map}
+use mathlib.Core.Option.{Option, none, some}
+use Prim.Native.Nat.{ℕ, suc, _+_, _-_, _*_, _≤_, _<_}
+use native.Mathlib.Omega.{arith}
+use borrow.Author.Tests.{lt-ltb, le-ltb, leb-true, le-leb, lt-leb}
+use lib.Dec.{ltb, leb}
+use lib.ListN.{length, take, drop, length-append, length-map}
+use lib.Seq.{length-take-le}
+use Rattle.records.specs.Records.{records, flat, table, ascending}
+use Rattle.records.proofs.TestLaws.{split, both}
+use Rattle.records.proofs.RecordLaws.{length-records}
+use Rattle.records.proofs.TableLaws.{Wide, length-flat, records-table, drop-table, length-table}
+use Rattle.float.specs.Magnitude.{magnitude}
+use Rattle.demand.specs.declared.peer_demand.KeyDemand.{KeyDemand}
+use Rattle.demand.specs.declared.peer_demand.DemandReport.{DemandReport}
+use Rattle.demand.specs.declared.peer_demand.PeerDemand.{PeerDemand}
+use Rattle.gcra.specs.Questions.{firstNo}
+use Rattle.demand.specs.PeerLists.{all}
+use Rattle.demand.specs.PeerRecords.{Snapshot, PeerRecord, SnapshotKey, ContestedKey, timeWords, snapshotWords, pastWords, peerWords, snapshotKeyWords, contestedWords, peerOf, snapshotKeyOf, contestedOf}
+use Rattle.demand.specs.PeerState.{PeerTables, isKnown, haveRoom, stateOf, exact, areExact, isValid, valid, Holds}
+use Rattle.demand.specs.PeerChanges as changes
+use Rattle.demand.specs.PeerCalls.{peersQuestions, reportQuestions}
+use Rattle.demand.specs.PeerRuns.{keysIn, contestedIn, peersIn, Tabled, Passed, Known}
+use Rattle.demand.proofs.PeerWordLaws.{words-of-exact}
+use Rattle.demand.proofs.PeerValidLaws.{Roomy, room-says}
+use Rattle.demand.proofs.PeerTableLaws.{drop-more}
+use Rattle.demand.proofs.PeerKeptLaws.{ValidState, valid-says, few-keys, few-contested}
+
+-- ---- the questions
+
+step : (b : Bool) (x n : ℕ) → cond b x (suc n) ≡ 0 → (b ≡ true) × (x ≡ 0)
+step true x n e = (refl, e)
+step false x n e = absurd (no-suc n e)
+  where
+    no-suc : (n : ℕ) → suc n ≡ 0 → ⊥
+    no-suc n e = omega arith
+
+pub record Sound (p : PeerDemand) (t : PeerTables) (id : ℕ) (r : DemandReport) : Type 0 where
+  pub room : haveRoom t ≡ true
+  pub state : isValid p t ≡ true
+  pub count : r .count ≤ 64
+  pub demands : all (λ (k : KeyDemand). magnitude (k .demand)) (changes.listed r) ≡ true
+  pub place : (isKnown (stateOf p t .peers) id || ltb (length (stateOf p t .peers)) 32) ≡ true
+
+pub passed-says : (p : PeerDemand) (t : PeerTables) (id : ℕ) (r : DemandReport) → Passed p t id r → Sound p t id r
+unfolding firstNo
+passed-says p t id r e =
+    let a = step (haveRoom t) _ 0 (e .questions) in
+    let b = step (isValid p t) _ 1 (a .1) in
+    let c = step (leb (r .count) 64) _ 9 (b .1) in
+    let d = step (all (λ (k : KeyDemand). magnitude (k .demand)) (changes.listed r)) _ 10 (c .1) in
+    let f = step (isKnown (stateOf p t .peers) id || ltb (length (stateOf p t .peers)) 32) _ 11 (d .1) in
+    record { room = a .0; state = b .0; count = leb-true (r .count) 64 (c .0); demands = d .0; place = f .0 }
+
+module _ (p : PeerDemand) (t : PeerTables) (id : ℕ) (r : DemandReport) where
+  pub report-no : (n : ℕ) → n ≡ firstNo (peersQuestions p t) → (n ≡ 0 → ⊥) → n ≡ firstNo (reportQuestions p t id r)
+  unfolding firstNo
+  report-no n e h = split (haveRoom t)
+      (λ a. split (isValid p t)
+      (λ b. absurd (h (e ∙ (λ i. cond (a i) (cond (b i) 0 2) 1))))
+      (λ b. e ∙ (λ i. cond (a i) (cond (b i) 0 2) 1) ∙ sym (λ i. cond (a i) (cond (b i) (cond (leb (r .count) 64) (cond (all (λ (k : KeyDemand). magnitude (k .demand)) (changes.listed r)) (cond (isKnown (stateOf p t .peers) id || ltb (length (stateOf p t .peers)) 32) 0 12) 11) 10) 2) 1)))
+      (λ a. e ∙ ap (λ (b : Bool). cond b (cond (isValid p t) 0 2) 1) a ∙ sym (ap (λ (b : Bool). cond b (cond (isValid p t) (cond (leb (r .count) 64) (cond (all (λ (k : KeyDemand). magnitude (k .demand)) (changes.listed r)) (cond (isKnown (stateOf p t .peers) id || ltb (length (stateOf p t .peers)) 32) 0 12) 11) 10) 2) 1) a))
+
+  -- questions 1 and 2 passed: the others decide
+  module _ (n : ℕ) (e : n ≡ firstNo (peersQuestions p t)) (z : n ≡ 0) where
+    pub asked : (haveRoom t ≡ true) × (isValid p t ≡ true)
+    unfolding firstNo
+    asked =
+        let a = step (haveRoom t) (cond (isValid p t) 0 2) 0 (sym e ∙ z) in
+        (a .0, step (isValid p t) 0 1 (a .1) .0)
+
+    pub report-asks : firstNo (reportQuestions p t id r) ≡ cond (leb (r .count) 64) (cond (all (λ (k : KeyDemand). magnitude (k .demand)) (changes.listed r)) (cond (isKnown (stateOf p t .peers) id || ltb (length (stateOf p t .peers)) 32) 0 12) 11) 10
+    unfolding firstNo
+    report-asks = (λ i. cond (asked .0 i) (cond (asked .1 i) (cond (leb (r .count) 64) (cond (all (λ (k : KeyDemand). magnitude (k .demand)) (changes.listed r)) (cond (isKnown (stateOf p t .peers) id || ltb (length (stateOf p t .peers)) 32) 0 12) 11) 10) 2) 1)
+
+    pub report-ten : 64 < r .count → 10 ≡ firstNo (reportQuestions p t id r)
+    report-ten h = sym (report-asks ∙ ap (λ (b : Bool). cond b (cond (all (λ (k : KeyDemand). magnitude (k .demand)) (changes.listed r)) (cond (isKnown (stateOf p t .peers) id || ltb (length (stateOf p t .peers)) 32) 0 12) 11) 10) (lt-leb (r .count) 64 h))
+
+    pub report-rest : r .count ≤ 64 → (b c : Bool) → b ≡ all (λ (k : KeyDemand). magnitude (k .demand)) (changes.listed r) → c ≡ (isKnown (stateOf p t .peers) id || ltb (length (stateOf p t .peers)) 32) → cond b (cond c 0 12) 11 ≡ firstNo (reportQuestions p t id r)
+    report-rest h b c eb ec = sym (report-asks ∙ ap (λ (x : Bool). cond x (cond (all (λ (k : KeyDemand). magnitude (k .demand)) (changes.listed r)) (cond (isKnown (stateOf p t .peers) id || ltb (length (stateOf p t .peers)) 32) 0 12) 11) 10) (le-leb (r .count) 64 h) ∙ sym (λ i. cond (eb i) (cond (ec i) 0 12) 11))
+
+    pub report-eleven : r .count ≤ 64 → (b : Bool) → b ≡ all (λ (k : KeyDemand). magnitude (k .demand)) (changes.listed r) → b ≡ false → 11 ≡ firstNo (reportQuestions p t id r)
+    report-eleven h b eb f = sym (ap (λ (x : Bool). cond x (cond (isKnown (stateOf p t .peers) id || ltb (length (stateOf p t .peers)) 32) 0 12) 11) f) ∙ report-rest h b _ eb refl
+
+    pub report-place : r .count ≤ 64 → (b : Bool) → b ≡ all (λ (k : KeyDemand). magnitude (k .demand)) (changes.listed r) → b ≡ true → (c : Bool) → c ≡ (isKnown (stateOf p t .peers) id || ltb (length (stateOf p t .peers)) 32) → cond c 0 12 ≡ firstNo (reportQuestions p t id r)
+    report-place h b eb f c ec = sym (ap (λ (x : Bool). cond x (cond c 0 12) 11) f) ∙ report-rest h b c eb ec
+
+  or-true : (a : Bool) → (a || true) ≡ true
+  or-true true = refl
+  or-true false = refl
+
+  -- places free; none free, and the peer known or not
+  pub place-free : p .peers < 32 → true ≡ (isKnown (stateOf p t .peers) id || ltb (length (stateOf p t .peers)) 32)
+  unfolding stateOf
+  place-free h = sym (ap (λ (b : Bool). isKnown (peersIn (p .peers) (t .peers)) id || b) (lt-ltb (length (peersIn (p .peers) (t .peers))) 32 (omega (arith, length-map (records 12 (p .peers) (t .peers)) peerOf, length-records 12 (p .peers) (t .peers)))) ∙ or-true (isKnown (peersIn (p .peers) (t .peers)) id))
+
+  or-false : (a : Bool) → (a || false) ≡ a
+  or-false true = refl
+  or-false false = refl
+
+  pub place-full : 32 ≤ p .peers → (b : Bool) → b ≡ isKnown (peersIn (p .peers) (t .peers)) id → b ≡ (isKnown (stateOf p t .peers) id || ltb (length (stateOf p t .peers)) 32)
+  unfolding stateOf
+  place-full h b e = e ∙ sym (ap (λ (x : Bool). isKnown (peersIn (p .peers) (t .peers)) id || x) (le-ltb (length (peersIn (p .peers) (t .peers))) 32 (omega (arith, length-map (records 12 (p .peers) (t .peers)) peerOf, length-records 12 (p .peers) (t .peers)))) ∙ or-false (isKnown (peersIn (p .peers) (t .peers)) id))
+
+-- ---- the tables of a valid state
+pub record Tables (p : PeerDemand) (t : PeerTables) : Type 0 where
+  pub roomy : Roomy t
+  pub peers-exact : records 12 (p .peers) (t .peers) ≡ map peerWords (peersIn (p .peers) (t .peers))
+  pub keys-exact : records 4 (p .«snapshot_keys») (t .snapshotKeys) ≡ map snapshotKeyWords (keysIn (p .«snapshot_keys») (t .snapshotKeys))
+  pub contested-exact : records 6 (p .contested) (t .contested) ≡ map contestedWords (contestedIn (p .contested) (t .contested))
+  pub valids : ValidState (stateOf p t)
+
+pub tables-of : (p : PeerDemand) (t : PeerTables) → haveRoom t ≡ true → isValid p t ≡ true → Tables p t
+unfolding isValid areExact
+tables-of p t h e =
+    let a = both (areExact p t) (valid (stateOf p t)) e in
+    let b = both (exact peerWords peerOf (records 12 (p .peers) (t .peers))) _ (a .0) in
+    let c = both (exact snapshotKeyWords snapshotKeyOf (records 4 (p .«snapshot_keys») (t .snapshotKeys))) _ (b .1) in
+    record {
+      roomy = room-says t h;
+      peers-exact = sym (words-of-exact peerWords peerOf (records 12 (p .peers) (t .peers)) (b .0));
+      keys-exact = sym (words-of-exact snapshotKeyWords snapshotKeyOf (records 4 (p .«snapshot_keys») (t .snapshotKeys)) (c .0));
+      contested-exact = sym (words-of-exact contestedWords contestedOf (records 6 (p .contested) (t .contested)) (c .1));
+      valids = valid-says (stateOf p t) (a .1);
+    }
+
+module _ (p : PeerDemand) (t : PeerTables) (o : Tables p t) where
+  peers-count : p .peers ≤ 32
+  unfolding stateOf
+  peers-count = omega (arith, o .valids .few-peers, length-map (records 12 (p .peers) (t .peers)) peerOf, length-records 12 (p .peers) (t .peers))
+
+  keys-count : p .«snapshot_keys» ≤ 2048
+  unfolding stateOf
+  keys-count = omega (arith, few-keys (stateOf p t) (o .valids), length-map (records 4 (p .«snapshot_keys») (t .snapshotKeys)) snapshotKeyOf, length-records 4 (p .«snapshot_keys») (t .snapshotKeys))
+
+  contested-count : p .contested ≤ 8192
+  unfolding stateOf
+  contested-count = omega (arith, few-contested (stateOf p t) (o .valids), length-map (records 6 (p .contested) (t .contested)) contestedOf, length-records 6 (p .contested) (t .contested))
+
+  pub peers-fit : p .peers * 12 ≤ length (t .peers)
+  peers-fit = omega (arith, peers-count, o .roomy .peers)
+
+  pub keys-fit : p .«snapshot_keys» * 4 ≤ length (t .snapshotKeys)
+  keys-fit = omega (arith, keys-count, o .roomy .snapshotKeys)
+
+  pub contested-fit : p .contested * 6 ≤ length (t .contested)
+  contested-fit = omega (arith, contested-count, o .roomy .contested)
+
+  pub known-table : Known (p .peers) (t .peers)
+  unfolding stateOf
+  known-table = record {
+    fit = peers-fit;
+    exact = o .peers-exact;
+    valids = o .valids .peers;
+    ascends = ap (ascending 1) (o .peers-exact) ∙ o .valids .peers-ascend;
+  }
+
+  pub keys-asc : ascending 2 (records 4 (p .«snapshot_keys») (t .snapshotKeys)) ≡ true
+  unfolding stateOf
+  keys-asc = ap (ascending 2) (o .keys-exact) ∙ o .valids .keys-ascend
+
+  pub contested-asc : ascending 2 (records 6 (p .contested) (t .contested)) ≡ true
+  unfolding stateOf
+  contested-asc = ap (ascending 2) (o .contested-exact) ∙ o .valids .contested-ascend
+
+-- ---- a table with its records, as a promise
+pub holds-of : (w size n : ℕ) (rs : List (List ℕ)) (xs ys : List ℕ) → Tabled n rs xs ys → Wide w rs → length rs * w ≤ size → size ≤ length xs → Holds w size n rs xs ys
+holds-of w size n rs xs ys t wide few room =
+    let l : length (flat rs) ≡ length rs * w = length-flat w rs wide in
+    let k : length (table rs xs) ≡ length xs = length-table rs xs (omega (arith, l)) in
+    let d : drop size (table rs xs) ≡ drop size xs =
+    drop-more (length (flat rs)) size xs (table rs xs) (omega (arith, l)) (drop-table rs xs) in
+    record {
+      count = t .count;
+      front = ap (records w n) (t .words) ∙ records-table w n rs xs wide (sym (t .count));
+      rest = ap (drop size) (t .words) ∙ d;
+      as-long = ap length (t .words) ∙ k;
+    }
+
+pub wide-map : {A : Type 0} (words : A → List ℕ) (w : ℕ) → ((x : A) → length (words x) ≡ w) → (xs : List A) → Wide w (map words xs)
+wide-map words w h [] = tt
+wide-map words w h (x ∷ xs) = (h x, wide-map words w h xs)
+
+pub holds-same : {A : Type 0} (words : A → List ℕ) (w size n : ℕ) (vs : List A) (xs : List ℕ) → records w n xs ≡ map words vs → Holds w size n (map words vs) xs xs
+holds-same words w size n vs xs e = record { count = sym (length-records w n xs) ∙ ap length e; front = e; rest = refl; as-long = refl }
+
+pub peer-long : (p : PeerRecord) → length (peerWords p) ≡ 12
+unfolding peerWords
+peer-long p = by (p .heldUntil) (p .snapshot) (p .pastEpochs)
+  where
+    four : (es : List ℕ) → length (take 4 (es ++ (0 ∷ 0 ∷ 0 ∷ 0 ∷ []))) ≡ 4
+    four es = length-take-le 4 (es ++ (0 ∷ 0 ∷ 0 ∷ 0 ∷ [])) (omega (arith, length-append es (0 ∷ 0 ∷ 0 ∷ 0 ∷ []), four-zeros))
+      where
+        four-zeros : length {A = ℕ} (0 ∷ 0 ∷ 0 ∷ 0 ∷ []) ≡ 4
+        four-zeros = refl
+
+    by : (h : Option ℕ) (s : Option Snapshot) (es : List ℕ) → length (p .id ∷ (timeWords h ++ (snapshotWords s ++ pastWords es))) ≡ 12
+    by none none es = ap (λ (m : ℕ). suc (suc (suc (suc (suc (suc (suc (suc m)))))))) (four es)
+    by none (some s) es = ap (λ (m : ℕ). suc (suc (suc (suc (suc (suc (suc (suc m)))))))) (four es)
+    by (some h) none es = ap (λ (m : ℕ). suc (suc (suc (suc (suc (suc (suc (suc m)))))))) (four es)
+    by (some h) (some s) es = ap (λ (m : ℕ). suc (suc (suc (suc (suc (suc (suc (suc m)))))))) (four es)
+
+pub key-long : (k : SnapshotKey) → length (snapshotKeyWords k) ≡ 4
+unfolding snapshotKeyWords
+key-long k = refl
+
+pub contested-long : (c : ContestedKey) → length (contestedWords c) ≡ 6
+unfolding contestedWords
+contested-long c = refl

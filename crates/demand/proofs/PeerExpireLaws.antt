@@ -1,0 +1,301 @@
+-- Laws: what is left of a state as time goes, one test a record, and the tables that hold it. Assumes nothing.
+use Prim.Native.Nat.{ℕ, zero, suc, _+_, _-_, _*_, _≤_, _<_}
+use mathlib.Core.Path.{_≡_, refl, sym, ap, _∙_, subst}
+use mathlib.Core.Bool.{Bool, true, false, cond, not, _&&_, _||_}
+use mathlib.Core.List.{List, [], _∷_, _++_, map}
+use mathlib.Core.Option.{Option, none}
+use native.Mathlib.Nat.{mul-le-mul-right}
+use native.Mathlib.Omega.{arith}
+use lib.Dec.{eqb}
+use lib.ListN.{length, take, drop, getD, length-take, length-drop}
+use Rattle.records.specs.Records.{records, key, before, leads, ascending, same}
+use Rattle.records.proofs.TestLaws.{contradiction, split, both, and-intro, same-truth}
+use Rattle.records.proofs.RecordLaws.{length-records}
+use Rattle.records.proofs.OrderLaws.{before-trans}
+use Rattle.records.proofs.EditLaws.{asc-tail}
+use Rattle.records.proofs.TableLaws.{Wide}
+use Rattle.demand.specs.declared.peer_demand.PeerDemand.{PeerDemand}
+use Rattle.demand.specs.PeerLists.{only, all, any}
+use Rattle.demand.specs.PeerRecords.{PeerRecord, SnapshotKey, ContestedKey, peerWords, snapshotKeyWords, contestedWords, peerOf, snapshotKeyOf, contestedOf}
+use Rattle.demand.specs.PeerState.{PeersState, PeerTables, peersSize, snapshotKeysSize, contestedSize, exact, stateOf, isTaken, isHeld, isKnown, hasSnapshot, Holds, Stores}
+use Rattle.demand.specs.PeerChanges.{holdEnded, notEnded, expireHolds, expireAge, expire, agePeer, isLeft, isFresh, isFreshSnapshot, isHeldPeer, freshContested, freshPeers}
+use Rattle.demand.specs.PeerSteps.{inOrder, staysContested, staysPeer}
+use Rattle.demand.proofs.PeerWordLaws.{words-of-exact, contested-of-words, peer-of-words}
+use Rattle.demand.proofs.PeerRangeLaws.{only-yes, only-no, only-same, only-only, map-only, any-map, any-only}
+use Rattle.demand.proofs.PeerTableLaws.{InOrder, in-order-says, in-order-intro, holds-more}
+use Rattle.demand.proofs.PeerStoreLaws.{Sound, Tables, map-map}
+
+-- ---- fewer records
+
+pub length-only : {A : Type 0} (p : A → Bool) (xs : List A) → length (only p xs) ≤ length xs
+unfolding only
+length-only p [] = omega arith
+length-only p (x ∷ xs) = split (p x)
+    (λ e. let q : length (only p (x ∷ xs)) ≡ suc (length (only p xs)) = ap length (only-yes p x xs e) in omega (arith, length-only p xs))
+    (λ e. let q : length (only p (x ∷ xs)) ≡ length (only p xs) = ap length (only-no p x xs e) in omega (arith, length-only p xs))
+
+-- a key before that of a record is before those of the records after it
+leads-only : (d : ℕ) (r : List ℕ) (p : List ℕ → Bool) (rs : List (List ℕ)) → leads d r rs ≡ true → ascending d rs ≡ true → leads d r (only p rs) ≡ true
+unfolding leads only
+leads-only d r p [] l a = refl
+leads-only d r p (s ∷ rs) l a = split (p s)
+    (λ e. ap (leads d r) (only-yes p s rs e) ∙ l)
+    (λ e. ap (leads d r) (only-no p s rs e) ∙ leads-only d r p rs (next rs l (asc-tail d s rs a .0)) (asc-tail d s rs a .1))
+  where
+    next : (rs : List (List ℕ)) → before (key d r) (key d s) ≡ true → leads d s rs ≡ true → leads d r rs ≡ true
+    next [] h k = refl
+    next (t ∷ ts) h k = before-trans (key d r) (key d s) (key d t) h k
+
+pub ascending-only : (d : ℕ) (p : List ℕ → Bool) (rs : List (List ℕ)) → ascending d rs ≡ true → ascending d (only p rs) ≡ true
+unfolding ascending only
+ascending-only d p [] a = refl
+ascending-only d p (r ∷ rs) a =
+    let t = asc-tail d r rs a in
+    split (p r)
+    (λ e. ap (ascending d) (only-yes p r rs e) ∙ and-intro (leads d r (only p rs)) (ascending d (only p rs)) (leads-only d r p rs (t .0) (t .1)) (ascending-only d p rs (t .1)))
+    (λ e. ap (ascending d) (only-no p r rs e) ∙ ascending-only d p rs (t .1))
+
+-- records with the same keys
+pub ascending-same : {A : Type 0} (d : ℕ) (f g : A → List ℕ) → ((x : A) → key d (f x) ≡ key d (g x)) → (xs : List A) → ascending d (map f xs) ≡ ascending d (map g xs)
+unfolding ascending leads
+ascending-same d f g h [] = refl
+ascending-same d f g h (x ∷ []) = refl
+ascending-same d f g h (x ∷ y ∷ xs) = (λ k. before (h x k) (h y k) && ascending-same d f g h (y ∷ xs) k)
+
+-- the kept records are in order
+pub only-in-order : (w d n m : ℕ) (p : List ℕ → Bool) (xs ys : List ℕ) → inOrder w d n xs ≡ true → Holds w (n * w) m (only p (records w n xs)) xs ys → inOrder w d m ys ≡ true
+only-in-order w d n m p xs ys e h =
+    let o = in-order-says w d n xs e in
+    let l : m ≤ n = omega (arith, h .count, length-only p (records w n xs), length-records w n xs) in
+    in-order-intro w d m ys (o .keys .some-words) (o .keys .two-words) (o .keys .in-record)
+    (omega (arith, mul-le-mul-right w l, o .words, h .as-long))
+    (ap (ascending d) (h .front) ∙ ascending-only d p (records w n xs) (o .order))
+
+exact-only : {A : Type 0} (words : A → List ℕ) (of : List ℕ → A) (p : List ℕ → Bool) (rs : List (List ℕ)) → exact words of rs ≡ true → exact words of (only p rs) ≡ true
+unfolding all only
+exact-only words of p [] e = refl
+exact-only words of p (r ∷ rs) e =
+    let q = both (same (words (of r)) r) (exact words of rs) e in
+    split (p r)
+    (λ f. ap (exact words of) (only-yes p r rs f) ∙ and-intro (same (words (of r)) r) (exact words of (only p rs)) (q .0) (exact-only words of p rs (q .1)))
+    (λ f. ap (exact words of) (only-no p r rs f) ∙ exact-only words of p rs (q .1))
+
+-- the kept records are the words of what is kept
+pub holds-only : {A : Type 0} (words : A → List ℕ) (of : List ℕ → A) (w d size n : ℕ) (xs : List ℕ) → Sound words of w d size n xs → (p : A → Bool) (m : ℕ) (ys : List ℕ) → Holds w (n * w) m (only (λ x. p (of x)) (records w n xs)) xs ys → Holds w size m (map words (only p (map of (records w n xs)))) xs ys
+holds-only words of w d size n xs o p m ys h =
+    let rs : List (List ℕ) = records w n xs in
+    let e : only (λ x. p (of x)) rs ≡ map words (only p (map of rs)) =
+    sym (ap (map words) (sym (map-only of p rs)) ∙ words-of-exact words of (only (λ x. p (of x)) rs) (exact-only words of (λ x. p (of x)) rs (o .exactly))) in
+    subst (λ (l : List (List ℕ)). Holds w size m l xs ys) e (holds-more w (n * w) size m (only (λ x. p (of x)) rs) xs ys (o .within) h)
+
+-- ---- past epochs that four words hold
+
+abbrev pub Short : List PeerRecord → Type 0
+Short [] = Unit
+Short (p ∷ ps) = (length (p .pastEpochs) ≤ 4) × Short ps
+
+short-records : (rs : List (List ℕ)) → Wide 12 rs → Short (map peerOf rs)
+unfolding peerOf
+short-records [] w = tt
+short-records (r ∷ rs) w = (omega (arith, length-take (getD r 7 0) (drop 8 r), length-drop 8 r, w .0), short-records rs (w .1))
+
+-- a peer without its snapshot, and whether it keeps it
+abbrev bare : PeerRecord → PeerRecord
+bare p = record { id = p .id; heldUntil = p .heldUntil; snapshot = none; pastEpochs = [] }
+
+abbrev keeps : ℕ → ℕ → PeerRecord → Bool
+keeps at age p = isHeld p || isFreshSnapshot at age (p .snapshot)
+
+short-aged : (at age : ℕ) (ps : List PeerRecord) → Short ps → Short (map (agePeer at age) ps)
+short-aged at age [] s = tt
+short-aged at age (p ∷ ps) s = (by (keeps at age p), short-aged at age ps (s .1))
+  where
+    by : (b : Bool) → length (cond b p (bare p) .pastEpochs) ≤ 4
+    by true = s .0
+    by false = omega arith
+
+short-only : (q : PeerRecord → Bool) (ps : List PeerRecord) → Short ps → Short (only q ps)
+unfolding only
+short-only q [] s = tt
+short-only q (p ∷ ps) s = split (q p)
+    (λ e. subst Short (sym (only-yes q p ps e)) (s .0, short-only q ps (s .1)))
+    (λ e. subst Short (sym (only-no q p ps e)) (short-only q ps (s .1)))
+
+peers-back : (ps : List PeerRecord) → Short ps → map peerOf (map peerWords ps) ≡ ps
+peers-back [] s = refl
+peers-back (p ∷ ps) s = (λ k. peer-of-words p (s .0) k ∷ peers-back ps (s .1) k)
+
+contested-back : (cs : List ContestedKey) → map contestedOf (map contestedWords cs) ≡ cs
+contested-back [] = refl
+contested-back (c ∷ cs) = (λ k. contested-of-words c k ∷ contested-back cs k)
+
+-- peers kept by their words
+peers-only : (q : PeerRecord → Bool) (ps : List PeerRecord) → Short ps → only (λ x. q (peerOf x)) (map peerWords ps) ≡ map peerWords (only q ps)
+unfolding only
+peers-only q [] s = refl
+peers-only q (p ∷ ps) s =
+    let e : q (peerOf (peerWords p)) ≡ q p = ap q (peer-of-words p (s .0)) in
+    split (q p)
+    (λ f. only-yes (λ x. q (peerOf x)) (peerWords p) (map peerWords ps) (e ∙ f) ∙ ap (λ l. peerWords p ∷ l) (peers-only q ps (s .1)) ∙ sym (ap (map peerWords) (only-yes q p ps f)))
+    (λ f. only-no (λ x. q (peerOf x)) (peerWords p) (map peerWords ps) (e ∙ f) ∙ peers-only q ps (s .1) ∙ sym (ap (map peerWords) (only-no q p ps f)))
+
+-- ---- what is left, one test a record
+
+aged-held : (at age : ℕ) (p : PeerRecord) → agePeer at age p .heldUntil ≡ p .heldUntil
+aged-held at age p = by (keeps at age p)
+  where
+    by : (b : Bool) → cond b p (bare p) .heldUntil ≡ p .heldUntil
+    by true = refl
+    by false = refl
+
+aged-id : (at age : ℕ) (p : PeerRecord) → agePeer at age p .id ≡ p .id
+aged-id at age p = by (keeps at age p)
+  where
+    by : (b : Bool) → cond b p (bare p) .id ≡ p .id
+    by true = refl
+    by false = refl
+
+any-weaker : {A : Type 0} (p q : A → Bool) → ((x : A) → p x ≡ true → q x ≡ true) → (xs : List A) → any p xs ≡ true → any q xs ≡ true
+unfolding any
+any-weaker p q h [] e = e
+any-weaker p q h (x ∷ xs) e = split (p x)
+    (λ f. ap (λ (b : Bool). b || any q xs) (h x f))
+    (λ f. later (q x) (any-weaker p q h xs (sym (ap (λ (b : Bool). b || any p xs) f) ∙ e)))
+  where
+    later : (b : Bool) {c : Bool} → c ≡ true → (b || c) ≡ true
+    later true k = refl
+    later false k = k
+
+module _ (at age : ℕ) (s : PeersState) where
+  abbrev held : List PeerRecord
+  held = notEnded at (s .peers)
+
+  -- contested keys
+  abbrev pub leftContested : List ContestedKey
+  leftContested = only (λ (c : ContestedKey). staysContested at age (s .peers) (c .peer) (c .heardAt)) (s .contested)
+
+  contested-left : freshContested at age (expireHolds at s) ≡ leftContested
+  unfolding expireHolds staysContested
+  contested-left = only-only (λ (c : ContestedKey). isKnown held (c .peer)) (λ (c : ContestedKey). isHeldPeer held (c .peer) || isFresh at age (c .heardAt)) (s .contested)
+
+  -- peers
+  abbrev pub leftPeers : List PeerRecord
+  leftPeers = only (λ (p : PeerRecord). staysPeer at leftContested (p .id) (p .heldUntil) (isTaken p)) (map (agePeer at age) (s .peers))
+
+  peers-left : freshPeers at age (expireHolds at s) ≡ leftPeers
+  unfolding expireHolds staysPeer
+  peers-left =
+      ap (λ cs. only (isLeft cs) (map (agePeer at age) held)) contested-left
+      ∙ ap (λ ps. only (isLeft leftContested) (map (agePeer at age) ps))
+      (only-same (λ (p : PeerRecord). not (holdEnded at (p .heldUntil))) (λ (p : PeerRecord). not (holdEnded at (agePeer at age p .heldUntil))) (λ (p : PeerRecord). ap (λ h. not (holdEnded at h)) (sym (aged-held at age p))) (s .peers))
+      ∙ ap (only (isLeft leftContested)) (map-only (agePeer at age) (λ (p : PeerRecord). not (holdEnded at (p .heldUntil))) (s .peers))
+      ∙ only-only (λ (p : PeerRecord). not (holdEnded at (p .heldUntil))) (isLeft leftContested) (map (agePeer at age) (s .peers))
+
+  -- snapshot keys: one whose peer is left with a snapshot belongs to a peer whose hold has not ended
+  abbrev pub leftKeys : List SnapshotKey
+  leftKeys = only (λ (k : SnapshotKey). hasSnapshot leftPeers (k .peer)) (s .snapshotKeys)
+
+  left-known : (id : ℕ) → hasSnapshot leftPeers id ≡ true → isKnown held id ≡ true
+  unfolding hasSnapshot isKnown only expireHolds
+  left-known id e =
+      let f : any (λ (p : PeerRecord). isLeft leftContested p && (eqb (p .id) id && isTaken p)) (map (agePeer at age) held) ≡ true =
+      sym (any-only (λ (p : PeerRecord). eqb (p .id) id && isTaken p) (isLeft leftContested) (map (agePeer at age) held))
+      ∙ ap (λ ps. hasSnapshot ps id) (sym (ap (λ cs. only (isLeft cs) (map (agePeer at age) held)) contested-left) ∙ peers-left)
+      ∙ e in
+      any-weaker (λ (p : PeerRecord). isLeft leftContested (agePeer at age p) && (eqb (agePeer at age p .id) id && isTaken (agePeer at age p))) (λ (p : PeerRecord). eqb (p .id) id)
+      (λ (p : PeerRecord) h.
+      sym (ap (λ (n : ℕ). eqb n id) (aged-id at age p))
+      ∙ both (eqb (agePeer at age p .id) id) (isTaken (agePeer at age p)) (both (isLeft leftContested (agePeer at age p)) _ h .1) .0)
+      held
+      (sym (any-map (agePeer at age) (λ (p : PeerRecord). isLeft leftContested p && (eqb (p .id) id && isTaken p)) held) ∙ f)
+
+  keys-left : only (λ (k : SnapshotKey). hasSnapshot (freshPeers at age (expireHolds at s)) (k .peer)) (only (λ (k : SnapshotKey). isKnown held (k .peer)) (s .snapshotKeys)) ≡ leftKeys
+  keys-left =
+      ap (λ ps. only (λ (k : SnapshotKey). hasSnapshot ps (k .peer)) (only (λ (k : SnapshotKey). isKnown held (k .peer)) (s .snapshotKeys))) peers-left
+      ∙ only-only (λ (k : SnapshotKey). isKnown held (k .peer)) (λ (k : SnapshotKey). hasSnapshot leftPeers (k .peer)) (s .snapshotKeys)
+      ∙ only-same (λ (k : SnapshotKey). isKnown held (k .peer) && hasSnapshot leftPeers (k .peer)) (λ (k : SnapshotKey). hasSnapshot leftPeers (k .peer))
+      (λ (k : SnapshotKey). same-truth (isKnown held (k .peer) && hasSnapshot leftPeers (k .peer)) (hasSnapshot leftPeers (k .peer))
+      (λ e. both (isKnown held (k .peer)) (hasSnapshot leftPeers (k .peer)) e .1)
+      (λ e. and-intro (isKnown held (k .peer)) (hasSnapshot leftPeers (k .peer)) (left-known (k .peer) e) e))
+      (s .snapshotKeys)
+
+  pub expire-left : expire at age s ≡ record { peers = leftPeers; snapshotKeys = leftKeys; contested = leftContested }
+  unfolding expire expireAge expireHolds
+  expire-left = (λ k. record { peers = peers-left k; snapshotKeys = keys-left k; contested = contested-left k })
+
+-- ---- the tables, step by step
+
+module _ (p : PeerDemand) (t : PeerTables) (o : Tables p t) (at age : ℕ) where
+  abbrev s : PeersState
+  s = record { peers = map peerOf (records 12 (p .peers) (t .peers)); snapshotKeys = map snapshotKeyOf (records 4 (p .«snapshot_keys») (t .snapshotKeys)); contested = map contestedOf (records 6 (p .contested) (t .contested)) }
+
+  -- the contested keys that are left
+  module _ (c : ℕ) (cs : List ℕ) (h : Holds 6 (p .contested * 6) c (only (λ x. staysContested at age (map peerOf (records 12 (p .peers) (t .peers))) (contestedOf x .peer) (contestedOf x .heardAt)) (records 6 (p .contested) (t .contested))) (t .contested) cs) where
+    pub contested-stored : Holds 6 contestedSize c (map contestedWords (leftContested at age s)) (t .contested) cs
+    contested-stored = holds-only contestedWords contestedOf 6 2 contestedSize (p .contested) (t .contested) (o .contested) (λ (x : ContestedKey). staysContested at age (s .peers) (x .peer) (x .heardAt)) c cs h
+
+    pub contested-read : map contestedOf (records 6 c cs) ≡ leftContested at age s
+    contested-read = ap (map contestedOf) (contested-stored .front) ∙ contested-back (leftContested at age s)
+
+    pub contested-order : inOrder 6 2 c cs ≡ true
+    contested-order = only-in-order 6 2 (p .contested) c (λ x. staysContested at age (s .peers) (contestedOf x .peer) (contestedOf x .heardAt)) (t .contested) cs (o .contested .order) h
+
+    -- the peers that are left
+    module _ (ps : List ℕ) (a : Holds 12 (p .peers * 12) (p .peers) (map (λ x. peerWords (agePeer at age (peerOf x))) (records 12 (p .peers) (t .peers))) (t .peers) ps) where
+      short : Short (map (agePeer at age) (s .peers))
+      short = short-aged at age (s .peers) (short-records (records 12 (p .peers) (t .peers)) (in-order-says 12 1 (p .peers) (t .peers) (o .peers .order) .wide))
+
+      aged : records 12 (p .peers) ps ≡ map peerWords (map (agePeer at age) (s .peers))
+      aged =
+          a .front
+          ∙ sym (map-map (λ (x : PeerRecord). peerWords (agePeer at age x)) peerOf (records 12 (p .peers) (t .peers)))
+          ∙ sym (map-map peerWords (agePeer at age) (s .peers))
+
+      pub peers-room : p .peers * 12 ≤ length ps
+      peers-room = omega (arith, a .as-long, o .peers .within, o .peers .room)
+
+      aged-order : inOrder 12 1 (p .peers) ps ≡ true
+      unfolding peerWords
+      aged-order =
+          in-order-intro 12 1 (p .peers) ps (omega arith) (omega arith) (omega arith) peers-room
+          (ap (ascending 1) (aged ∙ map-map peerWords (agePeer at age) (s .peers))
+          ∙ ascending-same 1 (λ (x : PeerRecord). peerWords (agePeer at age x)) peerWords (λ (x : PeerRecord). ap (λ (n : ℕ). n ∷ []) (aged-id at age x)) (s .peers)
+          ∙ ap (ascending 1) (words-of-exact peerWords peerOf (records 12 (p .peers) (t .peers)) (o .peers .exactly))
+          ∙ in-order-says 12 1 (p .peers) (t .peers) (o .peers .order) .order)
+
+      module _ (n : ℕ) (ps′ : List ℕ) (b : Holds 12 (p .peers * 12) n (only (λ x. staysPeer at (map contestedOf (records 6 c cs)) (peerOf x .id) (peerOf x .heldUntil) (isTaken (peerOf x))) (records 12 (p .peers) ps)) ps ps′) where
+        kept : only (λ x. staysPeer at (map contestedOf (records 6 c cs)) (peerOf x .id) (peerOf x .heldUntil) (isTaken (peerOf x))) (records 12 (p .peers) ps) ≡ map peerWords (leftPeers at age s)
+        kept =
+            (λ k. only (λ x. staysPeer at (contested-read k) (peerOf x .id) (peerOf x .heldUntil) (isTaken (peerOf x))) (aged k))
+            ∙ peers-only (λ (x : PeerRecord). staysPeer at (leftContested at age s) (x .id) (x .heldUntil) (isTaken x)) (map (agePeer at age) (s .peers)) short
+
+        pub peers-stored : Holds 12 peersSize n (map peerWords (leftPeers at age s)) (t .peers) ps′
+        peers-stored =
+            holds-more 12 (p .peers * 12) peersSize n (map peerWords (leftPeers at age s)) (t .peers) ps′ (o .peers .within)
+            (record { count = b .count ∙ ap length kept; front = b .front ∙ kept; rest = b .rest ∙ a .rest; as-long = b .as-long ∙ a .as-long })
+
+        pub peers-read : map peerOf (records 12 n ps′) ≡ leftPeers at age s
+        peers-read =
+            ap (map peerOf) (peers-stored .front)
+            ∙ peers-back (leftPeers at age s) (short-only (λ (x : PeerRecord). staysPeer at (leftContested at age s) (x .id) (x .heldUntil) (isTaken x)) (map (agePeer at age) (s .peers)) short)
+
+        pub peers-order : inOrder 12 1 n ps′ ≡ true
+        peers-order = only-in-order 12 1 (p .peers) n (λ x. staysPeer at (map contestedOf (records 6 c cs)) (peerOf x .id) (peerOf x .heldUntil) (isTaken (peerOf x))) ps ps′ aged-order b
+
+        -- the snapshot keys that are left, and all three
+        pub expired :
+            (k : ℕ) (ks : List ℕ)
+            → Holds 4 (p .«snapshot_keys» * 4) k (only (λ x. hasSnapshot (map peerOf (records 12 n ps′)) (snapshotKeyOf x .peer)) (records 4 (p .«snapshot_keys») (t .snapshotKeys))) (t .snapshotKeys) ks
+            → Stores (expire at age (stateOf p t)) (record { peers = n; «snapshot_keys» = k; contested = c }) t (record { peers = ps′; snapshotKeys = ks; contested = cs })
+        unfolding stateOf
+        expired k ks d =
+            let e : only (λ x. hasSnapshot (map peerOf (records 12 n ps′)) (snapshotKeyOf x .peer)) (records 4 (p .«snapshot_keys») (t .snapshotKeys)) ≡ only (λ x. hasSnapshot (leftPeers at age s) (snapshotKeyOf x .peer)) (records 4 (p .«snapshot_keys») (t .snapshotKeys)) =
+            ap (λ (qs : List PeerRecord). only (λ x. hasSnapshot qs (snapshotKeyOf x .peer)) (records 4 (p .«snapshot_keys») (t .snapshotKeys))) peers-read in
+            subst (λ (x : PeersState). Stores x (record { peers = n; «snapshot_keys» = k; contested = c }) t (record { peers = ps′; snapshotKeys = ks; contested = cs })) (sym (expire-left at age s))
+            (record {
+              peers = peers-stored;
+              snapshotKeys =
+                  holds-only snapshotKeyWords snapshotKeyOf 4 2 snapshotKeysSize (p .«snapshot_keys») (t .snapshotKeys) (o .snapshotKeys) (λ (x : SnapshotKey). hasSnapshot (leftPeers at age s) (x .peer)) k ks
+                  (subst (λ (rs : List (List ℕ)). Holds 4 (p .«snapshot_keys» * 4) k rs (t .snapshotKeys) ks) e d);
+              contested = contested-stored;
+            })

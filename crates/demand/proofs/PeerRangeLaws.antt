@@ -1,0 +1,356 @@
+-- Laws: where records ascend, those with a number, those before it and those after it are ranges. Assumes nothing.
+use mathlib.Core.Path.{_≡_, refl, sym, ap, _∙_, subst}
+use mathlib.Core.Bool.{Bool, true, false, cond, not, _&&_, _||_}
+use mathlib.Core.List.{List, [], _∷_, _++_, map}
+use Prim.Native.Nat.{ℕ, zero, suc, _+_, _-_, _*_, _≤_, _<_, zero-le, suc-le-suc}
+use mathlib.Core.Logic.{⊎-elim}
+use native.Mathlib.Nat.{le-of-suc-le-suc, not-suc-le-zero, eq-or-lt-of-le}
+use native.Mathlib.Omega.{arith}
+use borrow.Author.Tests.{ltb-true, ltb-false, lt-ltb, le-ltb, eqb-true, eqb-false, eq-eqb, ne-eqb}
+use lib.Dec.{ltb, leb, eqb}
+use lib.ListN.{length, take, drop, getD, length-append}
+use lib.Seq.{slice, slice-cons, slice-empty, getD-take, take-nil, drop-nil, length-take-le}
+use Rattle.records.specs.declared.Found.the-variants.{At, Gap}
+use Rattle.records.specs.Records.{before, ascending, isBelow, lowerBound, find, splice}
+use Rattle.records.proofs.TestLaws.{contradiction, split}
+use Rattle.records.proofs.OrderLaws.{keyAt, before-equal, before-differ, before-irrefl, before-asym, asc-lt}
+use Rattle.records.proofs.SearchLaws.{Cut}
+use Rattle.records.proofs.PlaceLaws.{lower-bound-first, at-says, gap-place}
+use Rattle.records.proofs.TableLaws.{Wide}
+use Rattle.demand.specs.PeerLists.{only, any, those, replaced}
+
+-- ---- lists by a test
+
+pub only-yes : {A : Type 0} (p : A → Bool) (x : A) (xs : List A) → p x ≡ true → only p (x ∷ xs) ≡ x ∷ only p xs
+unfolding only
+only-yes p x xs e = ap (λ (b : Bool). cond b (x ∷ only p xs) (only p xs)) e
+
+pub only-no : {A : Type 0} (p : A → Bool) (x : A) (xs : List A) → p x ≡ false → only p (x ∷ xs) ≡ only p xs
+unfolding only
+only-no p x xs e = ap (λ (b : Bool). cond b (x ∷ only p xs) (only p xs)) e
+
+pub only-append : {A : Type 0} (p : A → Bool) (xs ys : List A) → only p (xs ++ ys) ≡ only p xs ++ only p ys
+unfolding only
+only-append p [] ys = refl
+only-append p (x ∷ xs) ys = split (p x)
+    (λ e. only-yes p x (xs ++ ys) e ∙ ap (λ l. x ∷ l) (only-append p xs ys) ∙ sym (ap (λ l. l ++ only p ys) (only-yes p x xs e)))
+    (λ e. only-no p x (xs ++ ys) e ∙ only-append p xs ys ∙ sym (ap (λ l. l ++ only p ys) (only-no p x xs e)))
+
+-- a test of the image
+pub map-only : {A B : Type 0} (f : A → B) (p : B → Bool) (xs : List A) → map f (only (λ x. p (f x)) xs) ≡ only p (map f xs)
+unfolding only
+map-only f p [] = refl
+map-only f p (x ∷ xs) = split (p (f x))
+    (λ e. ap (map f) (only-yes (λ x. p (f x)) x xs e) ∙ ap (λ l. f x ∷ l) (map-only f p xs) ∙ sym (only-yes p (f x) (map f xs) e))
+    (λ e. ap (map f) (only-no (λ x. p (f x)) x xs e) ∙ map-only f p xs ∙ sym (only-no p (f x) (map f xs) e))
+
+pub only-same : {A : Type 0} (p q : A → Bool) → ((x : A) → p x ≡ q x) → (xs : List A) → only p xs ≡ only q xs
+unfolding only
+only-same p q h [] = refl
+only-same p q h (x ∷ xs) = (λ k. cond (h x k) (x ∷ only-same p q h xs k) (only-same p q h xs k))
+
+pub only-only : {A : Type 0} (p q : A → Bool) (xs : List A) → only q (only p xs) ≡ only (λ x. p x && q x) xs
+unfolding only
+only-only p q [] = refl
+only-only p q (x ∷ xs) = split (p x)
+    (λ e. ap (only q) (only-yes p x xs e) ∙ split (q x)
+    (λ f. only-yes q x (only p xs) f ∙ ap (λ l. x ∷ l) (only-only p q xs) ∙ sym (only-yes (λ y. p y && q y) x xs ((λ k. e k && f k))))
+    (λ f. only-no q x (only p xs) f ∙ only-only p q xs ∙ sym (only-no (λ y. p y && q y) x xs ((λ k. e k && f k)))))
+    (λ e. ap (only q) (only-no p x xs e) ∙ only-only p q xs ∙ sym (only-no (λ y. p y && q y) x xs (ap (λ (b : Bool). b && q x) e)))
+
+-- ---- a test that holds up to a place, and not from there on
+
+cut-next : (p : ℕ → Bool) (n m : ℕ) → Cut p (suc n) (suc m) → Cut (λ i. p (suc i)) n m
+cut-next p n m c = record {
+  within = le-of-suc-le-suc (c .within);
+  below = λ i h. c .below (suc i) (suc-le-suc h);
+  above = λ i h l. c .above (suc i) (suc-le-suc h) (suc-le-suc l);
+}
+
+cut-zero : (p : ℕ → Bool) (n : ℕ) → Cut p (suc n) 0 → Cut (λ i. p (suc i)) n 0
+cut-zero p n c = record {
+  within = zero-le;
+  below = λ i h. absurd (not-suc-le-zero h);
+  above = λ i h l. c .above (suc i) zero-le (suc-le-suc l);
+}
+
+-- the elements before it pass
+pub only-front : {A : Type 0} (p : A → Bool) (z : A) (xs : List A) (m : ℕ) → Cut (λ i. p (getD xs i z)) (length xs) m → only p xs ≡ take m xs
+unfolding only
+only-front p z [] m c = sym (take-nil m)
+only-front p z (x ∷ xs) zero c =
+    only-no p x xs (c .above 0 zero-le (suc-le-suc zero-le)) ∙ only-front p z xs 0 (cut-zero (λ i. p (getD (x ∷ xs) i z)) (length xs) c)
+only-front p z (x ∷ xs) (suc m) c =
+    only-yes p x xs (c .below 0 (suc-le-suc zero-le)) ∙ ap (λ l. x ∷ l) (only-front p z xs m (cut-next (λ i. p (getD (x ∷ xs) i z)) (length xs) m c))
+
+-- the others fail
+pub only-back : {A : Type 0} (p : A → Bool) (z : A) (xs : List A) (m : ℕ) → Cut (λ i. p (getD xs i z)) (length xs) m → only (λ x. not (p x)) xs ≡ drop m xs
+unfolding only
+only-back p z [] m c = sym (drop-nil m)
+only-back p z (x ∷ xs) zero c =
+    only-yes (λ y. not (p y)) x xs (ap not (c .above 0 zero-le (suc-le-suc zero-le))) ∙ ap (λ l. x ∷ l) (only-back p z xs 0 (cut-zero (λ i. p (getD (x ∷ xs) i z)) (length xs) c))
+only-back p z (x ∷ xs) (suc m) c =
+    only-no (λ y. not (p y)) x xs (ap not (c .below 0 (suc-le-suc zero-le))) ∙ only-back p z xs m (cut-next (λ i. p (getD (x ∷ xs) i z)) (length xs) m c)
+
+-- ---- lists by a number: those below a end at i, those not above it at j
+
+after-test : (x a : ℕ) → ltb a x ≡ not (ltb x (a + 1))
+after-test x a = split (ltb x (a + 1))
+    (λ e. le-ltb a x (omega (arith, ltb-true x (a + 1) e)) ∙ sym (ap not e))
+    (λ e. lt-ltb a x (omega (arith, ltb-false x (a + 1) e)) ∙ sym (ap not e))
+
+equal-test : (x a : ℕ) → eqb x a ≡ (ltb x (a + 1) && not (ltb x a))
+equal-test x a = split (ltb x a)
+    (λ e. ne-eqb x a (λ q. omega (arith, ltb-true x a e)) ∙ sym ((λ k. lt-ltb x (a + 1) (omega (arith, ltb-true x a e)) k && not (e k))))
+    (λ e. split (ltb x (a + 1))
+    (λ f. eq-eqb x a (omega (arith, ltb-false x a e, ltb-true x (a + 1) f)) ∙ sym ((λ k. f k && not (e k))))
+    (λ f. ne-eqb x a (λ q. omega (arith, ltb-false x (a + 1) f)) ∙ sym ((λ k. f k && not (e k)))))
+
+module _ {A : Type 0} (number : A → ℕ) (z : A) (a : ℕ) (xs : List A) (i j : ℕ) (low : Cut (λ n. ltb (number (getD xs n z)) a) (length xs) i) (high : Cut (λ n. ltb (number (getD xs n z)) (a + 1)) (length xs) j) where
+  pub before-is : only (λ x. ltb (number x) a) xs ≡ take i xs
+  before-is = only-front (λ x. ltb (number x) a) z xs i low
+
+  pub after-is : only (λ x. ltb a (number x)) xs ≡ drop j xs
+  after-is =
+      only-same (λ x. ltb a (number x)) (λ x. not (ltb (number x) (a + 1))) (λ x. after-test (number x) a) xs
+      ∙ only-back (λ x. ltb (number x) (a + 1)) z xs j high
+
+  pub cuts-ordered : i ≤ j
+  cuts-ordered = split (ltb j i)
+      (λ e.
+      let h : j < i = ltb-true j i e in
+      let y : ltb (number (getD xs j z)) a ≡ true = low .below j h in
+      contradiction (sym (lt-ltb (number (getD xs j z)) (a + 1) (omega (arith, ltb-true (number (getD xs j z)) a y))) ∙ high .above j (omega arith) (omega (arith, low .within))))
+      (ltb-false j i)
+
+  pub those-is : those number a xs ≡ slice i j xs
+  unfolding those
+  those-is =
+      let l : length (take j xs) ≡ j = length-take-le j xs (high .within) in
+      only-same (λ x. eqb (number x) a) (λ x. ltb (number x) (a + 1) && not (ltb (number x) a)) (λ x. equal-test (number x) a) xs
+      ∙ sym (only-only (λ x. ltb (number x) (a + 1)) (λ x. not (ltb (number x) a)) xs)
+      ∙ ap (only (λ x. not (ltb (number x) a))) (only-front (λ x. ltb (number x) (a + 1)) z xs j high)
+      ∙ only-back (λ x. ltb (number x) a) z (take j xs) i (record {
+        within = omega (arith, cuts-ordered);
+        below = λ n h. ap (λ (y : A). ltb (number y) a) (getD-take j xs n z (omega (arith, cuts-ordered))) ∙ low .below n h;
+        above = λ n h k. ap (λ (y : A). ltb (number y) a) (getD-take j xs n z (omega arith)) ∙ low .above n h (omega (arith, high .within));
+      })
+
+  pub replaced-is : (new : List A) → replaced number a new xs ≡ take i xs ++ (new ++ drop j xs)
+  unfolding replaced
+  replaced-is new = (λ k. before-is k ++ (new ++ after-is k))
+
+-- ---- words of records
+
+-- the first word of a record, and the second
+abbrev pub firstWord : List ℕ → ℕ
+firstWord r = getD r 0 0
+
+abbrev pub secondWord : List ℕ → ℕ
+secondWord r = getD r 1 0
+
+wide-at : (w : ℕ) (rs : List (List ℕ)) → Wide w rs → (i : ℕ) → i < length rs → length (getD rs i []) ≡ w
+wide-at w [] p i h = absurd (not-suc-le-zero h)
+wide-at w (r ∷ rs) p zero h = p .0
+wide-at w (r ∷ rs) p (suc i) h = wide-at w rs (p .1) i (le-of-suc-le-suc h)
+
+pub word-before : (x a : ℕ) → before (x ∷ []) (a ∷ []) ≡ ltb x a
+word-before x a = split (eqb x a)
+    (λ e. before-equal x a [] [] (eqb-true x a e) ∙ before-irrefl [] ∙ sym (le-ltb x a (omega (arith, eqb-true x a e))))
+    (λ e. before-differ x a [] [] (eqb-false x a e))
+
+first-before : (r : List ℕ) (a : ℕ) → 1 ≤ length r → before (take 1 r) (a ∷ []) ≡ ltb (firstWord r) a
+first-before [] a h = absurd (not-suc-le-zero h)
+first-before (x ∷ r) a h = word-before x a
+
+-- the records whose first word is below a
+pub first-cut : (d w a : ℕ) (rs : List (List ℕ)) → 1 ≤ d → 1 ≤ w → Wide w rs → ascending d rs ≡ true → Cut (λ n. ltb (firstWord (getD rs n [])) a) (length rs) (lowerBound 1 (a ∷ []) rs)
+unfolding isBelow
+first-cut d w a rs hd hw p asc =
+    let c = lower-bound-first d (a ∷ []) rs hd asc in
+    record {
+      within = c .within;
+      below = λ i h. sym (first-before (getD rs i []) a (omega (arith, wide-at w rs p i (omega (arith, c .within))))) ∙ c .below i h;
+      above = λ i h l. sym (first-before (getD rs i []) a (omega (arith, wide-at w rs p i l))) ∙ c .above i h l;
+    }
+
+module _ (d w a : ℕ) (rs : List (List ℕ)) (hd : 1 ≤ d) (hw : 1 ≤ w) (p : Wide w rs) (asc : ascending d rs ≡ true) where
+  low : Cut (λ n. ltb (firstWord (getD rs n [])) a) (length rs) (lowerBound 1 (a ∷ []) rs)
+  low = first-cut d w a rs hd hw p asc
+
+  high : Cut (λ n. ltb (firstWord (getD rs n [])) (a + 1)) (length rs) (lowerBound 1 ((a + 1) ∷ []) rs)
+  high = first-cut d w (a + 1) rs hd hw p asc
+
+  -- `rangeOf` is from the first number not below a up to the first above it
+  pub range-ordered : lowerBound 1 (a ∷ []) rs ≤ lowerBound 1 ((a + 1) ∷ []) rs
+  range-ordered = cuts-ordered firstWord [] a rs (lowerBound 1 (a ∷ []) rs) (lowerBound 1 ((a + 1) ∷ []) rs) low high
+
+  pub those-range : those firstWord a rs ≡ slice (lowerBound 1 (a ∷ []) rs) (lowerBound 1 ((a + 1) ∷ []) rs) rs
+  those-range = those-is firstWord [] a rs (lowerBound 1 (a ∷ []) rs) (lowerBound 1 ((a + 1) ∷ []) rs) low high
+
+  pub replaced-splice : (new : List (List ℕ)) → replaced firstWord a new rs ≡ splice (lowerBound 1 (a ∷ []) rs) (lowerBound 1 ((a + 1) ∷ []) rs) new rs
+  unfolding splice
+  replaced-splice new = replaced-is firstWord [] a rs (lowerBound 1 (a ∷ []) rs) (lowerBound 1 ((a + 1) ∷ []) rs) low high new
+
+-- ---- one record with a number, or the gap where it would be
+
+module _ {A : Type 0} (number : A → ℕ) (z : A) (a : ℕ) (xs : List A) (i : ℕ) where
+  at-low : ((m n : ℕ) → m < n → n < length xs → number (getD xs m z) < number (getD xs n z)) → i < length xs → number (getD xs i z) ≡ a → Cut (λ n. ltb (number (getD xs n z)) a) (length xs) i
+  at-low rise h e = record {
+    within = omega arith;
+    below = λ j l. lt-ltb (number (getD xs j z)) a (omega (arith, rise j i l h));
+    above = λ j l k. ⊎-elim
+        (λ q. le-ltb (number (getD xs j z)) a (omega (arith, ap (λ (n : ℕ). number (getD xs n z)) q)))
+        (λ q. le-ltb (number (getD xs j z)) a (omega (arith, rise i j q k)))
+        (eq-or-lt-of-le {n = i} {m = j} l);
+  }
+
+  at-high : ((m n : ℕ) → m < n → n < length xs → number (getD xs m z) < number (getD xs n z)) → i < length xs → number (getD xs i z) ≡ a → Cut (λ n. ltb (number (getD xs n z)) (a + 1)) (length xs) (suc i)
+  at-high rise h e = record {
+    within = h;
+    below = λ j l. ⊎-elim
+        (λ q. lt-ltb (number (getD xs j z)) (a + 1) (omega (arith, ap (λ (n : ℕ). number (getD xs n z)) q)))
+        (λ q. lt-ltb (number (getD xs j z)) (a + 1) (omega (arith, rise j i q h)))
+        (eq-or-lt-of-le {n = j} {m = i} (le-of-suc-le-suc l));
+    above = λ j l k. le-ltb (number (getD xs j z)) (a + 1) (omega (arith, rise i j l k));
+  }
+
+-- where record keys are given by a number: the keys ascend, and `find` looks for the number a
+module _ (d : ℕ) (number : List ℕ → ℕ) (keyOf : ℕ → List ℕ) (rs : List (List ℕ)) (asc : ascending d rs ≡ true) (shape : (i : ℕ) → i < length rs → keyAt d rs i ≡ keyOf (number (getD rs i []))) (order : (x y : ℕ) → before (keyOf x) (keyOf y) ≡ ltb x y) (a i : ℕ) where
+  rise : (m n : ℕ) → m < n → n < length rs → number (getD rs m []) < number (getD rs n [])
+  rise m n h l = ltb-true (number (getD rs m [])) (number (getD rs n []))
+      (sym (order (number (getD rs m [])) (number (getD rs n []))) ∙ sym ((λ k. before (shape m (omega arith) k) (shape n l k))) ∙ asc-lt d rs asc m n h l)
+
+  same-number : (x : ℕ) → keyOf x ≡ keyOf a → x ≡ a
+  same-number x e =
+      let p : ltb x a ≡ false = sym (order x a) ∙ ap (λ (k : List ℕ). before k (keyOf a)) e ∙ before-irrefl (keyOf a) in
+      let q : ltb a x ≡ false = sym (order a x) ∙ ap (before (keyOf a)) e ∙ before-irrefl (keyOf a) in
+      omega (arith, ltb-false x a p, ltb-false a x q)
+
+  here : find d (keyOf a) rs ≡ At i → (i < length rs) × (number (getD rs i []) ≡ a)
+  here e =
+      let p = at-says d (keyOf a) rs i e in
+      (p .0, same-number (number (getD rs i [])) (sym (shape i (p .0)) ∙ p .1))
+
+  pub replaced-at : find d (keyOf a) rs ≡ At i → (new : List (List ℕ)) → replaced number a new rs ≡ splice i (suc i) new rs
+  unfolding splice
+  replaced-at e new =
+      let h = here e in
+      replaced-is number [] a rs i (suc i) (at-low number [] a rs i rise (h .0) (h .1)) (at-high number [] a rs i rise (h .0) (h .1)) new
+
+  pub those-at : find d (keyOf a) rs ≡ At i → those number a rs ≡ getD rs i [] ∷ []
+  those-at e =
+      let h = here e in
+      those-is number [] a rs i (suc i) (at-low number [] a rs i rise (h .0) (h .1)) (at-high number [] a rs i rise (h .0) (h .1))
+      ∙ slice-cons i (suc i) rs [] (omega arith) (h .0)
+      ∙ ap (λ l. getD rs i [] ∷ l) (slice-empty (suc i) rs)
+
+  gap-low : find d (keyOf a) rs ≡ Gap i → Cut (λ n. ltb (number (getD rs n [])) a) (length rs) i
+  gap-low e =
+      let p = gap-place d (keyOf a) rs i asc e in
+      record {
+        within = p .within;
+        below = λ j h. sym (order (number (getD rs j [])) a) ∙ sym (ap (λ (k : List ℕ). before k (keyOf a)) (shape j (omega (arith, p .within)))) ∙ p .below j h;
+        above = λ j h l.
+            sym (order (number (getD rs j [])) a)
+            ∙ before-asym (keyOf a) (keyOf (number (getD rs j []))) (sym (ap (before (keyOf a)) (shape j l)) ∙ p .above j h l);
+      }
+
+  gap-high : find d (keyOf a) rs ≡ Gap i → Cut (λ n. ltb (number (getD rs n [])) (a + 1)) (length rs) i
+  gap-high e =
+      let p = gap-place d (keyOf a) rs i asc e in
+      let c = gap-low e in
+      record {
+        within = p .within;
+        below = λ j h. lt-ltb (number (getD rs j [])) (a + 1) (omega (arith, ltb-true (number (getD rs j [])) a (c .below j h)));
+        above = λ j h l.
+            let q : ltb a (number (getD rs j [])) ≡ true = sym (order a (number (getD rs j []))) ∙ sym (ap (before (keyOf a)) (shape j l)) ∙ p .above j h l in
+            le-ltb (number (getD rs j [])) (a + 1) (omega (arith, ltb-true a (number (getD rs j [])) q));
+      }
+
+  pub replaced-gap : find d (keyOf a) rs ≡ Gap i → (new : List (List ℕ)) → replaced number a new rs ≡ splice i i new rs
+  unfolding splice
+  replaced-gap e new = replaced-is number [] a rs i i (gap-low e) (gap-high e) new
+
+  pub those-gap : find d (keyOf a) rs ≡ Gap i → those number a rs ≡ []
+  those-gap e = those-is number [] a rs i i (gap-low e) (gap-high e) ∙ slice-empty i rs
+
+-- by the first word, and by the second in a run of records that share the first
+pub first-shape : (w : ℕ) (rs : List (List ℕ)) → 1 ≤ w → Wide w rs → (i : ℕ) → i < length rs → keyAt 1 rs i ≡ firstWord (getD rs i []) ∷ []
+first-shape w rs h p i l = front (getD rs i []) (omega (arith, wide-at w rs p i l))
+  where
+    front : (r : List ℕ) → 1 ≤ length r → take 1 r ≡ firstWord r ∷ []
+    front [] q = absurd (not-suc-le-zero q)
+    front (x ∷ r) q = refl
+
+pub second-shape : (w a : ℕ) (rs : List (List ℕ)) → 2 ≤ w → Wide w rs → ((i : ℕ) → i < length rs → firstWord (getD rs i []) ≡ a) → (i : ℕ) → i < length rs → keyAt 2 rs i ≡ a ∷ secondWord (getD rs i []) ∷ []
+second-shape w a rs h p f i l = front (getD rs i []) (omega (arith, wide-at w rs p i l)) (f i l)
+  where
+    front : (r : List ℕ) → 2 ≤ length r → firstWord r ≡ a → take 2 r ≡ a ∷ secondWord r ∷ []
+    front [] q e = absurd (not-suc-le-zero q)
+    front (x ∷ []) q e = absurd (not-suc-le-zero (le-of-suc-le-suc q))
+    front (x ∷ y ∷ r) q e = ap (λ (n : ℕ). n ∷ y ∷ []) e
+
+pub second-order : (a x y : ℕ) → before (a ∷ x ∷ []) (a ∷ y ∷ []) ≡ ltb x y
+second-order a x y = before-equal a a (x ∷ []) (y ∷ []) refl ∙ word-before x y
+
+-- ---- typed records, by their words
+
+pub map-append : {A B : Type 0} (f : A → B) (xs ys : List A) → map f (xs ++ ys) ≡ map f xs ++ map f ys
+map-append f [] ys = refl
+map-append f (x ∷ xs) ys = ap (λ l. f x ∷ l) (map-append f xs ys)
+
+module _ {A : Type 0} (number : A → ℕ) (words : A → List ℕ) (wordOf : List ℕ → ℕ) (h : (x : A) → wordOf (words x) ≡ number x) (a : ℕ) where
+  by-words : (t : ℕ → Bool) (xs : List A) → map words (only (λ x. t (number x)) xs) ≡ only (λ r. t (wordOf r)) (map words xs)
+  by-words t xs =
+      ap (map words) (only-same (λ x. t (number x)) (λ x. t (wordOf (words x))) (λ x. ap t (sym (h x))) xs)
+      ∙ map-only words (λ r. t (wordOf r)) xs
+
+  pub those-words : (xs : List A) → map words (those number a xs) ≡ those wordOf a (map words xs)
+  unfolding those
+  those-words xs = by-words (λ n. eqb n a) xs
+
+  pub replaced-words : (new xs : List A) → map words (replaced number a new xs) ≡ replaced wordOf a (map words new) (map words xs)
+  unfolding replaced
+  replaced-words new xs =
+      map-append words (only (λ x. ltb (number x) a) xs) (new ++ only (λ x. ltb a (number x)) xs)
+      ∙ (λ k. by-words (λ n. ltb n a) xs k ++ (map-append words new (only (λ x. ltb a (number x)) xs) ∙ ap (λ l. map words new ++ l) (by-words (λ n. ltb a n) xs)) k)
+
+-- ---- is there one?
+
+pub any-map : {A B : Type 0} (f : A → B) (p : B → Bool) (xs : List A) → any p (map f xs) ≡ any (λ x. p (f x)) xs
+unfolding any
+any-map f p [] = refl
+any-map f p (x ∷ xs) = ap (λ (b : Bool). p (f x) || b) (any-map f p xs)
+
+pub any-same : {A : Type 0} (p q : A → Bool) → ((x : A) → p x ≡ q x) → (xs : List A) → any p xs ≡ any q xs
+unfolding any
+any-same p q h [] = refl
+any-same p q h (x ∷ xs) = (λ k. h x k || any-same p q h xs k)
+
+pub any-only : {A : Type 0} (p q : A → Bool) (xs : List A) → any p (only q xs) ≡ any (λ x. q x && p x) xs
+unfolding any only
+any-only p q [] = refl
+any-only p q (x ∷ xs) = split (q x)
+    (λ e. ap (any p) (only-yes q x xs e) ∙ (λ k. p x || any-only p q xs k) ∙ sym (ap (λ (b : Bool). (b && p x) || any (λ y. q y && p y) xs) e))
+    (λ e. ap (any p) (only-no q x xs e) ∙ any-only p q xs ∙ sym (ap (λ (b : Bool). (b && p x) || any (λ y. q y && p y) xs) e))
+
+-- among those with a number
+pub any-those : {A : Type 0} (number : A → ℕ) (a : ℕ) (p : A → Bool) (xs : List A) → any (λ x. eqb (number x) a && p x) xs ≡ any p (those number a xs)
+unfolding those
+any-those number a p xs = sym (any-only p (λ x. eqb (number x) a) xs)
+
+pub any-some : {A : Type 0} (xs : List A) → any (λ x. true) xs ≡ ltb 0 (length xs)
+unfolding any
+any-some [] = refl
+any-some (x ∷ xs) = sym (lt-ltb 0 (suc (length xs)) (suc-le-suc zero-le))
+
+and-true : (b : Bool) → (b && true) ≡ b
+and-true false = refl
+and-true true = refl
+
+pub any-number : {A : Type 0} (number : A → ℕ) (a : ℕ) (xs : List A) → any (λ x. eqb (number x) a) xs ≡ ltb 0 (length (those number a xs))
+any-number number a xs =
+    any-same (λ x. eqb (number x) a) (λ x. eqb (number x) a && true) (λ x. sym (and-true (eqb (number x) a))) xs
+    ∙ any-those number a (λ x. true) xs
+    ∙ any-some (those number a xs)

@@ -1,0 +1,304 @@
+-- Laws: a peer by its words, and what a report does to it. Assumes nothing.
+use mathlib.Core.Path.{_≡_, refl, sym, ap, _∙_, subst}
+use mathlib.Core.Bool.{Bool, true, false, cond, not, _&&_, _||_}
+use mathlib.Core.List.{List, [], _∷_, _++_, map}
+use mathlib.Core.Option.{Option, none, some}
+use Prim.Native.Nat.{ℕ, zero, suc, _+_, _-_, _*_, _^_, _≤_, _<_, min, zero-le, suc-le-suc}
+use native.Mathlib.Nat.{le-of-suc-le-suc, not-suc-le-zero}
+use native.Mathlib.Omega.{arith}
+use borrow.Author.Tests.{ltb-true, ltb-false, lt-ltb, le-ltb, leb-true, eq-eqb, ne-eqb}
+use lib.Dec.{ltb, leb, eqb}
+use lib.ListN.{length, take, drop, getD, length-map}
+use lib.Seq.{take-all, getD-drop}
+use Rattle.records.specs.declared.Span.the-variants.{Between}
+use Rattle.records.specs.Records.{records, rangeIn}
+use Rattle.records.proofs.TestLaws.{split, both, and-intro}
+use Rattle.records.proofs.RecordLaws.{fits-intro, length-records}
+use Rattle.records.proofs.PlaceLaws.{find-cases}
+use Rattle.records.proofs.OrderLaws.{keyAt}
+use Rattle.records.proofs.TableLaws.{wide-records}
+use Rattle.demand.specs.declared.peer_demand.DemandReport.{DemandReport}
+use Rattle.demand.specs.declared.peer_demand.Verdict.{Verdict}
+use Rattle.demand.specs.declared.peer_demand.Verdict.the-variants as verdict
+use Rattle.demand.specs.PeerLists.{all, any, first, only, those}
+use Rattle.demand.specs.PeerRecords.{Snapshot, PeerRecord, snapshotOf, timeWords, snapshotWords, pastWords, peerWords, peerOf}
+use Rattle.demand.specs.PeerState.{isWord, isKnown, peerWith, validSnapshot, validPast, validPeer}
+use Rattle.demand.specs.PeerChanges as changes
+use Rattle.demand.specs.PeerRuns.{word, peersIn, Replaceable, Front, Known, orNew, nextPast, verdictWith, pastAfter}
+use Rattle.demand.proofs.PeerRangeLaws.{only-yes, only-no, those-at, those-gap, first-shape, word-before, firstWord, those-words}
+use Rattle.demand.proofs.PeerRunLaws.{load-count}
+use Rattle.demand.proofs.PeerOrderLaws.{length-replaced}
+
+-- ---- a peer among the known ones
+
+pub any-counted : {A : Type 0} (p : A → Bool) (xs : List A) → any p xs ≡ ltb 0 (length (only p xs))
+unfolding any only
+any-counted p [] = refl
+any-counted p (x ∷ xs) = split (p x)
+    (λ e. ap (λ (b : Bool). b || any p xs) e ∙ sym (ap (λ l. ltb 0 (length l)) (only-yes p x xs e) ∙ lt-ltb 0 (suc (length (only p xs))) (suc-le-suc zero-le)))
+    (λ e. ap (λ (b : Bool). b || any p xs) e ∙ any-counted p xs ∙ sym (ap (λ l. ltb 0 (length l)) (only-no p x xs e)))
+
+module _ (n id : ℕ) (xs : List ℕ) (k : Known n xs) where
+  those-peers : those (word 0) id (records 12 n xs) ≡ map peerWords (those (λ (p : PeerRecord). p .id) id (peersIn n xs))
+  unfolding peerWords
+  those-peers = ap (those (word 0) id) (k .exact) ∙ sym (those-words (λ (p : PeerRecord). p .id) peerWords (word 0) (λ x. refl) id (peersIn n xs))
+
+  pub one-peer : length (those (word 0) id (records 12 n xs)) ≤ 1
+  one-peer = find-cases 1 (id ∷ []) (records 12 n xs)
+      (λ i e. few (those (word 0) id (records 12 n xs)) _ (those-at 1 firstWord (λ (x : ℕ). x ∷ []) (records 12 n xs) (k .ascends) shape word-before id i e))
+      (λ i e. none-of (those (word 0) id (records 12 n xs)) (those-gap 1 firstWord (λ (x : ℕ). x ∷ []) (records 12 n xs) (k .ascends) shape word-before id i e))
+    where
+      shape : (i : ℕ) → i < length (records 12 n xs) → keyAt 1 (records 12 n xs) i ≡ firstWord (getD (records 12 n xs) i []) ∷ []
+      shape = first-shape 12 (records 12 n xs) (omega arith) (wide-records 12 n xs (k .fit))
+
+      few : (l : List (List ℕ)) (r : List ℕ) → l ≡ r ∷ [] → length l ≤ 1
+      few l r e = subst (λ (m : List (List ℕ)). length m ≤ 1) (sym e) (omega arith)
+
+      none-of : (l : List (List ℕ)) → l ≡ [] → length l ≤ 1
+      none-of l e = subst (λ (m : List (List ℕ)). length m ≤ 1) (sym e) (omega arith)
+
+  pub read-fits : Replaceable 12 n id [] xs
+  unfolding records
+  read-fits = record {
+    fit = fits-intro (length xs) 12 n (omega arith) (k .fit);
+    depth = 1;
+    some-words = omega arith;
+    ascends = k .ascends;
+    whole = refl;
+    room = omega (arith, k .fit, length-replaced (word 0) id [] (records 12 n xs), length-records 12 n xs, empty-length);
+  }
+    where
+      empty-length : length {A = List ℕ} [] ≡ 0
+      empty-length = refl
+
+  peers-length : length (those (word 0) id (records 12 n xs)) ≡ length (those (λ (p : PeerRecord). p .id) id (peersIn n xs))
+  peers-length = ap length those-peers ∙ length-map (those (λ (p : PeerRecord). p .id) id (peersIn n xs)) peerWords
+
+  pub known-is : (lo hi : ℕ) → rangeIn 12 n id xs ≡ Between lo hi → ltb lo hi ≡ isKnown (peersIn n xs) id
+  unfolding isKnown those
+  known-is lo hi e =
+      let q : hi - lo ≡ length (those (word 0) id (records 12 n xs)) = load-count 12 n id lo hi xs [] (take ((hi - lo) * 12) (drop (lo * 12) xs)) read-fits e refl in
+      by-gap lo hi (length (those (λ (p : PeerRecord). p .id) id (peersIn n xs))) (q ∙ peers-length) ∙ sym (any-counted (λ (p : PeerRecord). eqb (p .id) id) (peersIn n xs))
+    where
+      by-gap : (lo hi m : ℕ) → hi - lo ≡ m → ltb lo hi ≡ ltb 0 m
+      by-gap lo hi m e = split (ltb lo hi)
+          (λ h. h ∙ sym (lt-ltb 0 m (omega (arith, ltb-true lo hi h))))
+          (λ h. h ∙ sym (le-ltb 0 m (omega (arith, ltb-false lo hi h))))
+
+  -- read into twelve words
+  module _ (m : ℕ) (ws : List ℕ) (f : Front 12 m (those (word 0) id (records 12 n xs)) ws) where
+    pub read-none : m ≡ 0 → id ∷ 0 ∷ 0 ∷ 0 ∷ 0 ∷ 0 ∷ 0 ∷ 0 ∷ 0 ∷ 0 ∷ 0 ∷ 0 ∷ [] ≡ peerWords (orNew id (peerWith id (peersIn n xs)))
+    unfolding peerWords
+    read-none e = nobody (those (λ (p : PeerRecord). p .id) id (peersIn n xs)) (omega (arith, f .count, peers-length))
+      where
+        nobody : (ps : List PeerRecord) → length ps ≡ 0 → id ∷ 0 ∷ 0 ∷ 0 ∷ 0 ∷ 0 ∷ 0 ∷ 0 ∷ 0 ∷ 0 ∷ 0 ∷ 0 ∷ [] ≡ peerWords (orNew id (first ps))
+        nobody [] z = refl
+        nobody (p ∷ ps) z = absurd (absurd-suc (length ps) z)
+          where
+            absurd-suc : (n : ℕ) → suc n ≡ 0 → ⊥
+            absurd-suc n z = omega arith
+
+    pub read-one : length ws ≡ 12 → (m ≡ 0 → ⊥) → ws ≡ peerWords (orNew id (peerWith id (peersIn n xs)))
+    unfolding records
+    read-one l h = somebody m (those (λ (p : PeerRecord). p .id) id (peersIn n xs)) (f .front ∙ those-peers) h
+      where
+        somebody : (m : ℕ) (ps : List PeerRecord) → records 12 m ws ≡ map peerWords ps → (m ≡ 0 → ⊥) → ws ≡ peerWords (orNew id (first ps))
+        somebody zero ps e g = absurd (g refl)
+        somebody (suc m) [] e g = let z : _≡_ {A = ℕ} 0 1 = cc in absurd (omega arith)
+        somebody (suc m) (p ∷ ps) e g = sym (take-all 12 ws (omega arith)) ∙ cc
+
+-- a valid peer's words, or those of one that is not known, stand for it
+pub no-peer-valid : (id : ℕ) → id < 2 ^ 64 → validPeer (orNew id none) ≡ true
+unfolding validPeer peerWords all
+no-peer-valid id h = and-intro (isWord id && true) _ (and-intro (isWord id) true (lt-ltb id (2 ^ 64) h) refl) refl
+
+-- ---- the words of a peer
+
+pub past-count : (p : PeerRecord) → word 7 (peerWords p) ≡ length (p .pastEpochs)
+unfolding peerWords
+past-count p = by (p .heldUntil) (p .snapshot)
+  where
+    by : (t : Option ℕ) (s : Option Snapshot) → word 7 (p .id ∷ (timeWords t ++ (snapshotWords s ++ pastWords (p .pastEpochs)))) ≡ length (p .pastEpochs)
+    by none none = refl
+    by none (some s) = refl
+    by (some t) none = refl
+    by (some t) (some s) = refl
+
+pub past-words : (p : PeerRecord) → drop 7 (peerWords p) ≡ pastWords (p .pastEpochs)
+unfolding peerWords
+past-words p = by (p .heldUntil) (p .snapshot)
+  where
+    by : (t : Option ℕ) (s : Option Snapshot) → drop 7 (p .id ∷ (timeWords t ++ (snapshotWords s ++ pastWords (p .pastEpochs)))) ≡ pastWords (p .pastEpochs)
+    by none none = refl
+    by none (some s) = refl
+    by (some t) none = refl
+    by (some t) (some s) = refl
+
+-- the snapshot of a peer that has one
+abbrev pub oldSnapshot : List ℕ → Snapshot
+oldSnapshot old = record { epoch = word 4 old; round = word 5 old; heardAt = word 6 old }
+
+pub record PeerFacts (old : List ℕ) : Type 0 where
+  pub valid : validPeer (peerOf old) ≡ true
+  pub exact : old ≡ peerWords (peerOf old)
+
+module _ (old : List ℕ) (f : PeerFacts old) where
+  parts : (validSnapshot (peerOf old .snapshot) ≡ true) × (validPast (peerOf old .pastEpochs) ≡ true)
+  unfolding validPeer
+  parts =
+      let a = both (all isWord (peerWords (peerOf old))) _ (f .valid) in
+      let b = both (validSnapshot (peerOf old .snapshot)) _ (a .1) in
+      (b .0, both (validPast (peerOf old .pastEpochs)) _ (b .1) .0)
+
+  pub few-past : length (peerOf old .pastEpochs) ≤ 4
+  few-past = leb-true (length (peerOf old .pastEpochs)) 4 (both (leb (length (peerOf old .pastEpochs)) 4) _ (parts .1) .0)
+
+  pub past-is : word 7 old ≡ length (peerOf old .pastEpochs)
+  past-is = ap (word 7) (f .exact) ∙ past-count (peerOf old)
+
+  pub few-words : word 7 old ≤ 4
+  few-words = omega (arith, past-is, few-past)
+
+  pub snapshot-none : word 3 old ≡ 0 → peerOf old .snapshot ≡ none
+  unfolding peerOf
+  snapshot-none e = ap (λ (flag : ℕ). snapshotOf flag (word 4 old) (word 5 old) (word 6 old)) e
+
+  pub snapshot-some : (word 3 old ≡ 0 → ⊥) → peerOf old .snapshot ≡ some (record { epoch = word 4 old; round = word 5 old; heardAt = word 6 old })
+  unfolding peerOf
+  snapshot-some h = flagged (word 3 old) h
+    where
+      flagged : (flag : ℕ) → (flag ≡ 0 → ⊥) → snapshotOf flag (word 4 old) (word 5 old) (word 6 old) ≡ some (record { epoch = word 4 old; round = word 5 old; heardAt = word 6 old })
+      flagged zero h = absurd (h refl)
+      flagged (suc flag) h = refl
+
+  pub round-small : (word 3 old ≡ 0 → ⊥) → word 5 old < 2 ^ 16
+  round-small h =
+      let v : validSnapshot (some (record { epoch = word 4 old; round = word 5 old; heardAt = word 6 old })) ≡ true = ap validSnapshot (sym (snapshot-some h)) ∙ parts .0 in
+      ltb-true (word 5 old) (2 ^ 16) (both (ltb (word 4 old) (2 ^ 32)) (ltb (word 5 old) (2 ^ 16)) v .1)
+
+  pub past-part : (e : ℕ) → e ≡ 8 + word 7 old → take (e - 8) (drop 8 old) ≡ peerOf old .pastEpochs
+  unfolding peerOf
+  past-part e q =
+      let z : e - 8 ≡ word 7 old = omega (arith, q) in
+      ap (λ (m : ℕ). take m (drop 8 old)) z
+
+-- ---- the verdict
+module _ (e f r s : ℕ) (alike : Bool) where
+  pub other-epoch : (e ≡ f → ⊥) → verdict.Contests ≡ cond (eqb e f && (eqb r s && alike)) verdict.Duplicates verdict.Contests
+  other-epoch h = sym (ap (λ (b : Bool). cond (b && (eqb r s && alike)) verdict.Duplicates verdict.Contests) (ne-eqb e f h))
+
+  pub other-round : e ≡ f → (r ≡ s → ⊥) → verdict.Contests ≡ cond (eqb e f && (eqb r s && alike)) verdict.Duplicates verdict.Contests
+  other-round p h = sym (λ i. cond (eq-eqb e f p i && (ne-eqb r s h i && alike)) verdict.Duplicates verdict.Contests)
+
+  pub same-round : e ≡ f → r ≡ s → cond alike verdict.Duplicates verdict.Contests ≡ cond (eqb e f && (eqb r s && alike)) verdict.Duplicates verdict.Contests
+  same-round p q = sym (λ i. cond (eq-eqb e f p i && (eq-eqb r s q i && alike)) verdict.Duplicates verdict.Contests)
+
+not-taken : (past : List ℕ) (b : Bool) (v : Verdict) → v ≡ cond b verdict.Duplicates verdict.Contests → verdictWith past v ≡ cond b changes.duplicates changes.contests
+not-taken past true v e = ap (verdictWith past) e
+not-taken past false v e = ap (verdictWith past) e
+
+module _ (jump : ℕ) (r : DemandReport) (past : List ℕ) (alike : Bool) where
+  pub judge-none : (s : Option Snapshot) → s ≡ none → verdictWith (nextPast r s past) (verdict.Takes false) ≡ changes.verdictOn jump r s past alike
+  judge-none none e = refl
+  judge-none (some s) e = let z : _≡_ {A = ℕ} 0 1 = cc in absurd (omega arith)
+
+  module _ (o : Snapshot) where
+    news : changes.isNews r o past ≡ true → (v : changes.Verdict) → v ≡ changes.taken jump r o past → v ≡ changes.verdictOn jump r (some o) past alike
+    news e v q = q ∙ sym (ap (λ (b : Bool). cond b (changes.taken jump r o past) (changes.notTaken r o alike)) e)
+
+    no-news : changes.isNews r o past ≡ false → (v : Verdict) → v ≡ cond (eqb (o .epoch) (r .epoch) && (eqb (o .round) (r .round) && alike)) verdict.Duplicates verdict.Contests → (ps : List ℕ) → verdictWith ps v ≡ changes.verdictOn jump r (some o) past alike
+    no-news e v q ps =
+        not-taken ps (eqb (o .epoch) (r .epoch) && (eqb (o .round) (r .round) && alike)) v q
+        ∙ sym (ap (λ (b : Bool). cond b (changes.taken jump r o past) (changes.notTaken r o alike)) e)
+
+    pub judge-past : any (λ (e : ℕ). eqb e (r .epoch)) past ≡ true → (v : Verdict) → v ≡ cond (eqb (o .epoch) (r .epoch) && (eqb (o .round) (r .round) && alike)) verdict.Duplicates verdict.Contests → verdictWith (nextPast r (some o) past) v ≡ changes.verdictOn jump r (some o) past alike
+    judge-past e v q = no-news (ap (λ (b : Bool). not b && (not (eqb (o .epoch) (r .epoch)) || changes.newer (r .round) (o .round))) e) v q (nextPast r (some o) past)
+
+    pub judge-epoch : any (λ (e : ℕ). eqb e (r .epoch)) past ≡ false → (o .epoch ≡ r .epoch → ⊥) → verdictWith (nextPast r (some o) past) (verdict.Takes true) ≡ changes.verdictOn jump r (some o) past alike
+    judge-epoch e h =
+        let d : eqb (o .epoch) (r .epoch) ≡ false = ne-eqb (o .epoch) (r .epoch) h in
+        news (λ i. not (e i) && (not (d i) || changes.newer (r .round) (o .round))) _
+        ((λ i. verdictWith (cond (d i) past (o .epoch ∷ take 3 past)) (verdict.Takes true)) ∙ sym (ap (λ (b : Bool). cond b (changes.takes past (changes.implausible jump (r .round) (o .round))) (changes.takes (o .epoch ∷ take 3 past) true)) d))
+
+    pub judge-newer : any (λ (e : ℕ). eqb e (r .epoch)) past ≡ false → o .epoch ≡ r .epoch → changes.newer (r .round) (o .round) ≡ true → (b : Bool) → b ≡ changes.implausible jump (r .round) (o .round) → verdictWith (nextPast r (some o) past) (verdict.Takes b) ≡ changes.verdictOn jump r (some o) past alike
+    judge-newer e h w b q =
+        let d : eqb (o .epoch) (r .epoch) ≡ true = eq-eqb (o .epoch) (r .epoch) h in
+        news (λ i. not (e i) && (not (d i) || w i)) _
+        ((λ i. changes.takes (cond (d i) past (o .epoch ∷ take 3 past)) (q i)) ∙ sym (ap (λ (t : Bool). cond t (changes.takes past (changes.implausible jump (r .round) (o .round))) (changes.takes (o .epoch ∷ take 3 past) true)) d))
+
+    pub judge-old : any (λ (e : ℕ). eqb e (r .epoch)) past ≡ false → o .epoch ≡ r .epoch → changes.newer (r .round) (o .round) ≡ false → (v : Verdict) → v ≡ cond (eqb (o .epoch) (r .epoch) && (eqb (o .round) (r .round) && alike)) verdict.Duplicates verdict.Contests → verdictWith (nextPast r (some o) past) v ≡ changes.verdictOn jump r (some o) past alike
+    judge-old e h w v q =
+        let d : eqb (o .epoch) (r .epoch) ≡ true = eq-eqb (o .epoch) (r .epoch) h in
+        no-news (λ i. not (e i) && (not (d i) || w i)) v q (nextPast r (some o) past)
+
+-- with the snapshot named
+pub judge-as : (jump : ℕ) (r : DemandReport) (s t : Option Snapshot) (past : List ℕ) (alike : Bool) (v : Verdict) → s ≡ t → verdictWith (nextPast r t past) v ≡ changes.verdictOn jump r t past alike → verdictWith (nextPast r s past) v ≡ changes.verdictOn jump r s past alike
+judge-as jump r s t past alike v e q = subst (λ (x : Option Snapshot). verdictWith (nextPast r x past) v ≡ changes.verdictOn jump r x past alike) (sym e) q
+
+-- ---- the words of a peer once a report is taken
+at-seven : (l : List ℕ) (k : ℕ) → word (7 + k) l ≡ word k (drop 7 l)
+at-seven l k = sym (getD-drop 7 l k 0)
+
+seven-more : (l : List ℕ) → word 7 l ∷ word 8 l ∷ word 9 l ∷ word 10 l ∷ word 11 l ∷ [] ≡ word 0 (drop 7 l) ∷ word 1 (drop 7 l) ∷ word 2 (drop 7 l) ∷ word 3 (drop 7 l) ∷ word 4 (drop 7 l) ∷ []
+seven-more l = (λ i. at-seven l 0 i ∷ at-seven l 1 i ∷ at-seven l 2 i ∷ at-seven l 3 i ∷ at-seven l 4 i ∷ [])
+
+seven-shift : (e : ℕ) (l : List ℕ) → min (word 7 l + 1) 4 ∷ e ∷ word 8 l ∷ word 9 l ∷ word 10 l ∷ [] ≡ min (word 0 (drop 7 l) + 1) 4 ∷ e ∷ word 1 (drop 7 l) ∷ word 2 (drop 7 l) ∷ word 3 (drop 7 l) ∷ []
+seven-shift e l = (λ i. min (at-seven l 0 i + 1) 4 ∷ e ∷ at-seven l 1 i ∷ at-seven l 2 i ∷ at-seven l 3 i ∷ [])
+
+too-many : {P : Type 0} (a b c d e : ℕ) (es : List ℕ) → length (a ∷ b ∷ c ∷ d ∷ e ∷ es) ≤ 4 → P
+too-many a b c d e es h = absurd (not-suc-le-zero (le-of-suc-le-suc (le-of-suc-le-suc (le-of-suc-le-suc (le-of-suc-le-suc h)))))
+
+five-words : (past : List ℕ) → length past ≤ 4 → word 0 (pastWords past) ∷ word 1 (pastWords past) ∷ word 2 (pastWords past) ∷ word 3 (pastWords past) ∷ word 4 (pastWords past) ∷ [] ≡ pastWords past
+five-words [] h = refl
+five-words (a ∷ []) h = refl
+five-words (a ∷ b ∷ []) h = refl
+five-words (a ∷ b ∷ c ∷ []) h = refl
+five-words (a ∷ b ∷ c ∷ d ∷ []) h = refl
+five-words (a ∷ b ∷ c ∷ d ∷ e ∷ es) h = too-many a b c d e es h
+
+one-more-past : (x : ℕ) (past : List ℕ) → length past ≤ 4 → min (word 0 (pastWords past) + 1) 4 ∷ x ∷ word 1 (pastWords past) ∷ word 2 (pastWords past) ∷ word 3 (pastWords past) ∷ [] ≡ pastWords (x ∷ take 3 past)
+one-more-past x [] h = refl
+one-more-past x (a ∷ []) h = refl
+one-more-past x (a ∷ b ∷ []) h = refl
+one-more-past x (a ∷ b ∷ c ∷ []) h = refl
+one-more-past x (a ∷ b ∷ c ∷ d ∷ []) h = refl
+one-more-past x (a ∷ b ∷ c ∷ d ∷ e ∷ es) h = too-many a b c d e es h
+
+module _ (id at : ℕ) (r : DemandReport) (old : List ℕ) (f : PeerFacts old) where
+  taken-is : (past : List ℕ) → peerWords (changes.takenPeer id r at past) ≡ id ∷ 0 ∷ 0 ∷ 1 ∷ r .epoch ∷ r .round ∷ at ∷ pastWords past
+  unfolding peerWords
+  taken-is past = refl
+
+  after-none : word 3 old ≡ 0 → pastAfter r old ≡ []
+  after-none e = ap (λ (s : Option Snapshot). nextPast r s (peerOf old .pastEpochs)) (snapshot-none old f e)
+
+  after-some : (word 3 old ≡ 0 → ⊥) → pastAfter r old ≡ cond (eqb (word 4 old) (r .epoch)) (peerOf old .pastEpochs) (word 4 old ∷ take 3 (peerOf old .pastEpochs))
+  after-some h = ap (λ (s : Option Snapshot). nextPast r s (peerOf old .pastEpochs)) (snapshot-some old f h)
+
+  five : drop 7 old ≡ pastWords (peerOf old .pastEpochs)
+  five = ap (drop 7) (f .exact) ∙ past-words (peerOf old)
+
+  pub taken-first : word 3 old ≡ 0 → id ∷ 0 ∷ 0 ∷ 1 ∷ r .epoch ∷ r .round ∷ at ∷ 0 ∷ 0 ∷ 0 ∷ 0 ∷ 0 ∷ [] ≡ peerWords (changes.takenPeer id r at (pastAfter r old))
+  taken-first e = sym (taken-is (pastAfter r old) ∙ ap (λ (l : List ℕ). id ∷ 0 ∷ 0 ∷ 1 ∷ r .epoch ∷ r .round ∷ at ∷ pastWords l) (after-none e))
+
+  pub taken-again : (word 3 old ≡ 0 → ⊥) → word 4 old ≡ r .epoch → id ∷ 0 ∷ 0 ∷ 1 ∷ r .epoch ∷ r .round ∷ at ∷ word 7 old ∷ word 8 old ∷ word 9 old ∷ word 10 old ∷ word 11 old ∷ [] ≡ peerWords (changes.takenPeer id r at (pastAfter r old))
+  taken-again h e =
+      let q : pastAfter r old ≡ peerOf old .pastEpochs = after-some h ∙ ap (λ (b : Bool). cond b (peerOf old .pastEpochs) (word 4 old ∷ take 3 (peerOf old .pastEpochs))) (eq-eqb (word 4 old) (r .epoch) e) in
+      ap (λ (l : List ℕ). id ∷ 0 ∷ 0 ∷ 1 ∷ r .epoch ∷ r .round ∷ at ∷ l) (words-of (peerOf old .pastEpochs) (few-past old f) old five)
+      ∙ sym (taken-is (pastAfter r old) ∙ ap (λ (l : List ℕ). id ∷ 0 ∷ 0 ∷ 1 ∷ r .epoch ∷ r .round ∷ at ∷ pastWords l) q)
+    where
+      words-of : (past : List ℕ) → length past ≤ 4 → (l : List ℕ) → drop 7 l ≡ pastWords past → word 7 l ∷ word 8 l ∷ word 9 l ∷ word 10 l ∷ word 11 l ∷ [] ≡ pastWords past
+      words-of past k l e =
+          seven-more l
+          ∙ ap (λ (z : List ℕ). word 0 z ∷ word 1 z ∷ word 2 z ∷ word 3 z ∷ word 4 z ∷ []) e
+          ∙ five-words past k
+
+  pub taken-anew : (word 3 old ≡ 0 → ⊥) → (word 4 old ≡ r .epoch → ⊥) → (count : ℕ) → count ≡ min (word 7 old + 1) 4 → id ∷ 0 ∷ 0 ∷ 1 ∷ r .epoch ∷ r .round ∷ at ∷ count ∷ word 4 old ∷ word 8 old ∷ word 9 old ∷ word 10 old ∷ [] ≡ peerWords (changes.takenPeer id r at (pastAfter r old))
+  taken-anew h e count ec =
+      let q : pastAfter r old ≡ word 4 old ∷ take 3 (peerOf old .pastEpochs) = after-some h ∙ ap (λ (b : Bool). cond b (peerOf old .pastEpochs) (word 4 old ∷ take 3 (peerOf old .pastEpochs))) (ne-eqb (word 4 old) (r .epoch) e) in
+      ap (λ (l : List ℕ). id ∷ 0 ∷ 0 ∷ 1 ∷ r .epoch ∷ r .round ∷ at ∷ l)
+      (ap (λ (z : ℕ). z ∷ word 4 old ∷ word 8 old ∷ word 9 old ∷ word 10 old ∷ []) ec
+      ∙ seven-shift (word 4 old) old
+      ∙ ap (λ (z : List ℕ). min (word 0 z + 1) 4 ∷ word 4 old ∷ word 1 z ∷ word 2 z ∷ word 3 z ∷ []) five
+      ∙ one-more-past (word 4 old) (peerOf old .pastEpochs) (few-past old f))
+      ∙ sym (taken-is (pastAfter r old) ∙ ap (λ (l : List ℕ). id ∷ 0 ∷ 0 ∷ 1 ∷ r .epoch ∷ r .round ∷ at ∷ pastWords l) q)

@@ -1,0 +1,49 @@
+-- Question 1 of the peers' tables. Assumes nothing.
+use Prim.Native.Nat.{ℕ, _<_, _≤_}
+use mathlib.Core.Path.{_≡_, sym, _∙_, ap}
+use mathlib.Core.Bool.{Bool, true, false, cond, _&&_}
+use lib.Dec.{leb}
+use lib.ListN.{length}
+use borrow.Author.Tests.{le-leb, lt-leb}
+use Rattle.gcra.specs.Questions.{Answer, refused, given, firstNo, numbered}
+use Rattle.demand.specs.PeerState.{PeerTables, peersSize, snapshotKeysSize, contestedSize, haveRoom}
+use Rattle.demand.specs.PeerCalls.{newQuestions}
+
+pub short-peers : (t : PeerTables) → length (t .peers) < peersSize → false ≡ haveRoom t
+unfolding haveRoom
+short-peers t h =
+    sym
+    (ap (λ (b : Bool). b && (leb snapshotKeysSize (length (t .snapshotKeys)) && leb contestedSize (length (t .contested))))
+    (lt-leb peersSize (length (t .peers)) h))
+
+pub short-keys :
+    (t : PeerTables) → peersSize ≤ length (t .peers) → length (t .snapshotKeys) < snapshotKeysSize → false ≡ haveRoom t
+unfolding haveRoom
+short-keys t h k =
+    sym
+    (ap (λ (b : Bool). b && (leb snapshotKeysSize (length (t .snapshotKeys)) && leb contestedSize (length (t .contested))))
+    (le-leb peersSize (length (t .peers)) h)
+    ∙ ap (λ (b : Bool). b && leb contestedSize (length (t .contested)))
+    (lt-leb snapshotKeysSize (length (t .snapshotKeys)) k))
+
+pub long-contested :
+    (t : PeerTables)
+    → peersSize ≤ length (t .peers)
+    → snapshotKeysSize ≤ length (t .snapshotKeys)
+    → leb contestedSize (length (t .contested)) ≡ haveRoom t
+unfolding haveRoom
+long-contested t h k =
+    sym
+    (ap (λ (b : Bool). b && (leb snapshotKeysSize (length (t .snapshotKeys)) && leb contestedSize (length (t .contested))))
+    (le-leb peersSize (length (t .peers)) h)
+    ∙ ap (λ (b : Bool). b && leb contestedSize (length (t .contested)))
+    (le-leb snapshotKeysSize (length (t .snapshotKeys)) k))
+
+-- the answer to question 1 alone
+pub no-room : {A : Type 0} (t : PeerTables) (v : A) → haveRoom t ≡ false → refused 1 ≡ numbered (firstNo (newQuestions t)) v
+unfolding firstNo
+no-room t v h = sym (ap (λ (b : Bool). numbered (cond b 0 1) v) h)
+
+pub some-room : {A : Type 0} (t : PeerTables) (v : A) → haveRoom t ≡ true → given v ≡ numbered (firstNo (newQuestions t)) v
+unfolding firstNo
+some-room t v h = sym (ap (λ (b : Bool). numbered (cond b 0 1) v) h)

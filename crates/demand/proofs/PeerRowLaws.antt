@@ -1,0 +1,115 @@
+-- The records of a table by the words at their places, and a scan of them record by record. Assumes nothing.
+use Prim.Native.Nat.{ℕ, suc, _+_, _-_, _*_, _^_, _≤_, _<_}
+use mathlib.Core.Path.{_≡_, refl, sym, ap, _∙_}
+use mathlib.Core.Bool.{Bool, true, false, _&&_, _||_}
+use mathlib.Core.List.{List, [], _∷_}
+use native.Mathlib.Nat.{add-zero}
+use native.Mathlib.Numerals.{add-one}
+use native.Mathlib.Omega.{arith}
+use borrow.Author.Tests.{leb-false}
+use lib.Dec.{ltb, leb}
+use lib.ListN.{length, take, drop, getD}
+use lib.Seq.{getD-take, getD-drop}
+use Rattle.records.specs.declared.Found.{Found}
+use Rattle.records.specs.declared.Found.the-variants.{Unfit}
+use Rattle.records.specs.declared.Span.{Span}
+use Rattle.records.specs.declared.Span.the-variants.{Between, NoSpan}
+use Rattle.records.specs.Records.{records, keyed, ascending, lowerBound, find, findIn, rangeIn}
+use Rattle.records.proofs.TestLaws.{split}
+use Rattle.records.proofs.RecordLaws.{length-records, record-at, fits-intro}
+use Rattle.records.proofs.OrderLaws.{keyed-is}
+use Rattle.records.proofs.SearchLaws.{find-fit, range-is}
+use Rattle.records.proofs.PlaceLaws.{find-cases}
+use Rattle.records.proofs.TableLaws.{wide-records}
+use Rattle.demand.specs.PeerLists.{all, those}
+use Rattle.demand.specs.PeerState.{isDemand}
+use Rattle.demand.specs.PeerScan.{isPeer, arePeerWords, areKeyWords, firstWord, KeysReady}
+use Rattle.demand.proofs.PeerListLaws.{all-here, all-end}
+use Rattle.demand.proofs.PeerRangeLaws.{range-ordered}
+use Rattle.demand.proofs.PeerFindLaws.{range-count}
+
+-- word j of record i
+pub word-at : (w n : ℕ) (xs : List ℕ) (i j : ℕ) → i < n → j < w → getD (getD (records w n xs) i []) j 0 ≡ getD xs (i * w + j) 0
+word-at w n xs i j h k = ap (λ (r : List ℕ). getD r j 0) (record-at w n xs i h) ∙ getD-take w (drop (i * w) xs) j 0 k ∙ getD-drop (i * w) xs j 0
+
+pub first-at : (w n : ℕ) (xs : List ℕ) (i : ℕ) → i < n → 1 ≤ w → firstWord (getD (records w n xs) i []) ≡ getD xs (i * w) 0
+first-at w n xs i h k = word-at w n xs i 0 h k ∙ ap (λ (m : ℕ). getD xs m 0) (add-zero (i * w))
+
+-- tests of record i are those of the words at its place
+pub peer-record : (n : ℕ) (xs : List ℕ) (i : ℕ) → i < n → arePeerWords (drop (i * 12) xs) ≡ arePeerWords (getD (records 12 n xs) i [])
+unfolding arePeerWords
+peer-record n xs i h = sym (ap arePeerWords (record-at 12 n xs i h) ∙ (λ k. isPeer (word 1 (omega arith) k) (word 2 (omega arith) k) (word 3 (omega arith) k) (word 4 (omega arith) k) (word 5 (omega arith) k) (word 6 (omega arith) k) (word 7 (omega arith) k) (word 8 (omega arith) k) (word 9 (omega arith) k) (word 10 (omega arith) k) (word 11 (omega arith) k)))
+  where
+    word : (j : ℕ) → j < 12 → getD (take 12 (drop (i * 12) xs)) j 0 ≡ getD (drop (i * 12) xs) j 0
+    word j l = getD-take 12 (drop (i * 12) xs) j 0 l
+
+pub key-record : (w n : ℕ) (xs : List ℕ) (i : ℕ) → i < n → 4 ≤ w → areKeyWords w (drop (i * w) xs) ≡ areKeyWords w (getD (records w n xs) i [])
+unfolding areKeyWords
+key-record w n xs i h four = sym (ap (areKeyWords w) (record-at w n xs i h) ∙ (λ k. isDemand (word 2 (omega arith) k) && (leb (word 3 (omega arith) k) 1 && round k)))
+  where
+    word : (j : ℕ) → j < w → getD (take w (drop (i * w) xs)) j 0 ≡ getD (drop (i * w) xs) j 0
+    word j l = getD-take w (drop (i * w) xs) j 0 l
+
+    round : (leb w 4 || ltb (getD (take w (drop (i * w) xs)) 4 0) (2 ^ 16)) ≡ (leb w 4 || ltb (getD (drop (i * w) xs) 4 0) (2 ^ 16))
+    round = split (leb w 4)
+        (λ e. ap (λ (b : Bool). b || ltb (getD (take w (drop (i * w) xs)) 4 0) (2 ^ 16)) e ∙ sym (ap (λ (b : Bool). b || ltb (getD (drop (i * w) xs) 4 0) (2 ^ 16)) e))
+        (λ e. ap (λ (m : ℕ). leb w 4 || ltb m (2 ^ 16)) (word 4 (omega (arith, leb-false w 4 e))))
+
+-- ---- a scan: what is left of it decides
+module _ (test : List ℕ → Bool) (w n : ℕ) (xs : List ℕ) (i : ℕ) (left : all test (records w n xs) ≡ all test (drop i (records w n xs))) where
+  pub scan-fails : i < n → test (getD (records w n xs) i []) ≡ false → false ≡ all test (records w n xs)
+  scan-fails h e = sym
+      (left ∙ all-here test [] (records w n xs) i (omega (arith, h, length-records w n xs))
+      ∙ ap (λ (b : Bool). b && all test (drop (suc i) (records w n xs))) e)
+
+  pub scan-goes : i < n → test (getD (records w n xs) i []) ≡ true → all test (records w n xs) ≡ all test (drop (i + 1) (records w n xs))
+  scan-goes h e =
+      left ∙ all-here test [] (records w n xs) i (omega (arith, h, length-records w n xs))
+      ∙ ap (λ (b : Bool). b && all test (drop (suc i) (records w n xs))) e
+      ∙ ap (λ (m : ℕ). all test (drop m (records w n xs))) (sym (add-one i))
+
+  pub scan-ends : n ≤ i → true ≡ all test (records w n xs)
+  scan-ends h = sym (left ∙ all-end test [] (records w n xs) i (omega (arith, h, length-records w n xs)))
+
+-- ---- searches of records that fit
+pub keyed-fit : (len w d n : ℕ) → 1 ≤ d → d ≤ 2 → d ≤ w → n * w ≤ len → keyed len w d n ≡ true
+keyed-fit len w d n a b c h = sym (keyed-is len w d n (λ e. omega (arith, e)) b c) ∙ fits-intro len w n (omega arith) h
+
+find-not-unfit : (d : ℕ) (k : List ℕ) (rs : List (List ℕ)) → find d k rs ≡ Unfit → ⊥
+find-not-unfit d k rs e = find-cases d k rs
+    (λ i f. let z : _≡_ {A = ℕ} 0 1 = cc in omega arith)
+    (λ i f. let z : _≡_ {A = ℕ} 0 1 = cc in omega arith)
+
+module _ (w d n a b : ℕ) (xs : List ℕ) (some-words : 1 ≤ d) (two-words : d ≤ 2) (in-record : d ≤ w) (fit : n * w ≤ length xs) where
+  pub find-says : (r : Found) → r ≡ findIn w d n a b xs → find d (take d (a ∷ b ∷ [])) (records w n xs) ≡ r
+  find-says r e = sym (e ∙ find-fit w d n a b xs (keyed-fit (length xs) w d n some-words two-words in-record fit))
+
+  pub never-unfit : (r : Found) → r ≡ findIn w d n a b xs → r ≡ Unfit → ⊥
+  never-unfit r e f = find-not-unfit d (take d (a ∷ b ∷ [])) (records w n xs) (find-says r e ∙ f)
+
+-- how many keys are those of a peer
+between-parts : (lo hi from to : ℕ) → Between lo hi ≡ Between from to → (from ≡ lo) × (to ≡ hi)
+between-parts lo hi from to e = (let p : from ≡ lo = cc in p, let p : to ≡ hi = cc in p)
+
+module _ (w n a : ℕ) (xs : List ℕ) (ready : KeysReady w n xs) (asc : ascending 2 (records w n xs) ≡ true) (r : Span) (e : r ≡ rangeIn w n a xs) where
+  abbrev lo : ℕ
+  lo = lowerBound 1 (a ∷ []) (records w n xs)
+
+  abbrev hi : ℕ
+  hi = lowerBound 1 ((a + 1) ∷ []) (records w n xs)
+
+  is-range : Between lo hi ≡ r
+  is-range = range-is w n a lo hi xs (fits-intro (length xs) w n (omega (arith, ready .wide)) (ready .fit)) refl refl ∙ sym e
+
+  pub span-ordered : (from to : ℕ) → r ≡ Between from to → from ≤ to
+  span-ordered from to f =
+      let p = between-parts lo hi from to (is-range ∙ f) in
+      omega (arith, p .0, p .1, range-ordered 2 w a (records w n xs) (omega arith) (omega (arith, ready .wide)) (wide-records w n xs (ready .fit)) asc)
+
+  pub span-counts : (from to : ℕ) → r ≡ Between from to → to - from ≡ length (those firstWord a (records w n xs))
+  span-counts from to f =
+      let p = between-parts lo hi from to (is-range ∙ f) in
+      omega (arith, p .0, p .1, range-count 2 w a (records w n xs) (omega arith) (omega (arith, ready .wide)) (wide-records w n xs (ready .fit)) asc)
+
+  pub never-no-span : r ≡ NoSpan → ⊥
+  never-no-span f = let g : Between lo hi ≡ NoSpan = is-range ∙ f in let z : _≡_ {A = ℕ} 0 1 = cc in omega arith

@@ -1,0 +1,144 @@
+-- Laws: a valid state in its tables, and what the tables hold after a departure and as time goes. Assumes nothing.
+use Prim.Native.Nat.{ℕ, zero, suc, _+_, _-_, _*_, _≤_, _<_}
+use mathlib.Core.Path.{_≡_, refl, sym, ap, _∙_, subst}
+use mathlib.Core.Bool.{Bool, true, false, cond, not, _&&_, _||_}
+use mathlib.Core.List.{List, [], _∷_, _++_, map}
+use mathlib.Core.Option.{Option, none, some}
+use native.Mathlib.Nat.{mul-le-mul-right}
+use native.Mathlib.Omega.{arith}
+use borrow.Author.Tests.{leb-true, eq-eqb, ne-eqb}
+use lib.Dec.{ltb, leb, eqb}
+use lib.ListN.{length, take, drop, getD, length-map, length-take, length-drop}
+use Rattle.records.specs.Records.{records, key, before, leads, ascending, same}
+use Rattle.records.proofs.TestLaws.{contradiction, split, both, and-intro, same-truth}
+use Rattle.records.proofs.RecordLaws.{length-records}
+use Rattle.records.proofs.OrderLaws.{before-trans}
+use Rattle.records.proofs.TableLaws.{Wide}
+use Rattle.demand.specs.declared.peer_demand.PeerDemand.{PeerDemand}
+use Rattle.demand.specs.PeerLists.{only, all, any, those, replaced, present}
+use Rattle.demand.specs.PeerRecords.{Snapshot, PeerRecord, SnapshotKey, ContestedKey, peerWords, snapshotKeyWords, contestedWords, peerOf, snapshotKeyOf, contestedOf}
+use Rattle.demand.specs.PeerState.{PeersState, PeerTables, maxPeers, maxDemandKeys, maxContested, peersSize, snapshotKeysSize, contestedSize, haveRoom, exact, areExact, valid, validPeers, validPeer, validSnapshotKeys, validSnapshotKey, validContesteds, validContested, stateOf, isValid, isTaken, isHeld, isKnown, hasSnapshot, Holds, Stores}
+use Rattle.demand.specs.PeerChanges.{forget, hold, holdPeer, leave, later, holdEnded, notEnded, expireHolds, expireAge, expire, agePeer, isLeft, isFresh, isFreshSnapshot, isHeldPeer, freshContested, freshPeers}
+use Rattle.demand.specs.PeerScan.{firstWord}
+use Rattle.demand.specs.PeerSteps.{inOrder, Valid, staysContested, staysPeer}
+use Rattle.demand.proofs.PeerWordLaws.{words-of-exact, contested-of-words, snapshot-key-of-words, peer-of-words}
+use Rattle.demand.proofs.PeerRangeLaws.{only-yes, only-no, only-same, only-only, map-only, any-map, any-only, replaced-words}
+use Rattle.demand.proofs.PeerTableLaws.{InOrder, in-order-says, in-order-intro, holds-more}
+
+-- ---- a table of a valid state
+
+pub record Sound {A : Type 0} (words : A → List ℕ) (of : List ℕ → A) (w d size n : ℕ) (xs : List ℕ) : Type 0 where
+  pub within : n * w ≤ size
+  pub room : size ≤ length xs
+  pub exactly : exact words of (records w n xs) ≡ true
+  pub order : inOrder w d n xs ≡ true
+
+sound : {A : Type 0} (words : A → List ℕ) (of : List ℕ → A) (w d most size n : ℕ) (xs : List ℕ) → 1 ≤ d → d ≤ 2 → d ≤ w → most * w ≤ size → size ≤ length xs → exact words of (records w n xs) ≡ true → leb (length (map of (records w n xs))) most ≡ true → ascending d (map words (map of (records w n xs))) ≡ true → Sound words of w d size n xs
+sound words of w d most size n xs hd hd₂ hw hs hx e l a =
+    let k : n ≤ most = omega (arith, leb-true (length (map of (records w n xs))) most l, length-map (records w n xs) of, length-records w n xs) in
+    let b : n * w ≤ size = omega (arith, mul-le-mul-right w k) in
+    record {
+      within = b;
+      room = hx;
+      exactly = e;
+      order = in-order-intro w d n xs hd hd₂ hw (omega arith) (sym (ap (ascending d) (words-of-exact words of (records w n xs) e)) ∙ a);
+    }
+
+pub record Tables (p : PeerDemand) (t : PeerTables) : Type 0 where
+  pub peers : Sound peerWords peerOf 12 1 peersSize (p .peers) (t .peers)
+  pub snapshotKeys : Sound snapshotKeyWords snapshotKeyOf 4 2 snapshotKeysSize (p .«snapshot_keys») (t .snapshotKeys)
+  pub contested : Sound contestedWords contestedOf 6 2 contestedSize (p .contested) (t .contested)
+
+pub tables-of : (p : PeerDemand) (t : PeerTables) → Valid p t → Tables p t
+unfolding haveRoom isValid areExact stateOf valid validPeers validSnapshotKeys validContesteds
+tables-of p t v =
+    let r = both (leb peersSize (length (t .peers))) _ (v .room) in
+    let r₂ = both (leb snapshotKeysSize (length (t .snapshotKeys))) _ (r .1) in
+    let q = both (areExact p t) (valid (stateOf p t)) (v .state) in
+    let e = both (exact peerWords peerOf (records 12 (p .peers) (t .peers))) _ (q .0) in
+    let e₂ = both (exact snapshotKeyWords snapshotKeyOf (records 4 (p .«snapshot_keys») (t .snapshotKeys))) _ (e .1) in
+    let s = stateOf p t in
+    let a = both (validPeers (s .peers)) _ (q .1) in
+    let a₂ = both (validSnapshotKeys (s .peers) (s .snapshotKeys)) _ (a .1) in
+    let b = both (leb (length (s .peers)) maxPeers) _ (a .0) in
+    let c = both (leb (length (s .snapshotKeys)) (maxPeers * maxDemandKeys)) _ (a₂ .0) in
+    let d = both (leb (length (s .contested)) (maxPeers * maxContested)) _ (a₂ .1) in
+    record {
+      peers =
+          sound peerWords peerOf 12 1 maxPeers peersSize (p .peers) (t .peers) (omega arith) (omega arith) (omega arith) (omega arith)
+          (leb-true peersSize (length (t .peers)) (r .0)) (e .0) (b .0) (both (all validPeer (s .peers)) _ (b .1) .1);
+      snapshotKeys =
+          sound snapshotKeyWords snapshotKeyOf 4 2 (maxPeers * maxDemandKeys) snapshotKeysSize (p .«snapshot_keys») (t .snapshotKeys) (omega arith) (omega arith) (omega arith) (omega arith)
+          (leb-true snapshotKeysSize (length (t .snapshotKeys)) (r₂ .0)) (e₂ .0) (c .0) (both (ascending 2 (map snapshotKeyWords (s .snapshotKeys))) _ (both (all validSnapshotKey (s .snapshotKeys)) _ (c .1) .1) .0);
+      contested =
+          sound contestedWords contestedOf 6 2 (maxPeers * maxContested) contestedSize (p .contested) (t .contested) (omega arith) (omega arith) (omega arith) (omega arith)
+          (leb-true contestedSize (length (t .contested)) (r₂ .1)) (e₂ .1) (d .0) (both (ascending 2 (map contestedWords (s .contested))) _ (both (all validContested (s .contested)) _ (d .1) .1) .0);
+    }
+
+module _ {A : Type 0} (words : A → List ℕ) (of : List ℕ → A) (w d size n : ℕ) (xs : List ℕ) (o : Sound words of w d size n xs) where
+  back : map words (map of (records w n xs)) ≡ records w n xs
+  back = words-of-exact words of (records w n xs) (o .exactly)
+
+  -- as it was
+  pub holds-still : Holds w size n (map words (map of (records w n xs))) xs xs
+  holds-still = record { count = sym (ap length back ∙ length-records w n xs); front = sym back; rest = refl; as-long = refl }
+
+  -- other records for those of a number
+  pub holds-replaced : (number : A → ℕ) → ((x : A) → firstWord (words x) ≡ number x) → (a m : ℕ) (new : List A) (ys : List ℕ) → Holds w (n * w) m (replaced firstWord a (map words new) (records w n xs)) xs ys → Holds w size m (map words (replaced number a new (map of (records w n xs)))) xs ys
+  holds-replaced number f a m new ys h =
+      subst (λ (rs : List (List ℕ)). Holds w size m rs xs ys)
+      (sym (replaced-words number words firstWord f a new (map of (records w n xs)) ∙ ap (replaced firstWord a (map words new)) back))
+      (holds-more w (n * w) size m (replaced firstWord a (map words new) (records w n xs)) xs ys (o .within) h)
+
+-- ---- a departure
+
+pub forgotten :
+    (p : PeerDemand) (t : PeerTables) (id n k c : ℕ) (ps ks cs : List ℕ)
+    → Tables p t
+    → Holds 12 (p .peers * 12) n (replaced firstWord id [] (records 12 (p .peers) (t .peers))) (t .peers) ps
+    → Holds 4 (p .«snapshot_keys» * 4) k (replaced firstWord id [] (records 4 (p .«snapshot_keys») (t .snapshotKeys))) (t .snapshotKeys) ks
+    → Holds 6 (p .contested * 6) c (replaced firstWord id [] (records 6 (p .contested) (t .contested))) (t .contested) cs
+    → Stores (forget id (stateOf p t)) (record { peers = n; «snapshot_keys» = k; contested = c }) t (record { peers = ps; snapshotKeys = ks; contested = cs })
+unfolding forget stateOf peerWords snapshotKeyWords contestedWords
+forgotten p t id n k c ps ks cs o h₁ h₂ h₃ = record {
+  peers = holds-replaced peerWords peerOf 12 1 peersSize (p .peers) (t .peers) (o .peers) (λ (x : PeerRecord). x .id) (λ x. refl) id n [] ps h₁;
+  snapshotKeys = holds-replaced snapshotKeyWords snapshotKeyOf 4 2 snapshotKeysSize (p .«snapshot_keys») (t .snapshotKeys) (o .snapshotKeys) (λ (x : SnapshotKey). x .peer) (λ x. refl) id k [] ks h₂;
+  contested = holds-replaced contestedWords contestedOf 6 2 contestedSize (p .contested) (t .contested) (o .contested) (λ (x : ContestedKey). x .peer) (λ x. refl) id c [] cs h₃;
+}
+
+pub map-map : {A B C : Type 0} (f : B → C) (g : A → B) (xs : List A) → map f (map g xs) ≡ map (λ x. f (g x)) xs
+map-map f g [] = refl
+map-map f g (x ∷ xs) = ap (λ l. f (g x) ∷ l) (map-map f g xs)
+
+held-words : (id until : ℕ) (rs : List (List ℕ)) → map (λ x. peerWords (hold until (peerOf x))) (those firstWord id rs) ≡ map peerWords (map (hold until) (those (λ (p : PeerRecord). p .id) id (map peerOf rs)))
+unfolding those peerOf
+held-words id until rs =
+    sym (map-map (λ (p : PeerRecord). peerWords (hold until p)) peerOf (only (λ r. eqb (firstWord r) id) rs))
+    ∙ sym (map-map peerWords (hold until) (map peerOf (only (λ r. eqb (firstWord r) id) rs)))
+    ∙ ap (λ l. map peerWords (map (hold until) l)) (map-only peerOf (λ (p : PeerRecord). eqb (p .id) id) rs)
+
+pub held-peer-stores :
+    (p : PeerDemand) (t : PeerTables) (id until : ℕ) (ps : List ℕ)
+    → Tables p t
+    → Holds 12 (p .peers * 12) (p .peers) (replaced firstWord id (map (λ x. peerWords (hold until (peerOf x))) (those firstWord id (records 12 (p .peers) (t .peers)))) (records 12 (p .peers) (t .peers))) (t .peers) ps
+    → Stores (holdPeer id until (stateOf p t)) p t (record { peers = ps; snapshotKeys = t .snapshotKeys; contested = t .contested })
+unfolding holdPeer stateOf peerWords
+held-peer-stores p t id until ps o h =
+    let rs : List (List ℕ) = records 12 (p .peers) (t .peers) in
+    record {
+      peers =
+          holds-replaced peerWords peerOf 12 1 peersSize (p .peers) (t .peers) (o .peers) (λ (x : PeerRecord). x .id) (λ x. refl) id (p .peers)
+          (map (hold until) (those (λ (x : PeerRecord). x .id) id (map peerOf rs))) ps
+          (subst (λ (new : List (List ℕ)). Holds 12 (p .peers * 12) (p .peers) (replaced firstWord id new rs) (t .peers) ps) (held-words id until rs) h);
+      snapshotKeys = holds-still snapshotKeyWords snapshotKeyOf 4 2 snapshotKeysSize (p .«snapshot_keys») (t .snapshotKeys) (o .snapshotKeys);
+      contested = holds-still contestedWords contestedOf 6 2 contestedSize (p .contested) (t .contested) (o .contested);
+    }
+
+-- with a time to hold it, and with none
+pub leaves-held : (id at time : ℕ) (s : PeersState) → (time ≡ 0 → ⊥) → leave id at time s ≡ holdPeer id (later at time) s
+unfolding leave
+leaves-held id at time s h = ap (λ (b : Bool). cond b (forget id s) (holdPeer id (later at time) s)) (ne-eqb time 0 h)
+
+pub leaves-now : (id at time : ℕ) (s : PeersState) → time ≡ 0 → leave id at time s ≡ forget id s
+unfolding leave
+leaves-now id at time s h = ap (λ (b : Bool). cond b (forget id s) (holdPeer id (later at time) s)) (eq-eqb time 0 h)

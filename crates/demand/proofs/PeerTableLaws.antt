@@ -1,0 +1,235 @@
+-- Laws of the peers' tables: what a valid one is, and what it holds after records were taken out. Assumes nothing.
+use mathlib.Core.Path.{_≡_, refl, sym, ap, _∙_, subst}
+use mathlib.Core.Bool.{Bool, true, false, cond, _&&_, _||_, or-false}
+use mathlib.Core.List.{List, [], _∷_, _++_, map}
+use Prim.Native.Nat.{ℕ, zero, suc, _+_, _-_, _*_, _/_, _≤_, _<_}
+use native.Mathlib.Nat.{zero-div, zero-mod, mul-le-mul-right}
+use native.Mathlib.Omega.{arith}
+use borrow.Author.Tests.{ltb-true, ltb-false, lt-ltb, le-ltb}
+use lib.Dec.{ltb, eqb}
+use lib.ListN.{length, drop, getD, take-append-drop}
+use lib.Seq.{drop-drop, length-slice, getD-take, getD-drop}
+use Rattle.records.specs.declared.Found.the-variants.{At, Gap, Unfit}
+use Rattle.records.specs.declared.Span.{Span}
+use Rattle.records.specs.declared.Span.the-variants.{Between, NoSpan}
+use Rattle.records.specs.Records.{records, flat, table, fits, keyed, ascending, lowerBound, find, findIn, rangeOf, rangeIn, splice, spliceable, spliced}
+use Rattle.records.proofs.TestLaws.{contradiction, split, both, and-intro}
+use Rattle.records.proofs.RecordLaws.{fits-pos, fits-le, fits-intro, row, length-records, record-at}
+use Rattle.records.proofs.SpliceLaws.{splice-intro}
+use Rattle.records.proofs.OrderLaws.{Keyed, keyed-says, keyed-is}
+use Rattle.records.proofs.PlaceLaws.{range-within, at-says, find-cases}
+use Rattle.records.proofs.SearchLaws.{find-fit}
+use Rattle.records.proofs.EditLaws.{length-splice}
+use Rattle.records.proofs.TableLaws.{Wide, wide-records, wide-splice, length-flat, records-table, drop-table, length-table}
+use Rattle.demand.specs.declared.peer_demand.PeerDemand.{PeerDemand}
+use Rattle.demand.specs.PeerLists.{any, those, replaced}
+use Rattle.demand.specs.PeerRecords.{PeerRecord, SnapshotKey, ContestedKey, peerWords, snapshotKeyWords, contestedWords, peerOf, snapshotKeyOf, contestedOf}
+use Rattle.demand.specs.PeerState.{PeersState, PeerTables, maxPeers, maxDemandKeys, maxContested, peersSize, snapshotKeysSize, contestedSize, haveRoom, exact, areExact, valid, validPeers, validSnapshotKeys, validContesteds, stateOf, isValid, Holds}
+use Rattle.demand.specs.PeerScan.{firstWord}
+use Rattle.demand.specs.PeerSteps.{inOrder}
+use Rattle.demand.proofs.PeerWordLaws.{words-of-exact}
+use Rattle.demand.proofs.PeerRangeLaws.{range-ordered, those-range, replaced-splice, those-at, those-gap, replaced-at, replaced-gap, first-shape, word-before, any-map, any-same, any-those, any-number}
+
+-- ---- records in order
+
+pub record InOrder (w d n : ℕ) (xs : List ℕ) : Type 0 where
+  pub keys : Keyed (length xs) w d n
+  pub order : ascending d (records w n xs) ≡ true
+  pub width : 0 < w
+  pub words : n * w ≤ length xs
+  pub wide : Wide w (records w n xs)
+
+pub in-order-says : (w d n : ℕ) (xs : List ℕ) → inOrder w d n xs ≡ true → InOrder w d n xs
+unfolding inOrder
+in-order-says w d n xs e =
+    let a = both (keyed (length xs) w d n) (ascending d (records w n xs)) e in
+    let k = keyed-says (length xs) w d n (a .0) in
+    record {
+      keys = k;
+      order = a .1;
+      width = fits-pos (length xs) w n (k .fit);
+      words = fits-le (length xs) w n (k .fit);
+      wide = wide-records w n xs (fits-le (length xs) w n (k .fit));
+    }
+
+pub in-order-intro : (w d n : ℕ) (xs : List ℕ) → 1 ≤ d → d ≤ 2 → d ≤ w → n * w ≤ length xs → ascending d (records w n xs) ≡ true → inOrder w d n xs ≡ true
+unfolding inOrder
+in-order-intro w d n xs h k l f a =
+    and-intro (keyed (length xs) w d n) (ascending d (records w n xs))
+    (sym (keyed-is (length xs) w d n (λ e. omega arith) k l) ∙ fits-intro (length xs) w n (omega arith) f)
+    a
+
+-- ---- words past a place
+
+pub drop-more : (k m : ℕ) (xs ys : List ℕ) → k ≤ m → drop k ys ≡ drop k xs → drop m ys ≡ drop m xs
+drop-more k m xs ys h e =
+    let q : k + (m - k) ≡ m = omega arith in
+    sym (drop-drop (m - k) k ys ∙ ap (λ (n : ℕ). drop n ys) q) ∙ ap (drop (m - k)) e ∙ (drop-drop (m - k) k xs ∙ ap (λ (n : ℕ). drop n xs) q)
+
+pub holds-more : (w s m n : ℕ) (rs : List (List ℕ)) (xs ys : List ℕ) → s ≤ m → Holds w s n rs xs ys → Holds w m n rs xs ys
+holds-more w s m n rs xs ys h o = record { count = o .count; front = o .front; rest = drop-more s m xs ys h (o .rest); as-long = o .as-long }
+
+-- a table with no more records than it had
+pub holds-table : (w n : ℕ) (rs : List (List ℕ)) (xs : List ℕ) → Wide w rs → length rs ≤ n → n * w ≤ length xs → Holds w (n * w) (length rs) rs xs (table rs xs)
+holds-table w n rs xs p h l =
+    let k : length (flat rs) ≤ n * w = omega (arith, length-flat w rs p, mul-le-mul-right w h) in
+    record {
+      count = refl;
+      front = records-table w (length rs) rs xs p refl;
+      rest = drop-more (length (flat rs)) (n * w) xs (table rs xs) k (drop-table rs xs);
+      as-long = length-table rs xs (omega arith);
+    }
+
+-- ---- the records of one number taken out
+
+module _ (w d n a : ℕ) (xs : List ℕ) (h : 1 ≤ d) (o : InOrder w d n xs) where
+  abbrev rs : List (List ℕ)
+  rs = records w n xs
+
+  abbrev lo : ℕ
+  lo = lowerBound 1 (a ∷ []) (records w n xs)
+
+  abbrev hi : ℕ
+  hi = lowerBound 1 ((a + 1) ∷ []) (records w n xs)
+
+  ordered : lo ≤ hi
+  ordered = range-ordered d w a (records w n xs) h (o .width) (o .wide) (o .order)
+
+  inside : hi ≤ n
+  inside = omega (arith, range-within d a (records w n xs) h (o .order), length-records w n xs)
+
+  fitting : spliceable (length xs) w n lo hi 0 ≡ true
+  fitting =
+      let k : n - (hi - lo) ≤ n = omega arith in
+      splice-intro (length xs) w n lo hi 0 (record {
+        width = o .width;
+        within = o .words;
+        order = ordered;
+        last = inside;
+        whole = zero-mod w;
+        room = omega (arith, mul-le-mul-right w k, o .words);
+      })
+
+  shorter : length (splice lo hi [] rs) ≡ n - (hi - lo)
+  shorter =
+      let z : length {A = List ℕ} [] ≡ 0 = refl in
+      length-splice lo hi [] (records w n xs) (omega (arith, length-records w n xs, ordered, inside)) ∙ omega (arith, length-records w n xs, ordered, inside)
+
+  taken-out : Holds w (n * w) (n - (hi - lo)) (replaced firstWord a [] (records w n xs)) xs (spliced w n lo hi [] xs)
+  unfolding spliced records
+  taken-out =
+      let ss : List (List ℕ) = splice lo hi [] (records w n xs) in
+      let e : spliced w n lo hi [] xs ≡ table ss xs = ap (λ (b : Bool). cond b (table (splice lo hi (records w (0 / w) []) (records w n xs)) xs) xs) fitting ∙ ap (λ (m : ℕ). table (splice lo hi (records w m []) (records w n xs)) xs) (zero-div w) in
+      let t : Holds w (n * w) (length ss) ss xs (table ss xs) = holds-table w n ss xs (wide-splice w lo hi [] (records w n xs) tt (o .wide)) (omega (arith, shorter)) (o .words) in
+      let u : Holds w (n * w) (n - (hi - lo)) ss xs (table ss xs) = subst (λ (m : ℕ). Holds w (n * w) m ss xs (table ss xs)) shorter t in
+      let v : Holds w (n * w) (n - (hi - lo)) ss xs (spliced w n lo hi [] xs) = subst (λ (ys : List ℕ). Holds w (n * w) (n - (hi - lo)) ss xs ys) (sym e) u in
+      subst (λ (l : List (List ℕ)). Holds w (n * w) (n - (hi - lo)) l xs (spliced w n lo hi [] xs)) (sym (replaced-splice d w a (records w n xs) h (o .width) (o .wide) (o .order) [])) v
+
+  range-here : rangeIn w n a xs ≡ Between lo hi
+  unfolding rangeIn rangeOf
+  range-here = ap (λ (b : Bool). cond b (Between (lowerBound 1 (a ∷ []) (records w n xs)) (lowerBound 1 ((a + 1) ∷ []) (records w n xs))) NoSpan) (o .keys .fit)
+
+  -- what `range` answers
+  pub span-is : (i j : ℕ) → Between i j ≡ rangeIn w n a xs → (i ≡ lo) × (j ≡ hi)
+  span-is i j e =
+      let q : Between i j ≡ Between lo hi = e ∙ range-here in
+      (cc, cc)
+
+  pub no-span : {P : Type 0} → NoSpan ≡ rangeIn w n a xs → P
+  no-span e =
+      let q : NoSpan ≡ Between lo hi = e ∙ range-here in
+      let z : _≡_ {A = ℕ} 0 1 = cc in
+      absurd (omega arith)
+
+  pub span-bounds : (i j : ℕ) → Between i j ≡ rangeIn w n a xs → (i ≤ j) × (j ≤ n)
+  span-bounds i j e =
+      let q = span-is i j e in
+      (omega (arith, q, ordered), omega (arith, q, inside))
+
+  pub span-out : (i j : ℕ) → Between i j ≡ rangeIn w n a xs → Holds w (n * w) (n - (j - i)) (replaced firstWord a [] (records w n xs)) xs (spliced w n i j [] xs)
+  span-out i j e =
+      let q = span-is i j e in
+      subst (λ (m : ℕ). Holds w (n * w) (n - (j - m)) (replaced firstWord a [] (records w n xs)) xs (spliced w n m j [] xs)) (sym (q .0))
+      (subst (λ (m : ℕ). Holds w (n * w) (n - (m - lo)) (replaced firstWord a [] (records w n xs)) xs (spliced w n lo m [] xs)) (sym (q .1)) taken-out)
+
+  -- is there one in the range?
+  pub span-any : (i j : ℕ) → Between i j ≡ rangeIn w n a xs → ltb i j ≡ any (λ r. eqb (firstWord r) a) (records w n xs)
+  span-any i j e =
+      let q = span-is i j e in
+      let l : length (those firstWord a (records w n xs)) ≡ hi - lo = ap length (those-range d w a (records w n xs) h (o .width) (o .wide) (o .order)) ∙ length-slice lo hi (records w n xs) (omega (arith, inside, length-records w n xs)) in
+      any-test i j (length (those firstWord a (records w n xs))) (omega (arith, q, l)) ∙ sym (any-number firstWord a (records w n xs))
+    where
+      any-test : (x y m : ℕ) → m ≡ y - x → ltb x y ≡ ltb 0 m
+      any-test x y m k = split (ltb x y)
+          (λ f. f ∙ sym (lt-ltb 0 m (omega (arith, ltb-true x y f))))
+          (λ f. f ∙ sym (le-ltb 0 m (omega (arith, ltb-false x y f))))
+
+-- by one word or by two
+pub either-order : {P : Type 0} (w n : ℕ) (xs : List ℕ) → (inOrder w 1 n xs || inOrder w 2 n xs) ≡ true → ((d : ℕ) → 1 ≤ d → InOrder w d n xs → P) → P
+either-order w n xs e f = split (inOrder w 1 n xs)
+    (λ p. f 1 (omega arith) (in-order-says w 1 n xs p))
+    (λ p. f 2 (omega arith) (in-order-says w 2 n xs (sym (ap (λ (b : Bool). b || inOrder w 2 n xs) p) ∙ e)))
+
+pub by-one : (w n : ℕ) (xs : List ℕ) → inOrder w 1 n xs ≡ true → (inOrder w 1 n xs || inOrder w 2 n xs) ≡ true
+by-one w n xs e = ap (λ (b : Bool). b || inOrder w 2 n xs) e
+
+pub by-two : (w n : ℕ) (xs : List ℕ) → inOrder w 2 n xs ≡ true → (inOrder w 1 n xs || inOrder w 2 n xs) ≡ true
+by-two w n xs e = split (inOrder w 1 n xs) (by-one w n xs) (λ f. (λ k. f k || e k))
+
+-- ---- a word of a record
+
+pub word-at : (w n i k : ℕ) (xs : List ℕ) → i < n → k < w → getD (getD (records w n xs) i []) k 0 ≡ getD xs (i * w + k) 0
+word-at w n i k xs h l = ap (λ (r : List ℕ). getD r k 0) (record-at w n xs i h) ∙ getD-take w (drop (i * w) xs) k 0 l ∙ getD-drop (i * w) xs k 0
+
+pub first-at : (w n i : ℕ) (xs : List ℕ) → i < n → 0 < w → getD (getD (records w n xs) i []) 0 0 ≡ getD xs (i * w) 0
+first-at w n i xs h l =
+    let z : i * w + 0 ≡ i * w = omega arith in
+    word-at w n i 0 xs h l ∙ ap (λ (m : ℕ). getD xs m 0) z
+
+-- ---- the one record with a number, by `find`
+
+module _ (w n a : ℕ) (xs : List ℕ) (o : InOrder w 1 n xs) where
+  found-is : findIn w 1 n a 0 xs ≡ find 1 (a ∷ []) (records w n xs)
+  found-is = find-fit w 1 n a 0 xs (sym (keyed-is (length xs) w 1 n (λ e. omega arith) (o .keys .two-words) (o .keys .in-record)) ∙ o .keys .fit)
+
+  pub found-inside : (i : ℕ) → At i ≡ findIn w 1 n a 0 xs → (i < n) × (i * w + w ≤ length xs)
+  found-inside i e =
+      let h : i < n = omega (arith, at-says 1 (a ∷ []) (records w n xs) i (sym (e ∙ found-is)) .0, length-records w n xs) in
+      (h, omega (arith, row w n i h, o .words))
+
+  pub found-one : (i : ℕ) → At i ≡ findIn w 1 n a 0 xs → those firstWord a (records w n xs) ≡ getD (records w n xs) i [] ∷ []
+  found-one i e = those-at 1 firstWord (λ x. x ∷ []) (records w n xs) (o .order) (first-shape w (records w n xs) (o .width) (o .wide)) word-before a i (sym (e ∙ found-is))
+
+  pub found-none : (i : ℕ) → Gap i ≡ findIn w 1 n a 0 xs → those firstWord a (records w n xs) ≡ []
+  found-none i e = those-gap 1 firstWord (λ x. x ∷ []) (records w n xs) (o .order) (first-shape w (records w n xs) (o .width) (o .wide)) word-before a i (sym (e ∙ found-is))
+
+  -- the record replaced, and the gap left
+  pub found-at-splice : (i : ℕ) → At i ≡ findIn w 1 n a 0 xs → (new : List (List ℕ)) → replaced firstWord a new (records w n xs) ≡ splice i (suc i) new (records w n xs)
+  found-at-splice i e new = replaced-at 1 firstWord (λ x. x ∷ []) (records w n xs) (o .order) (first-shape w (records w n xs) (o .width) (o .wide)) word-before a i (sym (e ∙ found-is)) new
+
+  pub found-gap-splice : (i : ℕ) → Gap i ≡ findIn w 1 n a 0 xs → replaced firstWord a [] (records w n xs) ≡ records w n xs
+  unfolding splice
+  found-gap-splice i e =
+      replaced-gap 1 firstWord (λ x. x ∷ []) (records w n xs) (o .order) (first-shape w (records w n xs) (o .width) (o .wide)) word-before a i (sym (e ∙ found-is)) []
+      ∙ take-append-drop i (records w n xs)
+
+  pub found-fit : {P : Type 0} → Unfit ≡ findIn w 1 n a 0 xs → P
+  found-fit e = find-cases 1 (a ∷ []) (records w n xs)
+      (λ i q. let f : At i ≡ Unfit = sym q ∙ sym (e ∙ found-is) in let z : _≡_ {A = ℕ} 0 1 = cc in absurd (omega arith))
+      (λ i q. let f : Gap i ≡ Unfit = sym q ∙ sym (e ∙ found-is) in let z : _≡_ {A = ℕ} 0 1 = cc in absurd (omega arith))
+
+  -- a test of it
+  module _ {A : Type 0} (of : List ℕ → A) (number : A → ℕ) (same : (r : List ℕ) → number (of r) ≡ firstWord r) (p : A → Bool) where
+    by-record : any (λ x. eqb (number x) a && p x) (map of (records w n xs)) ≡ any (λ r. p (of r)) (those firstWord a (records w n xs))
+    by-record =
+        any-map of (λ x. eqb (number x) a && p x) (records w n xs)
+        ∙ any-same (λ r. eqb (number (of r)) a && p (of r)) (λ r. eqb (firstWord r) a && p (of r)) (λ r. ap (λ (m : ℕ). eqb m a && p (of r)) (same r)) (records w n xs)
+        ∙ any-those firstWord a (λ r. p (of r)) (records w n xs)
+
+    pub any-at : (i : ℕ) → At i ≡ findIn w 1 n a 0 xs → any (λ x. eqb (number x) a && p x) (map of (records w n xs)) ≡ p (of (getD (records w n xs) i []))
+    unfolding any
+    any-at i e = by-record ∙ ap (any (λ r. p (of r))) (found-one i e) ∙ or-false (p (of (getD (records w n xs) i [])))
+
+    pub any-gap : (i : ℕ) → Gap i ≡ findIn w 1 n a 0 xs → any (λ x. eqb (number x) a && p x) (map of (records w n xs)) ≡ false
+    unfolding any
+    any-gap i e = by-record ∙ ap (any (λ r. p (of r))) (found-none i e)

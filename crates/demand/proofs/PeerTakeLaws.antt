@@ -1,0 +1,376 @@
+-- Laws: a report taken or contested, by the words of the tables. Assumes nothing.
+use mathlib.Core.Path.{_≡_, refl, sym, ap, _∙_, subst}
+use mathlib.Core.Bool.{Bool, true, false, cond, not, _||_}
+use mathlib.Core.List.{List, [], _∷_, _++_, map}
+use mathlib.Core.Option.{Option, none, some}
+use Prim.Native.Nat.{ℕ, zero, suc, _+_, _-_, _/_, _^_, _≤_, _<_, zero-le, suc-le-suc}
+use native.Mathlib.Omega.{arith}
+use borrow.Author.Tests.{ltb-true, leb-true, le-leb, eqb-true, eqb-false, eq-eqb}
+use lib.Dec.{ltb, leb, eqb}
+use lib.ListN.{length, length-take, take, length-map}
+use lib.Seq.{take-all}
+use Rattle.records.specs.Records.{records, leads, ascending}
+use Rattle.records.proofs.TestLaws.{contradiction, split, both, and-intro}
+use Rattle.records.proofs.RecordLaws.{fits-intro, length-records}
+use Rattle.demand.specs.declared.peer_demand.DemandReport.{DemandReport}
+use Rattle.demand.specs.declared.peer_demand.PeerDemand.{PeerDemand}
+use Rattle.demand.specs.PeerLists.{all, any, first, only, those, replaced}
+use Rattle.demand.specs.PeerRecords.{Snapshot, PeerRecord, SnapshotKey, ContestedKey, timeWords, snapshotWords, pastWords, peerWords, snapshotKeyWords, contestedWords, peerOf, snapshotKeyOf}
+use Rattle.demand.specs.PeerState.{PeersState, PeerTables, isWord, peerWith, isKnown, snapshotKeysOf, contestedKeysOf, peersSize, snapshotKeysSize, contestedSize, stateOf, exact, valid, validSnapshot, validPast, validPeer, validSnapshotKey, Holds, Stores}
+use Rattle.demand.specs.PeerChanges as changes
+use Rattle.demand.specs.PeerRuns.{word, keysIn, contestedIn, peersIn, replacedRun, Replaceable, Tabled, KeyRun, contestedAfter, Contestable, orNew, nextPast, pastAfter, Reported, Read}
+use Rattle.demand.proofs.PeerWordLaws.{peer-of-words}
+use Rattle.demand.proofs.PeerValidLaws.{all-take}
+use Rattle.demand.proofs.PeerOrderLaws.{all-only, all-imply, length-replaced}
+use Rattle.demand.proofs.PeerRangeLaws.{replaced-words}
+use Rattle.demand.proofs.PeerContestLaws.{Contesteds, Sayable, merge-keeps, without-keeps}
+use Rattle.demand.proofs.PeerContestedLaws.{peers-contested}
+use Rattle.demand.proofs.PeerReportLaws.{any-counted, PeerFacts, snapshot-none, snapshot-some, no-peer-valid}
+use Rattle.demand.proofs.PeerKeyLaws.{Keys, keys-typed, with-keys}
+use Rattle.demand.proofs.PeerKeptLaws.{or-right, ValidState, few-keys, few-contested, contested-kept, report-kept, taken-valid, only-nothing}
+use Rattle.demand.proofs.PeerApplyLaws.{Tables, known-table, peers-fit, keys-fit, contested-fit, keys-asc, contested-asc, holds-of, holds-same, wide-map, peer-long, key-long, contested-long}
+
+found : {A : Type 0} (number : A → ℕ) (k : ℕ) (xs : List A) → any (λ x. eqb (number x) k) xs ≡ true → 0 < length (those number k xs)
+unfolding those
+found number k xs e = ltb-true 0 (length (only (λ x. eqb (number x) k) xs)) (sym (any-counted (λ x. eqb (number x) k) xs) ∙ e)
+
+keys-first : (id : ℕ) (k : SnapshotKey) (ks : List SnapshotKey) → Keys id (k ∷ ks) → Sayable id k
+unfolding all
+keys-first id k ks g = record { peer = eqb-true (k .peer) id (both (eqb (k .peer) id) _ (g .shared) .0); valid = both (validSnapshotKey k) _ (g .valids) .0 }
+
+keys-rest : (id : ℕ) (k : SnapshotKey) (ks : List SnapshotKey) → Keys id (k ∷ ks) → Keys id ks
+unfolding all ascending
+keys-rest id k ks g = record {
+  shared = both (eqb (k .peer) id) _ (g .shared) .1;
+  ascends = both (leads 2 (snapshotKeyWords k) (map snapshotKeyWords ks)) _ (g .ascends) .1;
+  valids = both (validSnapshotKey k) _ (g .valids) .1;
+}
+
+-- ---- a peer's contested keys after a report was contested
+oldest-in : (c : ContestedKey) (cs : List ContestedKey) → any (λ (x : ContestedKey). eqb (x .key) (changes.oldest c cs)) (c ∷ cs) ≡ true
+unfolding changes.oldest any
+oldest-in c [] = ap (λ (b : Bool). b || false) (eq-eqb (c .key) (c .key) refl)
+oldest-in c (d ∷ ds) = choose (changes.older d c) (oldest-in (cond (changes.older d c) d c) ds)
+  where
+    choose : (b : Bool) → any (λ (x : ContestedKey). eqb (x .key) (changes.oldest (cond b d c) ds)) (cond b d c ∷ ds) ≡ true → any (λ (x : ContestedKey). eqb (x .key) (changes.oldest (cond b d c) ds)) (c ∷ d ∷ ds) ≡ true
+    choose true e = or-right (eqb (c .key) (changes.oldest d ds)) _ e
+    choose false e = skip (eqb (c .key) (changes.oldest c ds)) (eqb (d .key) (changes.oldest c ds)) _ e
+      where
+        skip : (x y z : Bool) → (x || z) ≡ true → (x || (y || z)) ≡ true
+        skip true y z e = refl
+        skip false y z e = or-right y z e
+
+without-less : (cs : List ContestedKey) → length (changes.withoutOldest cs) ≤ length cs - 1
+without-less [] = zero-le
+without-less (c ∷ cs) =
+    let k : ℕ = changes.oldest c cs in
+    let q = length-replaced (λ (x : ContestedKey). x .key) k [] (c ∷ cs) in
+    omega (arith, q, nil-length, some-those)
+  where
+    nil-length : length {A = ContestedKey} [] ≡ 0
+    nil-length = refl
+
+    some-those : 0 < length (those (λ (x : ContestedKey). x .key) (changes.oldest c cs) (c ∷ cs))
+    some-those = found (λ (x : ContestedKey). x .key) (changes.oldest c cs) (c ∷ cs) (oldest-in c cs)
+
+withouts-less : (n : ℕ) (cs : List ContestedKey) → length (changes.withoutOldests n cs) ≤ length cs - n
+unfolding changes.withoutOldests
+withouts-less zero cs = omega arith
+withouts-less (suc n) cs = omega (arith, withouts-less n (changes.withoutOldest cs), without-less cs)
+
+withouts-keep : (id n : ℕ) (cs : List ContestedKey) → Contesteds id cs → Contesteds id (changes.withoutOldests n cs)
+unfolding changes.withoutOldests
+withouts-keep id zero cs g = g
+withouts-keep id (suc n) cs g = withouts-keep id n (changes.withoutOldest cs) (without-keeps id cs g)
+
+merges-keep : (id round at : ℕ) (ks : List SnapshotKey) (cs : List ContestedKey) → Keys id ks → round < 2 ^ 16 → at < 2 ^ 64 → Contesteds id cs → Contesteds id (changes.mergeKeys round at ks cs)
+unfolding changes.mergeKeys
+merges-keep id round at [] cs g hr ha c = c
+merges-keep id round at (k ∷ ks) cs g hr ha c =
+    merges-keep id round at ks (changes.mergeKey round at k cs) (keys-rest id k ks g) hr ha (merge-keeps id round at k cs (keys-first id k ks g) hr ha c)
+
+pub contest-keeps : (id round at : ℕ) (ks : List SnapshotKey) (cs : List ContestedKey) → Keys id ks → round < 2 ^ 16 → at < 2 ^ 64 → Contesteds id cs → Contesteds id (changes.contest round at ks cs)
+unfolding changes.contest
+contest-keeps id round at ks cs g hr ha c = withouts-keep id (length (changes.mergeKeys round at ks cs) - 256) (changes.mergeKeys round at ks cs) (merges-keep id round at ks cs g hr ha c)
+
+pub contest-few : (round at : ℕ) (ks : List SnapshotKey) (cs : List ContestedKey) → length (changes.contest round at ks cs) ≤ 256
+unfolding changes.contest
+contest-few round at ks cs = omega (arith, withouts-less (length (changes.mergeKeys round at ks cs) - 256) (changes.mergeKeys round at ks cs))
+
+-- ---- as many keys of a peer, known or not, as a peer may have
+few-known : {A : Type 0} (peer : A → ℕ) (bound id : ℕ) (ps : List PeerRecord) (xs : List A) → all (λ (p : PeerRecord). leb (length (those peer (p .id) xs)) bound) ps ≡ true → isKnown ps id ≡ true → length (those peer id xs) ≤ bound
+unfolding isKnown any all
+few-known peer bound id [] xs a e = contradiction (sym e)
+few-known peer bound id (p ∷ ps) xs a e = split (eqb (p .id) id)
+    (λ h. leb-true (length (those peer id xs)) bound (sym (ap (λ (m : ℕ). leb (length (those peer m xs)) bound) (eqb-true (p .id) id h)) ∙ both (leb (length (those peer (p .id) xs)) bound) _ a .0))
+    (λ h. few-known peer bound id ps xs (both (leb (length (those peer (p .id) xs)) bound) _ a .1) (sym (ap (λ (b : Bool). b || any (λ (x : PeerRecord). eqb (x .id) id) ps) h) ∙ e))
+
+pub few-of-peer : {A : Type 0} (peer : A → ℕ) (bound id : ℕ) (ps : List PeerRecord) (xs : List A) → all (λ (p : PeerRecord). leb (length (those peer (p .id) xs)) bound) ps ≡ true → all (λ x. isKnown ps (peer x)) xs ≡ true → length (those peer id xs) ≤ bound
+unfolding those
+few-of-peer {A = A} peer bound id ps xs few known = split (isKnown ps id)
+    (λ e. few-known peer bound id ps xs few e)
+    (λ e. omega (arith, ap length (only-nothing (λ x. eqb (peer x) id) xs (all-imply (λ x. isKnown ps (peer x)) (λ x. not (eqb (peer x) id)) xs (λ x h. other x h e) known)), nil-length))
+  where
+    nil-length : length {A = A} [] ≡ 0
+    nil-length = refl
+
+    other : (x : A) → isKnown ps (peer x) ≡ true → isKnown ps id ≡ false → not (eqb (peer x) id) ≡ true
+    other x h e = split (eqb (peer x) id) (λ q. contradiction (sym h ∙ ap (isKnown ps) (eqb-true (peer x) id q) ∙ e)) (λ q. ap not q)
+
+-- ---- the peer, by its words
+pub snapshot-is : (id : ℕ) (o : Option PeerRecord) → changes.snapshotIn o ≡ orNew id o .snapshot
+snapshot-is id none = refl
+snapshot-is id (some p) = refl
+
+pub past-is : (id : ℕ) (o : Option PeerRecord) → changes.pastIn o ≡ orNew id o .pastEpochs
+past-is id none = refl
+past-is id (some p) = refl
+
+first-valid : (id : ℕ) (ps : List PeerRecord) → id < 2 ^ 64 → all validPeer ps ≡ true → validPeer (orNew id (first ps)) ≡ true
+unfolding all
+first-valid id [] h a = no-peer-valid id h
+first-valid id (p ∷ ps) h a = both (validPeer p) _ a .0
+
+pub past-few : (p : PeerRecord) → validPeer p ≡ true → length (p .pastEpochs) ≤ 4
+unfolding validPeer
+past-few p v =
+    let a = both (all isWord (peerWords p)) _ v in
+    let b = both (validSnapshot (p .snapshot)) _ (a .1) in
+    leb-true (length (p .pastEpochs)) 4 (both (leb (length (p .pastEpochs)) 4) _ (both (validPast (p .pastEpochs)) _ (b .1) .0) .0)
+
+peer-words-all : (p : PeerRecord) → validPeer p ≡ true → all isWord (peerWords p) ≡ true
+unfolding validPeer
+peer-words-all p v = both (all isWord (peerWords p)) _ v .0
+
+word-small : (ws : List ℕ) (i : ℕ) → all isWord ws ≡ true → word i ws < 2 ^ 64
+unfolding all
+word-small [] i a = omega arith
+word-small (w ∷ ws) zero a = ltb-true w (2 ^ 64) (both (isWord w) _ a .0)
+word-small (w ∷ ws) (suc i) a = word-small ws i (both (isWord w) _ a .1)
+
+round-of : (p : PeerRecord) → validPeer p ≡ true → word 5 (peerWords p) < 2 ^ 16
+unfolding validPeer peerWords
+round-of p v = by (p .heldUntil) (p .snapshot) (both (validSnapshot (p .snapshot)) _ (both (all isWord (peerWords p)) _ v .1) .0)
+  where
+    by : (h : Option ℕ) (s : Option Snapshot) → validSnapshot s ≡ true → word 5 (p .id ∷ (timeWords h ++ (snapshotWords s ++ pastWords (p .pastEpochs)))) < 2 ^ 16
+    by none none e = omega arith
+    by none (some s) e = ltb-true (s .round) (2 ^ 16) (both (ltb (s .epoch) (2 ^ 32)) _ e .1)
+    by (some h) none e = omega arith
+    by (some h) (some s) e = ltb-true (s .round) (2 ^ 16) (both (ltb (s .epoch) (2 ^ 32)) _ e .1)
+
+pub record OldPeer (id : ℕ) (ps : List PeerRecord) (old : List ℕ) : Type 0 where
+  pub facts : PeerFacts old
+  pub is : peerOf old ≡ orNew id (peerWith id ps)
+  pub round : word 5 old < 2 ^ 16
+  pub time : word 6 old < 2 ^ 64
+
+pub old-peer : (id : ℕ) (ps : List PeerRecord) (old : List ℕ) → id < 2 ^ 64 → all validPeer ps ≡ true → old ≡ peerWords (orNew id (peerWith id ps)) → OldPeer id ps old
+unfolding those
+old-peer id ps old h a e =
+    let q : PeerRecord = orNew id (peerWith id ps) in
+    let v : validPeer q ≡ true = first-valid id (only (λ (p : PeerRecord). eqb (p .id) id) ps) h (all-only validPeer (λ (p : PeerRecord). eqb (p .id) id) ps a) in
+    let i : peerOf old ≡ q = ap peerOf e ∙ peer-of-words q (past-few q v) in
+    record {
+      facts = record { valid = ap validPeer i ∙ v; exact = e ∙ ap peerWords (sym i) };
+      is = i;
+      round = subst (λ (z : List ℕ). word 5 z < 2 ^ 16) (sym e) (round-of q v);
+      time = subst (λ (z : List ℕ). word 6 z < 2 ^ 64) (sym e) (word-small (peerWords q) 6 (peer-words-all q v));
+    }
+
+-- ---- past epochs stay valid
+pub next-valid : (r : DemandReport) (s : Option Snapshot) (past : List ℕ) → validSnapshot s ≡ true → validPast past ≡ true → validPast (nextPast r s past) ≡ true
+unfolding all
+next-valid r none past vs vp = refl
+next-valid r (some o) past vs vp = choose (eqb (o .epoch) (r .epoch))
+  where
+    choose : (b : Bool) → validPast (cond b past (o .epoch ∷ take 3 past)) ≡ true
+    choose true = vp
+    choose false =
+        and-intro (leb (length (o .epoch ∷ take 3 past)) 4) (all (λ (e : ℕ). ltb e (2 ^ 32)) (o .epoch ∷ take 3 past))
+        (le-leb (length (o .epoch ∷ take 3 past)) 4 (suc-le-suc (omega (arith, length-take 3 past))))
+        (and-intro (ltb (o .epoch) (2 ^ 32)) _ (both (ltb (o .epoch) (2 ^ 32)) _ vs .0) (all-take (λ (e : ℕ). ltb e (2 ^ 32)) 3 past (both (leb (length past) 4) _ vp .1)))
+
+pub after-valid : (r : DemandReport) (old : List ℕ) → PeerFacts old → validPast (pastAfter r old) ≡ true
+unfolding validPeer
+after-valid r old f =
+    let a = both (all isWord (peerWords (peerOf old))) _ (f .valid) in
+    let b = both (validSnapshot (peerOf old .snapshot)) _ (a .1) in
+    next-valid r (peerOf old .snapshot) (peerOf old .pastEpochs) (b .0) (both (validPast (peerOf old .pastEpochs)) _ (b .1) .0)
+
+-- ---- the keys of a report, typed
+pub reported-keys : (id : ℕ) (r : DemandReport) (keys : List ℕ) → Reported id r keys → Keys id (changes.reportKeys id r)
+reported-keys id r keys e = subst (Keys id) (e .are) (keys-typed id (length keys / 4) keys (e .run))
+
+pub reported-few : (id : ℕ) (r : DemandReport) (keys : List ℕ) → Reported id r keys → length (changes.reportKeys id r) ≤ 64
+reported-few id r keys e =
+    let q : length keys / 4 ≤ 64 = omega (arith, e .few) in
+    omega (arith, q, ap length (e .are), length-map (records 4 (length keys / 4) keys) snapshotKeyOf, length-records 4 (length keys / 4) keys)
+
+-- what the arguments' types say
+pub record Bounds (id at : ℕ) (r : DemandReport) : Type 0 where
+  pub peer : id < 2 ^ 64
+  pub time : at < 2 ^ 64
+  pub epoch : r .epoch < 2 ^ 32
+  pub round : r .round < 2 ^ 16
+
+id-first : (x : PeerRecord) → word 0 (peerWords x) ≡ x .id
+unfolding peerWords
+id-first x = refl
+
+one-record : (ws : List ℕ) → length ws ≡ 12 → records 12 (length ws / 12) ws ≡ ws ∷ []
+unfolding records
+one-record ws e =
+    let q : length ws / 12 ≡ 1 = omega (arith, e) in
+    ap (λ (k : ℕ). records 12 k ws) q ∙ ap (λ (l : List ℕ). l ∷ []) (take-all 12 ws (omega arith))
+
+module _ (p : PeerDemand) (t : PeerTables) (id at : ℕ) (r : DemandReport) (o : Tables p t) (bs : Bounds id at r) where
+  abbrev s : PeersState
+  s = stateOf p t
+
+  pub contested-run : Contesteds id (contestedKeysOf id (s .contested))
+  contested-run = peers-contested id (s .contested) (o .valids .contested) (o .valids .contested-ascend)
+
+  pub contested-few : length (contestedKeysOf id (s .contested)) ≤ 256
+  contested-few = few-of-peer (λ (c : ContestedKey). c .peer) 256 id (s .peers) (s .contested) (o .valids .contested-few) (o .valids .contested-known)
+
+  pub old-of : (old : List ℕ) → old ≡ peerWords (orNew id (peerWith id (s .peers))) → OldPeer id (s .peers) old
+  old-of old e = old-peer id (s .peers) old (bs .peer) (o .valids .peers) e
+
+  -- what is contested, within a valid state after it
+  contestable : (keys : List ℕ) (round time : ℕ) → KeyRun id (length keys / 4) keys → length keys ≤ 256 → round < 2 ^ 16 → (ps : List PeerRecord) (ks : List SnapshotKey) → ValidState (record { peers = ps; snapshotKeys = ks; contested = changes.withContested id (changes.contest round time (keysIn (length keys / 4) keys) (contestedKeysOf id (s .contested))) (s .contested) }) → Contestable (p .contested) id keys round time (t .contested)
+  unfolding stateOf
+  contestable keys round time run few hr ps ks v = record {
+    fit = contested-fit p t o;
+    exact = o .contested-exact;
+    valids = o .valids .contested;
+    ascends = contested-asc p t o;
+    few = contested-few;
+    keyRun = run;
+    few-keys = few;
+    rounds = hr;
+    room = omega (arith, few-contested (record { peers = ps; snapshotKeys = ks; contested = changes.withContested id (changes.contest round time (keysIn (length keys / 4) keys) (contestedKeysOf id (s .contested))) (s .contested) }) v, o .roomy .contested);
+  }
+
+  -- ---- taken
+  module _ (keys held old : List ℕ) (rd : Read p t id r keys held old) (place : (isKnown (s .peers) id || ltb (length (s .peers)) 32) ≡ true) where
+    pub op : OldPeer id (s .peers) old
+    op = old-of old (rd .peer)
+
+    after : (nc : List ContestedKey) → Contesteds id nc → length nc ≤ 256 → ValidState (record { peers = changes.withPeer id (changes.takenPeer id r at (pastAfter r old) ∷ []) (s .peers); snapshotKeys = changes.withSnapshotKeys id (changes.reportKeys id r) (s .snapshotKeys); contested = changes.withContested id nc (s .contested) })
+    after nc g l = report-kept id s (o .valids) nc g l (changes.takenPeer id r at (pastAfter r old)) refl refl
+        (taken-valid id at r (pastAfter r old) (record { peer = bs .peer; time = bs .time; epoch = bs .epoch; round = bs .round; pasts = after-valid r old (op .facts) }))
+        place (changes.reportKeys id r) (reported-keys id r keys (rd .reported)) (reported-few id r keys (rd .reported))
+
+    contested-held : Contesteds id (changes.contest (word 5 old) (word 6 old) (keysIn (length held / 4) held) (contestedKeysOf id (s .contested)))
+    contested-held = contest-keeps id (word 5 old) (word 6 old) (keysIn (length held / 4) held) (contestedKeysOf id (s .contested)) (keys-typed id (length held / 4) held (rd .snapshot)) (op .round) (op .time) contested-run
+
+    pub take-contestable : Contestable (p .contested) id held (word 5 old) (word 6 old) (t .contested)
+    take-contestable = contestable held (word 5 old) (word 6 old) (rd .snapshot) (rd .few) (op .round) _ _ (after _ contested-held (contest-few (word 5 old) (word 6 old) (keysIn (length held / 4) held) (contestedKeysOf id (s .contested))))
+
+    any-after : ValidState (record { peers = changes.withPeer id (changes.takenPeer id r at (pastAfter r old) ∷ []) (s .peers); snapshotKeys = changes.withSnapshotKeys id (changes.reportKeys id r) (s .snapshotKeys); contested = changes.withContested id (contestedKeysOf id (s .contested)) (s .contested) })
+    any-after = after (contestedKeysOf id (s .contested)) contested-run contested-few
+
+    keys-words : replacedRun 4 (p .«snapshot_keys») id keys (t .snapshotKeys) ≡ map snapshotKeyWords (changes.withSnapshotKeys id (changes.reportKeys id r) (s .snapshotKeys))
+    unfolding stateOf
+    keys-words =
+        (λ i. replaced (word 0) id ((rd .reported .run .exact ∙ ap (map snapshotKeyWords) (rd .reported .are)) i) (o .keys-exact i))
+        ∙ sym (with-keys id (changes.reportKeys id r) (keysIn (p .«snapshot_keys») (t .snapshotKeys)))
+
+    keys-few : length (map snapshotKeyWords (changes.withSnapshotKeys id (changes.reportKeys id r) (s .snapshotKeys))) ≤ 2048
+    keys-few = omega (arith, length-map (changes.withSnapshotKeys id (changes.reportKeys id r) (s .snapshotKeys)) snapshotKeyWords, few-keys _ any-after)
+
+    pub take-keys : Replaceable 4 (p .«snapshot_keys») id keys (t .snapshotKeys)
+    take-keys = record {
+      fit = fits-intro (length (t .snapshotKeys)) 4 (p .«snapshot_keys») (omega arith) (keys-fit p t o);
+      depth = 2;
+      some-words = omega arith;
+      ascends = keys-asc p t o;
+      whole = rd .reported .whole;
+      room = omega (arith, ap length keys-words, keys-few, o .roomy .snapshotKeys);
+    }
+
+    module _ (ws : List ℕ) (ew : ws ≡ peerWords (changes.takenPeer id r at (pastAfter r old))) where
+      pub taken-long : length ws ≡ 12
+      taken-long = ap length ew ∙ peer-long (changes.takenPeer id r at (pastAfter r old))
+
+      peers-words : replacedRun 12 (p .peers) id ws (t .peers) ≡ map peerWords (changes.withPeer id (changes.takenPeer id r at (pastAfter r old) ∷ []) (s .peers))
+      unfolding stateOf
+      peers-words =
+          (λ i. replaced (word 0) id ((one-record ws taken-long ∙ ap (λ (l : List ℕ). l ∷ []) ew) i) (o .peers-exact i))
+          ∙ sym (with-peer (changes.takenPeer id r at (pastAfter r old) ∷ []) (peersIn (p .peers) (t .peers)))
+        where
+          with-peer : (new ps : List PeerRecord) → map peerWords (changes.withPeer id new ps) ≡ replaced (word 0) id (map peerWords new) (map peerWords ps)
+          with-peer new ps = replaced-words (λ (q : PeerRecord). q .id) peerWords (word 0) (λ x. id-first x) id new ps
+
+      peers-few : length (map peerWords (changes.withPeer id (changes.takenPeer id r at (pastAfter r old) ∷ []) (s .peers))) ≤ 32
+      peers-few = omega (arith, length-map (changes.withPeer id (changes.takenPeer id r at (pastAfter r old) ∷ []) (s .peers)) peerWords, any-after .few-peers)
+
+      pub take-peers : Replaceable 12 (p .peers) id ws (t .peers)
+      take-peers = record {
+        fit = fits-intro (length (t .peers)) 12 (p .peers) (omega arith) (peers-fit p t o);
+        depth = 1;
+        some-words = omega arith;
+        ascends = known-table p t o .ascends;
+        whole = omega (arith, taken-long);
+        room = omega (arith, ap length peers-words, peers-few, o .roomy .peers);
+      }
+
+      -- the contested keys that are left
+      kept-is : (keep kept : Bool) → kept ≡ cond (eqb (word 3 old) 0) false keep → cond kept (changes.contest (word 5 old) (word 6 old) (keysIn (length held / 4) held) (contestedKeysOf id (s .contested))) (contestedKeysOf id (s .contested)) ≡ changes.keepReplaced keep (changes.snapshotIn (peerWith id (s .peers))) (snapshotKeysOf id (s .snapshotKeys)) (contestedKeysOf id (s .contested))
+      kept-is keep kept e =
+          let q : changes.snapshotIn (peerWith id (s .peers)) ≡ peerOf old .snapshot = snapshot-is id (peerWith id (s .peers)) ∙ ap (λ (x : PeerRecord). x .snapshot) (sym (op .is)) in
+          split (eqb (word 3 old) 0)
+          (λ h.
+          ap (λ (b : Bool). cond b (changes.contest (word 5 old) (word 6 old) (keysIn (length held / 4) held) (contestedKeysOf id (s .contested))) (contestedKeysOf id (s .contested))) (e ∙ ap (λ (b : Bool). cond b false keep) h)
+          ∙ sym (ap (λ (x : Option Snapshot). changes.keepReplaced keep x (snapshotKeysOf id (s .snapshotKeys)) (contestedKeysOf id (s .contested))) (q ∙ snapshot-none old (op .facts) (eqb-true (word 3 old) 0 h))))
+          (λ h.
+          (λ i. cond ((e ∙ ap (λ (b : Bool). cond b false keep) h) i) (changes.contest (word 5 old) (word 6 old) (rd .are i) (contestedKeysOf id (s .contested))) (contestedKeysOf id (s .contested)))
+          ∙ sym (ap (λ (x : Option Snapshot). changes.keepReplaced keep x (snapshotKeysOf id (s .snapshotKeys)) (contestedKeysOf id (s .contested))) (q ∙ snapshot-some old (op .facts) (eqb-false (word 3 old) 0 h))))
+
+      abbrev left : Bool → List ContestedKey
+      left b = cond b (changes.contest (word 5 old) (word 6 old) (keysIn (length held / 4) held) (contestedKeysOf id (s .contested))) (contestedKeysOf id (s .contested))
+
+      left-few : (b : Bool) → length (map contestedWords (changes.withContested id (left b) (s .contested))) ≤ 8192
+      left-few true = omega (arith, length-map (changes.withContested id (left true) (s .contested)) contestedWords, few-contested _ (after _ contested-held (contest-few (word 5 old) (word 6 old) (keysIn (length held / 4) held) (contestedKeysOf id (s .contested)))))
+      left-few false = omega (arith, length-map (changes.withContested id (left false) (s .contested)) contestedWords, few-contested _ any-after)
+
+      pub take-stores :
+          (keep kept : Bool)
+          → kept ≡ cond (eqb (word 3 old) 0) false keep
+          → (n k c : ℕ) (ps′ ks′ cs′ : List ℕ)
+          → Tabled n (replacedRun 12 (p .peers) id ws (t .peers)) (t .peers) ps′
+          → Tabled k (replacedRun 4 (p .«snapshot_keys») id keys (t .snapshotKeys)) (t .snapshotKeys) ks′
+          → Tabled c (map contestedWords (changes.withContested id (cond kept (changes.contest (word 5 old) (word 6 old) (keysIn (length held / 4) held) (contestedKeysOf id (contestedIn (p .contested) (t .contested)))) (contestedKeysOf id (contestedIn (p .contested) (t .contested)))) (contestedIn (p .contested) (t .contested)))) (t .contested) cs′
+          → Stores (changes.takeReport id r at (pastAfter r old) keep (stateOf p t)) (record { peers = n; «snapshot_keys» = k; contested = c }) t (record { peers = ps′; snapshotKeys = ks′; contested = cs′ })
+      unfolding changes.takeReport stateOf
+      take-stores keep kept ek n k c ps′ ks′ cs′ tn tk tc = record {
+        peers = holds-of 12 peersSize n (map peerWords (changes.withPeer id (changes.takenPeer id r at (pastAfter r old) ∷ []) (s .peers))) (t .peers) ps′
+            (subst (λ (rs : List (List ℕ)). Tabled n rs (t .peers) ps′) peers-words tn) (wide-map peerWords 12 peer-long (changes.withPeer id (changes.takenPeer id r at (pastAfter r old) ∷ []) (s .peers))) (omega (arith, peers-few)) (o .roomy .peers);
+        snapshotKeys = holds-of 4 snapshotKeysSize k (map snapshotKeyWords (changes.withSnapshotKeys id (changes.reportKeys id r) (s .snapshotKeys))) (t .snapshotKeys) ks′
+            (subst (λ (rs : List (List ℕ)). Tabled k rs (t .snapshotKeys) ks′) keys-words tk) (wide-map snapshotKeyWords 4 key-long (changes.withSnapshotKeys id (changes.reportKeys id r) (s .snapshotKeys))) (omega (arith, keys-few)) (o .roomy .snapshotKeys);
+        contested = subst (λ (l : List ContestedKey). Holds 6 contestedSize c (map contestedWords (changes.withContested id l (s .contested))) (t .contested) cs′) (kept-is keep kept ek)
+            (holds-of 6 contestedSize c (map contestedWords (changes.withContested id (left kept) (s .contested))) (t .contested) cs′ tc (wide-map contestedWords 6 contested-long (changes.withContested id (left kept) (s .contested))) (omega (arith, left-few kept)) (o .roomy .contested));
+      }
+
+  -- ---- contested
+  module _ (keys : List ℕ) (rp : Reported id r keys) (known : isKnown (s .peers) id ≡ true) where
+    contested-after : ValidState (record { peers = s .peers; snapshotKeys = s .snapshotKeys; contested = changes.withContested id (changes.contest (r .round) at (keysIn (length keys / 4) keys) (contestedKeysOf id (s .contested))) (s .contested) })
+    contested-after = contested-kept id s (o .valids) _
+        (contest-keeps id (r .round) at (keysIn (length keys / 4) keys) (contestedKeysOf id (s .contested)) (keys-typed id (length keys / 4) keys (rp .run)) (bs .round) (bs .time) contested-run)
+        (contest-few (r .round) at (keysIn (length keys / 4) keys) (contestedKeysOf id (s .contested))) known
+
+    pub contest-contestable : Contestable (p .contested) id keys (r .round) at (t .contested)
+    contest-contestable = contestable keys (r .round) at (rp .run) (rp .few) (bs .round) (s .peers) (s .snapshotKeys) contested-after
+
+    pub contest-stores :
+        (c : ℕ) (cs′ : List ℕ)
+        → Tabled c (map contestedWords (contestedAfter (p .contested) id keys (r .round) at (t .contested))) (t .contested) cs′
+        → Stores (changes.contestReport id r at (stateOf p t)) (record { peers = p .peers; «snapshot_keys» = p .«snapshot_keys»; contested = c }) t (record { peers = t .peers; snapshotKeys = t .snapshotKeys; contested = cs′ })
+    unfolding changes.contestReport stateOf
+    contest-stores c cs′ tc = record {
+      peers = holds-same peerWords 12 peersSize (p .peers) (s .peers) (t .peers) (o .peers-exact);
+      snapshotKeys = holds-same snapshotKeyWords 4 snapshotKeysSize (p .«snapshot_keys») (s .snapshotKeys) (t .snapshotKeys) (o .keys-exact);
+      contested = subst (λ (ks : List SnapshotKey). Holds 6 contestedSize c (map contestedWords (changes.withContested id (changes.contest (r .round) at ks (contestedKeysOf id (s .contested))) (s .contested))) (t .contested) cs′) (rp .are)
+          (holds-of 6 contestedSize c (map contestedWords (contestedAfter (p .contested) id keys (r .round) at (t .contested))) (t .contested) cs′ tc (wide-map contestedWords 6 contested-long (contestedAfter (p .contested) id keys (r .round) at (t .contested)))
+          (omega (arith, length-map (contestedAfter (p .contested) id keys (r .round) at (t .contested)) contestedWords, few-contested _ contested-after)) (o .roomy .contested));
+    }

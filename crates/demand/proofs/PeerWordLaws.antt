@@ -1,0 +1,72 @@
+-- Records and their words: each is the other's inverse where it should be. Assumes nothing.
+use Prim.Native.Nat.{ℕ, _≤_}
+use mathlib.Core.Path.{_≡_, refl, ap, _∙_}
+use mathlib.Core.Bool.{Bool, true, false}
+use mathlib.Core.List.{List, [], _∷_, _++_, map}
+use mathlib.Core.Option.{Option, none, some}
+use native.Mathlib.Omega.{arith}
+use lib.ListN.{length, take}
+use Rattle.records.specs.Records.{same}
+use Rattle.records.proofs.OrderLaws.{same-eq}
+use Rattle.records.proofs.TestLaws.{both}
+use Rattle.demand.specs.PeerLists.{all}
+use Rattle.demand.specs.PeerState.{exact}
+use Rattle.demand.specs.PeerRecords.{Snapshot, PeerRecord, SnapshotKey, ContestedKey, flagWord, flagOf, peerWords, snapshotKeyWords, contestedWords, peerOf, snapshotKeyOf, contestedOf}
+
+pub flag-of-word : (b : Bool) → flagOf (flagWord b) ≡ b
+flag-of-word false = refl
+flag-of-word true = refl
+
+-- the record of a snapshot key's words is the key
+pub snapshot-key-of-words : (k : SnapshotKey) → snapshotKeyOf (snapshotKeyWords k) ≡ k
+unfolding snapshotKeyOf snapshotKeyWords
+snapshot-key-of-words k =
+    ap (λ (b : Bool). record { peer = k .peer; key = k .key; demand = k .demand; primary = b }) (flag-of-word (k .primary))
+
+-- the record of a contested key's words is the key
+pub contested-of-words : (c : ContestedKey) → contestedOf (contestedWords c) ≡ c
+unfolding contestedOf contestedWords
+contested-of-words c =
+    ap
+    (λ (b : Bool).
+    record { peer = c .peer; key = c .key; demand = c .demand; primary = b; round = c .round; heardAt = c .heardAt })
+    (flag-of-word (c .primary))
+
+-- four words, of which the past epochs are those counted
+pub past-of-words : (es : List ℕ) → length es ≤ 4 → take (length es) (take 4 (es ++ (0 ∷ 0 ∷ 0 ∷ 0 ∷ []))) ≡ es
+past-of-words [] h = refl
+past-of-words (a ∷ []) h = refl
+past-of-words (a ∷ b ∷ []) h = refl
+past-of-words (a ∷ b ∷ c ∷ []) h = refl
+past-of-words (a ∷ b ∷ c ∷ d ∷ []) h = refl
+past-of-words (a ∷ b ∷ c ∷ d ∷ e ∷ es) h =
+    let no : ⊥ = omega (arith, h) in
+    elim no [ ]
+
+abbrev peer : ℕ → Option ℕ → Option Snapshot → List ℕ → PeerRecord
+peer id held taken past = record { id = id; heldUntil = held; snapshot = taken; pastEpochs = past }
+
+peer-by-parts :
+    (id : ℕ) (held : Option ℕ) (taken : Option Snapshot) (past : List ℕ)
+    → length past ≤ 4
+    → peerOf (peerWords (peer id held taken past)) ≡ peer id held taken past
+unfolding peerOf peerWords
+peer-by-parts id none none past h = ap (peer id none none) (past-of-words past h)
+peer-by-parts id none (some s) past h = ap (peer id none (some s)) (past-of-words past h)
+peer-by-parts id (some t) none past h = ap (peer id (some t) none) (past-of-words past h)
+peer-by-parts id (some t) (some s) past h = ap (peer id (some t) (some s)) (past-of-words past h)
+
+-- the record of a peer's words is the peer, where four past epochs hold it
+pub peer-of-words : (p : PeerRecord) → length (p .pastEpochs) ≤ 4 → peerOf (peerWords p) ≡ p
+peer-of-words p h = peer-by-parts (p .id) (p .heldUntil) (p .snapshot) (p .pastEpochs) h
+
+-- exact records are the words of what they stand for
+pub words-of-exact :
+    {A : Type 0} (words : A → List ℕ) (of : List ℕ → A) (rs : List (List ℕ))
+    → exact words of rs ≡ true
+    → map words (map of rs) ≡ rs
+unfolding all
+words-of-exact words of [] h = refl
+words-of-exact words of (r ∷ rs) h =
+    ap (λ (x : List ℕ). x ∷ map words (map of rs)) (same-eq (words (of r)) r (both (same (words (of r)) r) (exact words of rs) h .0))
+    ∙ ap (λ (xs : List (List ℕ)). r ∷ xs) (words-of-exact words of rs (both (same (words (of r)) r) (exact words of rs) h .1))

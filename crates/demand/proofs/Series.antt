@@ -1,0 +1,100 @@
+-- P is near the sums of the series of exp(-r / c): the terms, and their sum, each with its error. Assumes nothing.
+use mathlib.Core.Path.{_≡_, sym}
+use Prim.Native.Nat.{ℕ, zero, suc, _+_, _-_, _*_, _/_, _^_, _≤_, _<_}
+use native.Mathlib.Nat.{le-trans, le-of-eq, le-of-lt, add-zero, mul-suc, mul-le-mul, mul-le-mul-left, mul-le-mul-right, pow-zero, pow-suc, sub-add-cancel, div-mul-le-self}
+use native.Mathlib.Omega.{arith}
+use lib.Dec.{lit<, lit≤}
+use Rattle.demand.specs.Weight.{S, next, term, sum, series}
+use Rattle.demand.specs.Exponential.{den}
+use Rattle.demand.proofs.Division.{scaled-lt, quotient-next}
+use Rattle.demand.proofs.Terms.{double, term-le, taken-le}
+use Rattle.demand.proofs.Partial.{over, under, room}
+use Rattle.demand.proofs.Bounds.{sums, term-low, term-high, minus-high, plus-high, minus-low, plus-low}
+
+-- how far a term may fall short of the exact one, in parts
+short : ℕ → ℕ
+short zero = 0
+short (suc k) = 3
+
+short-side : (k : ℕ) → 1 + suc k + short k ≤ 3 * suc k
+unfolding short
+short-side zero = lit≤ tt
+short-side (suc k) = omega arith
+
+module _ (r c : ℕ) (h : r < c) where
+  abbrev y : ℕ
+  y = r * S / c
+
+  c-pos : zero < c
+  c-pos = omega arith
+
+  y-lt : y < S
+  y-lt = scaled-lt r S c h (lit< tt)
+
+  y-le : y ≤ S
+  y-le = le-of-lt y-lt
+
+  -- each term, from both sides
+  low : (k : ℕ) → term y k * den c k ≤ S * r ^ k
+  unfolding next term den
+  low zero = rw pow-zero (lit≤ tt)
+  low (suc k) = rw (pow-suc r k) (term-low S y c r (term y k) (term y (suc k)) (suc k) (den c k) (r ^ k) (lit< tt) (div-mul-le-self (term y k * y) (suc k * S)) (div-mul-le-self (r * S) c) (low k))
+
+  high : (k : ℕ) → S * r ^ k ≤ (term y k + short k) * den c k
+  unfolding next term den short
+  high zero = rw pow-zero (lit≤ tt)
+  high (suc k) =
+      rw (pow-suc r k)
+      (term-high S y c r (term y k) (term y (suc k)) (suc k) (den c k) (r ^ k) (short k) 3 (lit< tt) (quotient-next (term y k * y) (suc k * S) (omega arith)) (quotient-next (r * S) c c-pos) (high k) (term-le y k y-le) (omega (arith, y-lt)) (short-side k))
+
+  -- the sum of the terms 0 to 2 * m, from both sides
+  upper : (m : ℕ) → S * over r c m ≤ (sum y m + 3 * m) * den c (m + m)
+  unfolding next term sum over den short
+  upper zero = lit≤ tt
+  upper (suc m) =
+      let T = term y (suc (m + m)) in
+      let T' = term y (suc (suc (m + m))) in
+      let P = sum y m - T in
+      let h₀ : S * over r c m ≤ (P + T + 3 * m) * den c (m + m) = rw (sub-add-cancel (taken-le y m y-le)) (upper m) in
+      rw (double m, mul-suc 3 m)
+      (plus-high S (over r c m * (suc (m + m) * c) - r ^ suc (m + m)) (den c (suc (m + m))) (suc (suc (m + m))) c P T' (r ^ suc (suc (m + m))) (3 * m) 3
+      (minus-high S (over r c m) (over r c m * (suc (m + m) * c) - r ^ suc (m + m)) (den c (m + m)) (suc (m + m)) c P T (r ^ suc (m + m)) (3 * m) (sub-add-cancel (room r c (le-of-lt h) m)) h₀ (low (suc (m + m))))
+      (high (suc (suc (m + m)))))
+
+  lower : (m : ℕ) → sum y m * den c (m + m) ≤ S * over r c m + 3 * m * den c (m + m)
+  unfolding next term sum over den short
+  lower zero = lit≤ tt
+  lower (suc m) =
+      let T = term y (suc (m + m)) in
+      let T' = term y (suc (suc (m + m))) in
+      let P = sum y m - T in
+      let h₀ : (P + T) * den c (m + m) ≤ S * over r c m + 3 * m * den c (m + m) = rw (sub-add-cancel (taken-le y m y-le)) (lower m) in
+      rw (double m, mul-suc 3 m)
+      (plus-low S (over r c m * (suc (m + m) * c) - r ^ suc (m + m)) (den c (suc (m + m))) (suc (suc (m + m))) c P T' (r ^ suc (suc (m + m))) (3 * m + 3)
+      (minus-low S (over r c m) (over r c m * (suc (m + m) * c) - r ^ suc (m + m)) (den c (m + m)) (suc (m + m)) c P T (r ^ suc (m + m)) (3 * m) 3 (sub-add-cancel (room r c (le-of-lt h) m)) h₀ (high (suc (m + m))))
+      (low (suc (suc (m + m)))))
+
+  -- the term k is at most 1 / k!
+  tail-le : (k : ℕ) → den 1 k * r ^ k ≤ den c k
+  unfolding den
+  tail-le zero = rw pow-zero (lit≤ tt)
+  tail-le (suc k) =
+      rw (pow-suc r k)
+      (le-trans (le-of-eq (regroup (den 1 k) (suc k) (r ^ k) r)) (mul-le-mul (tail-le k) (mul-le-mul-left (suc k) (le-of-lt h))))
+    where
+      regroup : (d n R r : ℕ) → d * (n * 1) * (R * r) ≡ d * R * (n * r)
+      regroup d n R r = simp sums
+
+  -- P
+  pub sum-high : S * over r c 10 ≤ (series y + 30) * den c 20
+  unfolding next term sum series
+  sum-high = upper 10
+
+  pub sum-low : series y * den c 21 ≤ S * under r c 10 + 31 * den c 21
+  unfolding next term sum series den under
+  sum-low =
+      minus-low S (over r c 10) (under r c 10) (den c 20) 21 c (series y) 0 (r ^ 21) 30 1 (sub-add-cancel (room r c (le-of-lt h) 10)) (rw add-zero (lower 10))
+      (le-trans (mul-le-mul-right (r ^ 21) (lit≤ tt)) (le-trans (tail-le 21) (le-of-eq (sym (one-times (den c 21))))))
+    where
+      one-times : (n : ℕ) → (0 + 1) * n ≡ n
+      one-times n = omega arith

@@ -1,0 +1,10 @@
+-- `Demand::new` meets its contract. Assumes nothing.
+use Rattle.demand.proofs.Literals.{zero-is}
+use Rattle.demand.proofs.demand.Demand.new.Statement.{statement}
+use Rattle.demand.proofs.demand.Demand.new.Tie as tie
+
+returns : tie.Need-returns
+returns c = rw zero-is
+
+pub new-spec : {M : Type 1} → statement M
+new-spec = tie.close (tie.spec returns)

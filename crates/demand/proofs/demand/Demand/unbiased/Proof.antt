@@ -1,0 +1,43 @@
+-- `Demand::unbiased` meets its contract. Assumes nothing.
+use Rattle.demand.proofs.Literals.{zero-is}
+use Rattle.demand.proofs.Averages.{unmeasured, no-time, no-weight, weighted}
+use borrow.Author.Needs.{needs}
+use Rattle.demand.proofs.demand.Demand.unbiased.Statement.{statement}
+use Rattle.demand.proofs.demand.Demand.unbiased.Tie as tie
+
+enum-told : tie.Need-enum-told
+enum-told c = search needs
+
+enum-known-times : tie.Need-enum-known-times
+enum-known-times c = search needs
+
+returns : tie.Need-returns
+returns c = no-time _ _ _ _ _ zero-is (c .before .before .times .given .1) (c .if1 .taken)
+
+sub-alpha : tie.Need-sub-alpha
+sub-alpha c = search needs
+
+alpha-requires : tie.Need-alpha-requires
+alpha-requires c κs = search needs
+
+returns-2 : tie.Need-returns-2
+returns-2 c = no-weight _ _ _ _ _ _ _ zero-is zero-is (c .before .before .before .before .times .given .1) (c .before .before .if1 .left) (c .before .alpha .ensures) (c .if2 .taken)
+
+returns-3 : tie.Need-returns-3
+returns-3 c = unmeasured _ _ _ zero-is (c .enum-told .given .1)
+
+returns-4 : tie.Need-returns-4
+returns-4 c = weighted _ _ _ _ _ _ zero-is (c .before .before .before .before .before .times .given .1) (c .before .before .before .if1 .left) (c .before .before .alpha .ensures) (c .before .if2 .left)
+
+pub unbiased-spec : {M : Type 1} → statement M
+unbiased-spec =
+    tie.close
+    (tie.spec
+    enum-told
+    enum-known-times
+    returns
+    sub-alpha
+    alpha-requires
+    returns-2
+    returns-3
+    returns-4)

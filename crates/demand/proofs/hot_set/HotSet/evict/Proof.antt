@@ -1,0 +1,72 @@
+use mathlib.Core.Path.{refl}
+use Prim.Native.Nat.{_<_}
+use native.Mathlib.Omega.{arith}
+use borrow.Author.Needs.{needs}
+use Rattle.demand.proofs.HotSetAnswers.{passed-set}
+use Rattle.demand.proofs.HotSetActs.{held-now, evict-held, evict-room, evicted, not-evicted}
+use Rattle.demand.proofs.hot_set.HotSet.evict.Statement.{statement}
+use Rattle.demand.proofs.hot_set.HotSet.evict.Tie as tie
+
+-- a full set has an entry
+some-held : (s : tie.Start) → 0 < s .args .self .len
+some-held s = let p = passed-set (s .args .self) (s .args .hot .now) (s .pre .0) in let f = s .pre .1 .0 in omega (arith, p .some-size)
+
+weakest-requires : tie.Need-weakest-requires
+weakest-requires c κs = let s = c .before .before in (held-now _ _ (s .pre .0), some-held s)
+
+remove-requires : tie.Need-remove-requires
+remove-requires c κs = held-now _ _ (c .before .before .before .before .before .before .before .pre .0)
+
+sub-put : tie.Need-sub-put
+sub-put c = let s = c .before .before .before .before .before .before .before .before .before .before .before in omega (arith, some-held s)
+
+put-requires : tie.Need-put-requires
+put-requires c κs =
+    let r = c .before .before .before in
+    let t = r .before .before in
+    let w = t .before .before .before in
+    let s = w .before .before .before in
+    (evict-held (s .args .self) (s .args .hot .now) (s .pre .0) (s .args .entry) (w .weakest .result) (s .pre .1 .0) (s .pre .1 .1) (w .weakest .ensures) _ (r .remove .ensures), evict-room (s .args .self) (s .args .hot .now) (s .pre .0) (s .args .entry) (w .weakest .result) (s .pre .1 .0) (s .pre .1 .1) (w .weakest .ensures) _ (r .remove .ensures))
+
+counted-requires : tie.Need-counted-requires
+counted-requires c κs = search needs
+
+same-length : tie.Need-same-length
+same-length c = search needs
+
+returns : tie.Need-returns
+returns c =
+    let p = c .before .before .before in
+    let r = p .before .before .before .before in
+    let t = r .before .before in
+    let w = t .before .before .before in
+    let s = w .before .before .before in
+    evicted (s .args .self) (s .args .hot .now) (s .pre .0) (s .args .entry) (w .weakest .result) (s .pre .1 .0) (s .pre .1 .1) (w .weakest .ensures) _ (r .remove .ensures) (s .args .margin) _ _ (t .if1 .taken) (c .counted .ensures) (p .put .ensures)
+
+counted-requires-2 : tie.Need-counted-requires-2
+counted-requires-2 c κs = search needs
+
+same-length-2 : tie.Need-same-length-2
+same-length-2 c = search needs
+
+returns-2 : tie.Need-returns-2
+returns-2 c =
+    let t = c .before in
+    let w = t .before .before .before in
+    let s = w .before .before .before in
+    not-evicted (s .args .self) (s .args .hot .now) (s .pre .0) (s .args .entry) (w .weakest .result) (s .pre .1 .0) (s .pre .1 .1) (w .weakest .ensures) (s .args .margin) _ _ (t .if1 .left) (c .counted2 .ensures) refl
+
+pub evict-spec : {M : Type 1} → statement M
+evict-spec =
+    tie.close
+    (tie.spec
+    weakest-requires
+    remove-requires
+    sub-put
+    put-requires
+    counted-requires
+    same-length
+    returns
+    counted-requires-2
+    same-length-2
+    returns-2)

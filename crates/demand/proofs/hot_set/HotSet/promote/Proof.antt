@@ -1,0 +1,126 @@
+use mathlib.Core.Option.{none, some}
+use mathlib.Core.Path.{_≡_, sym, ap, _∙_}
+use Prim.Native.Nat.{_≤_}
+use native.Mathlib.Omega.{arith}
+use borrow.Author.Needs.{needs}
+use Rattle.demand.specs.declared.hot_set.HotEntry.{HotEntry}
+use Rattle.demand.specs.HotSetCalls.{held, slot}
+use Rattle.demand.specs.HotSet.{get}
+use Rattle.demand.proofs.HotSetAnswers.{passed-set}
+use Rattle.demand.proofs.HotSetActs.{held-now, kept-room, more-room, promoted-there, promoted-new, promoted-full}
+use Rattle.demand.proofs.hot_set.HotSet.promote.Statement.{statement}
+use Rattle.demand.proofs.hot_set.HotSet.promote.Tie as tie
+
+abbrev there : tie.After-known-told → tie.Start
+there c = c .before .before .before .before .before .before
+
+found : (c : tie.After-known-told) → get (there c .args .key) (held (there c .args .self) (there c .args .hot .now)) ≡ some (c .before .entry .given .0 .0)
+found c = sym (c .before .before .before .get .ensures) ∙ ap slot (c .before .entry .given .1)
+
+abbrev away : tie.After-enum-told → tie.Start
+away c = c .before .before .before .before .before
+
+free : (c : tie.After-enum-told) → get (away c .args .key) (held (away c .args .self) (away c .args .hot .now)) ≡ none
+free c = sym (c .before .before .get .ensures) ∙ ap slot (c .enum-told .given .1)
+
+-- a set that is not below its size is at it
+passed-full : (s : tie.Start) → s .args .self .«max_size» ≤ s .args .self .len → s .args .self .len ≡ s .args .self .«max_size»
+passed-full s l = let p = passed-set (s .args .self) (s .args .hot .now) (s .pre) in omega (arith, p .count)
+
+get-requires : tie.Need-get-requires
+get-requires c κs = let s = c .before .before in held-now _ _ (s .pre)
+
+enum-known-entry : tie.Need-enum-known-entry
+enum-known-entry c = search needs
+
+renewed-requires : tie.Need-renewed-requires
+renewed-requires c κs = search needs
+
+put-requires : tie.Need-put-requires
+put-requires c κs =
+    let k = c .before .before in
+    let s = there k in
+    (held-now _ _ (s .pre), kept-room (s .args .self) (s .args .hot .now) (s .pre) (s .args .key) _ _ (found k) (ap (λ (e : HotEntry). e .key) (c .renewed .ensures)))
+
+counted-requires : tie.Need-counted-requires
+counted-requires c κs = search needs
+
+enum-told : tie.Need-enum-told
+enum-told c = search needs
+
+new-requires : tie.Need-new-requires
+new-requires c κs = search needs
+
+put-requires-2 : tie.Need-put-requires-2
+put-requires-2 c κs =
+    let k = c .before .before .before .before in
+    let s = k .before .before .before .before .before in
+    (held-now _ _ (s .pre), more-room (s .args .self) (s .args .hot .now) (s .pre) (s .args .key) _ (free k) (ap (λ (e : HotEntry). e .key) (c .before .before .before .new .ensures)) (c .before .if1 .taken))
+
+add-counted : tie.Need-add-counted
+add-counted c = search needs
+
+counted-requires-2 : tie.Need-counted-requires-2
+counted-requires-2 c κs = search needs
+
+same-length : tie.Need-same-length
+same-length c = search needs
+
+returns : tie.Need-returns
+returns c =
+    let p = c .before .before .before in
+    let t = p .before .before in
+    let n = t .before .before in
+    let s = n .before .before .before .before .before .before in
+    promoted-new (s .args .self) (s .args .hot .now) (s .pre) (s .args .margin) (s .args .key) (s .args .demand-rate) (s .args .primary) (s .args .now) _ _ _ (free (n .before)) (n .new .ensures) (t .if1 .taken) (c .counted2 .ensures) (p .put2 .ensures)
+
+evict-requires : tie.Need-evict-requires
+evict-requires c κs =
+    let e = c .before in
+    let n = e .before .before in
+    let s = n .before .before .before .before .before .before in
+    (s .pre, (passed-full s (e .if1 .left), ap (λ (x : HotEntry). get (x .key) (held (s .args .self) (s .args .hot .now))) (n .new .ensures) ∙ free (n .before)))
+
+same-length-2 : tie.Need-same-length-2
+same-length-2 c = search needs
+
+returns-2 : tie.Need-returns-2
+returns-2 c =
+    let p = c .before .before .before in
+    let w = p .before in
+    let k = w .before .before in
+    let s = there k in
+    promoted-there (s .args .self) (s .args .hot .now) (s .pre) (s .args .margin) (s .args .key) (s .args .demand-rate) (s .args .primary) (s .args .now) _ _ _ _ (found k) (w .renewed .ensures) (c .counted .ensures) (p .put .ensures)
+
+same-length-3 : tie.Need-same-length-3
+same-length-3 c = search needs
+
+returns-3 : tie.Need-returns-3
+returns-3 c =
+    let v = c .before .before in
+    let e = v .before .before in
+    let n = e .before .before in
+    let s = n .before .before .before .before .before .before in
+    promoted-full (s .args .self) (s .args .hot .now) (s .pre) (s .args .margin) (s .args .key) (s .args .demand-rate) (s .args .primary) (s .args .now) _ _ _ (free (n .before)) (n .new .ensures) (e .if1 .left) (v .evict .ensures)
+
+pub promote-spec : {M : Type 1} → statement M
+promote-spec =
+    tie.close
+    (tie.spec
+    get-requires
+    enum-known-entry
+    renewed-requires
+    put-requires
+    counted-requires
+    enum-told
+    new-requires
+    put-requires-2
+    add-counted
+    counted-requires-2
+    same-length
+    returns
+    evict-requires
+    same-length-2
+    returns-2
+    same-length-3
+    returns-3)

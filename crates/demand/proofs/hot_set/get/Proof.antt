@@ -1,0 +1,60 @@
+use mathlib.Core.Path.{_≡_, sym, _∙_}
+use Prim.Native.Nat.{_+_, _*_, _≤_}
+use native.Mathlib.Omega.{arith}
+use borrow.Author.Needs.{needs}
+use lib.ListN.{length}
+use Rattle.records.specs.Records.{findIn}
+use Rattle.records.specs.declared.Found.the-variants.{At}
+use Rattle.demand.proofs.HotSetMap.{at-within, got-at, got-gap, never-unfit}
+use Rattle.demand.proofs.hot_set.get.Statement.{statement}
+use Rattle.demand.proofs.hot_set.get.Tie as tie
+
+abbrev start : tie.After-known-told → tie.Start
+start c = c .before .before .before .before .before
+
+found : (c : tie.After-known-told) → findIn 6 1 (start c .args .n) (start c .args .key) 0 (start c .args .hot .now) ≡ At (c .before .i .given .0 .0)
+found c = sym (c .before .before .before .find .ensures) ∙ c .before .i .given .1
+
+within : (c : tie.After-known-told) → c .before .i .given .0 .0 * 6 + 6 ≤ length (start c .args .hot .now)
+within c = at-within (start c .args .n) (start c .args .hot .now) (start c .pre) (start c .args .key) (c .before .i .given .0 .0) (found c)
+
+find-requires : tie.Need-find-requires
+find-requires c κs = search needs
+
+enum-known-i : tie.Need-enum-known-i
+enum-known-i c = search needs
+
+mul-of-words : tie.Need-mul-of-words
+mul-of-words c = omega (arith, within c)
+
+of-words-requires : tie.Need-of-words-requires
+of-words-requires c κs = within c
+
+enum-told : tie.Need-enum-told
+enum-told c = search needs
+
+enum-told-2 : tie.Need-enum-told-2
+enum-told-2 c = search needs
+
+returns : tie.Need-returns
+returns c = let s = start (c .before) in got-at (s .args .n) (s .args .hot .now) (s .pre) (s .args .key) _ _ (c .of-words .ensures) (found (c .before))
+
+returns-2 : tie.Need-returns-2
+returns-2 c = let s = c .before .before .before .before in got-gap (s .args .n) (s .args .hot .now) (s .pre) (s .args .key) _ (sym (c .before .before .find .ensures) ∙ c .enum-told .given .1)
+
+returns-3 : tie.Need-returns-3
+returns-3 c = let s = c .before .before .before .before in absurd (never-unfit (s .args .n) (s .args .hot .now) (s .pre) (s .args .key) (sym (c .before .before .find .ensures) ∙ c .enum-told2 .given .1))
+
+pub get-spec : {M : Type 1} → statement M
+get-spec =
+    tie.close
+    (tie.spec
+    find-requires
+    enum-known-i
+    mul-of-words
+    of-words-requires
+    enum-told
+    enum-told-2
+    returns
+    returns-2
+    returns-3)

@@ -1,0 +1,48 @@
+-- `get` meets its contract. Assumes nothing.
+use mathlib.Core.Path.{sym, ap, _∙_}
+use Rattle.demand.specs.PeerState.{tables}
+use Rattle.demand.specs.PeerHeard.{saidOf, StateReady}
+use Rattle.demand.proofs.PeerReaderLaws.{asked-ready, answer-no, answer-yes}
+use borrow.Author.Needs.{needs}
+use Rattle.demand.proofs.peer_demand.PeerDemand.get.Statement.{statement}
+use Rattle.demand.proofs.peer_demand.PeerDemand.get.Tie as tie
+
+-- both questions passed
+ready : (c : tie.Else1) → let s = c .before .before .before .before .before .args in StateReady (s .self) (tables (s .peers .now) (s .snapshot-keys .now) (s .contested .now))
+ready c =
+    let a = c .before in
+    let s = c .before .before .before .before .before .args in
+    asked-ready (s .self) (tables (s .peers .now) (s .snapshot-keys .now) (s .contested .now)) (a .ask .result) (a .ask .ensures) (c .if1 .left)
+    (λ i. a .before .before .before .shared-slice-known .given i .fits)
+    (λ i. a .before .before .shared-slice-known2 .given i .fits)
+    (λ i. a .before .shared-slice-known3 .given i .fits)
+
+ask-requires : tie.Need-ask-requires
+ask-requires c κs = search needs
+
+returns : tie.Need-returns
+returns c = answer-no (c .before .ask .result) _ _ (c .before .ask .ensures) (c .if1 .taken)
+
+heard-by-requires : tie.Need-heard-by-requires
+heard-by-requires c κs = ready c
+
+enum-told : tie.Need-enum-told
+enum-told c = search needs
+
+enum-known-h : tie.Need-enum-known-h
+enum-known-h c = search needs
+
+returns-2 : tie.Need-returns-2
+returns-2 c =
+    let e = c .before .before .before in
+    answer-yes (e .before .ask .result) _ _ _ (e .before .ask .ensures) (e .if1 .left) (sym (ap saidOf (c .enum-told .given .1)) ∙ c .before .before .heard-by .ensures)
+
+returns-3 : tie.Need-returns-3
+returns-3 c =
+    let e = c .before .before .before .before in
+    answer-yes (e .before .ask .result) _ _ _ (e .before .ask .ensures) (e .if1 .left) (sym (ap saidOf (c .before .h .given .1)) ∙ c .before .before .before .heard-by .ensures)
+
+pub get-spec : {M : Type 1} → statement M
+get-spec =
+    tie.close
+    (tie.spec ask-requires returns heard-by-requires enum-told enum-known-h returns-2 returns-3)

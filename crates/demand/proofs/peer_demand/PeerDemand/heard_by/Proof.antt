@@ -1,0 +1,78 @@
+-- `heard_by` meets its contract. Assumes nothing.
+use Prim.Native.Nat.{ℕ, _*_, _<_}
+use mathlib.Core.Path.{_≡_, ap, _∙_}
+use native.Mathlib.Omega.{arith}
+use lib.ListN.{getD}
+use Rattle.demand.specs.PeerState.{tables, stateOf}
+use Rattle.demand.specs.PeerReaders.{heard}
+use Rattle.demand.proofs.PeerRowLaws.{find-says, never-unfit}
+use Rattle.demand.proofs.PeerReaderLaws.{id-at, heard-missing}
+use borrow.Author.Needs.{needs}
+use Rattle.demand.proofs.peer_demand.PeerDemand.heard_by.Statement.{statement}
+use Rattle.demand.proofs.peer_demand.PeerDemand.heard_by.Tie as tie
+
+abbrev start : tie.After-i → tie.Start
+start c = c .before .before .before .before .before .before
+
+-- the peer that is found has the id
+place : (c : tie.After-i) → (c .i .given .0 .0 < start c .args .self .peers) × (getD (start c .args .peers .now) (c .i .given .0 .0 * 12) 0 ≡ start c .args .id)
+place c =
+    let st = start c in
+    let s = st .args in
+    let b = c .before .before in
+    id-at (s .self .peers) (s .peers .now) (st .pre .peers) (s .id) (c .i .given .0 .0) (find-says 12 1 (s .self .peers) (s .id) 0 (s .peers .now) (omega arith) (omega arith) (omega arith) (st .pre .peers .fit) (b .find .result) (b .find .ensures) ∙ c .i .given .1)
+
+find-requires : tie.Need-find-requires
+find-requires c κs = search needs
+
+enum-known-i : tie.Need-enum-known-i
+enum-known-i c = search needs
+
+heard-from-requires : tie.Need-heard-from-requires
+heard-from-requires c κs =
+    let st = start (c .before) in
+    (st .pre, place (c .before) .0)
+
+enum-known-i-2 : tie.Need-enum-known-i-2
+enum-known-i-2 c = search needs
+
+heard-contested-requires : tie.Need-heard-contested-requires
+heard-contested-requires c κs = search needs
+
+enum-told : tie.Need-enum-told
+enum-told c = search needs
+
+returns : tie.Need-returns
+returns c =
+    let a = c .before .before in
+    let s = start a .args in
+    c .heard-from .ensures ∙ ap (λ (id : ℕ). heard id (s .key) (stateOf (s .self) (tables (s .peers .now) (s .snapshot-keys .now) (s .contested .now)))) (place a .1)
+
+returns-2 : tie.Need-returns-2
+returns-2 c =
+    let a = c .before .before in
+    let b = a .before .before in
+    let st = b .before .before .before .before in
+    let s = st .args in
+    c .heard-contested .ensures ∙ heard-missing (s .self) (tables (s .peers .now) (s .snapshot-keys .now) (s .contested .now)) (st .pre) (s .key) (s .id) (a .i2 .given .0 .0) (find-says 12 1 (s .self .peers) (s .id) 0 (s .peers .now) (omega arith) (omega arith) (omega arith) (st .pre .peers .fit) (b .find .result) (b .find .ensures) ∙ a .i2 .given .1)
+
+returns-3 : tie.Need-returns-3
+returns-3 c =
+    let b = c .before .before in
+    let st = b .before .before .before .before in
+    let s = st .args in
+    absurd (never-unfit 12 1 (s .self .peers) (s .id) 0 (s .peers .now) (omega arith) (omega arith) (omega arith) (st .pre .peers .fit) (b .find .result) (b .find .ensures) (c .enum-told .given .1))
+
+pub heard-by-spec : {M : Type 1} → statement M
+heard-by-spec =
+    tie.close
+    (tie.spec
+    find-requires
+    enum-known-i
+    heard-from-requires
+    enum-known-i-2
+    heard-contested-requires
+    enum-told
+    returns
+    returns-2
+    returns-3)

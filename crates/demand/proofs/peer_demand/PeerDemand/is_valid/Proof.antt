@@ -1,0 +1,73 @@
+-- `is_valid` meets its contract. Assumes nothing.
+use mathlib.Core.Path.{_≡_, sym, _∙_}
+use mathlib.Core.Bool.{true, false}
+use native.Mathlib.Omega.{arith}
+use borrow.Author.Tests.{not-true, not-false}
+use Rattle.records.specs.Records.{records}
+use Rattle.demand.specs.PeerState.{tables, isValid}
+use Rattle.demand.specs.PeerScan.{arePeers, isScanned, PeersReady}
+use Rattle.demand.proofs.PeerScanLaws.{stop, goes}
+use Rattle.demand.proofs.PeerValidLaws.{all-words, scanned-is-valid, room-says, Roomy, peers-ready}
+use Rattle.demand.proofs.peer_demand.PeerDemand.is_valid.Statement.{statement}
+use Rattle.demand.proofs.peer_demand.PeerDemand.is_valid.Tie as tie
+
+scanned : (c : tie.After-shared-slice-known3) → let s = c .before .before .before .args in isScanned (s .self) (tables (s .peers .now) (s .snapshot-keys .now) (s .contested .now)) ≡ isValid (s .self) (tables (s .peers .now) (s .snapshot-keys .now) (s .contested .now))
+scanned c =
+    let st = c .before .before .before in
+    let s = st .args in
+    scanned-is-valid (s .self) (tables (s .peers .now) (s .snapshot-keys .now) (s .contested .now)) (st .pre)
+    (all-words (s .peers .now) (λ i. omega (arith, c .before .before .shared-slice-known .given i)))
+    (all-words (s .snapshot-keys .now) (λ i. omega (arith, c .before .shared-slice-known2 .given i)))
+    (all-words (s .contested .now) (λ i. omega (arith, c .shared-slice-known3 .given i)))
+
+abbrev start : tie.Else1 → tie.Start
+start c = c .before .before .before .before .before
+
+roomy : (c : tie.Else1) → let s = start c .args in Roomy (tables (s .peers .now) (s .snapshot-keys .now) (s .contested .now))
+roomy c =
+    let s = start c .args in
+    room-says (tables (s .peers .now) (s .snapshot-keys .now) (s .contested .now)) (start c .pre)
+
+passed : (c : tie.Else1) → arePeers (records 12 (start c .args .self .peers) (start c .args .peers .now)) ≡ true
+passed c = sym (c .before .are-peers .ensures) ∙ not-false (c .before .are-peers .result) (c .if1 .left)
+
+ready : (c : tie.Else1) → PeersReady (start c .args .self .peers) (start c .args .peers .now)
+ready c = peers-ready (start c .args .self .peers) (start c .args .peers .now) (roomy c .peers) (passed c)
+
+are-peers-requires : tie.Need-are-peers-requires
+are-peers-requires c κs =
+    let st = c .before .before .before in
+    let s = st .args in
+    room-says (tables (s .peers .now) (s .snapshot-keys .now) (s .contested .now)) (st .pre) .peers
+
+returns : tie.Need-returns
+unfolding isScanned
+returns c = stop _ _ (sym (c .before .are-peers .ensures) ∙ not-true (c .before .are-peers .result) (c .if1 .taken)) ∙ scanned (c .before .before)
+
+are-keys-requires : tie.Need-are-keys-requires
+are-keys-requires c κs =
+    let s = start c .args in
+    (ready c, (omega arith, omega arith, omega (arith, roomy c .snapshotKeys)))
+
+returns-2 : tie.Need-returns-2
+unfolding isScanned
+returns-2 c =
+    let e = c .before .before in
+    goes _ _ false (passed e) (stop _ _ (sym (c .before .are-keys .ensures) ∙ not-true (c .before .are-keys .result) (c .if2 .taken))) ∙ scanned (e .before .before)
+
+are-keys-requires-2 : tie.Need-are-keys-requires-2
+are-keys-requires-2 c κs =
+    let e = c .before .before in
+    (ready e, (omega arith, omega arith, omega (arith, roomy e .contested)))
+
+returns-3 : tie.Need-returns-3
+unfolding isScanned
+returns-3 c =
+    let f = c .before in
+    let e = f .before .before in
+    goes _ _ _ (passed e) (goes _ _ _ (sym (f .before .are-keys .ensures) ∙ not-false (f .before .are-keys .result) (f .if2 .left)) (c .are-keys2 .ensures)) ∙ scanned (e .before .before)
+
+pub is-valid-spec : {M : Type 1} → statement M
+is-valid-spec =
+    tie.close
+    (tie.spec are-peers-requires returns are-keys-requires returns-2 are-keys-requires-2 returns-3)

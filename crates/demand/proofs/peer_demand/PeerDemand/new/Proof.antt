@@ -1,0 +1,19 @@
+-- `PeerDemand::new` meets its contract: question 1 alone. Assumes nothing.
+use mathlib.Core.Path.{sym, _∙_}
+use Rattle.demand.proofs.PeerRoomLaws.{no-room, some-room}
+use borrow.Author.Needs.{needs}
+use borrow.Author.Tests.{not-true, not-false}
+use Rattle.demand.proofs.peer_demand.PeerDemand.new.Statement.{statement}
+use Rattle.demand.proofs.peer_demand.PeerDemand.new.Tie as tie
+
+has-room-requires : tie.Need-has-room-requires
+has-room-requires c κs = search needs
+
+returns : tie.Need-returns
+returns c = no-room _ _ (sym (c .before .has-room .ensures) ∙ not-true (c .before .has-room .result) (c .if1 .taken))
+
+returns-2 : tie.Need-returns-2
+returns-2 c = some-room _ _ (sym (c .before .has-room .ensures) ∙ not-false (c .before .has-room .result) (c .if1 .left))
+
+pub new-spec : {M : Type 1} → statement M
+new-spec = tie.close (tie.spec has-room-requires returns returns-2)

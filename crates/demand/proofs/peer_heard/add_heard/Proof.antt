@@ -1,0 +1,29 @@
+-- `add_heard` meets its contract. Assumes nothing.
+use mathlib.Core.Path.{sym, ap, _∙_}
+use lib.Ieee.{binary64, add}
+use Rattle.demand.specs.PeerReaders.{addHeard}
+use Rattle.demand.specs.PeerHeard.{saidOf}
+use borrow.Author.Needs.{needs}
+use Rattle.demand.proofs.peer_heard.add_heard.Statement.{statement}
+use Rattle.demand.proofs.peer_heard.add_heard.Tie as tie
+
+enum-told : tie.Need-enum-told
+enum-told c = search needs
+
+enum-known-said : tie.Need-enum-known-said
+enum-known-said c = search needs
+
+f32-to-f64-requires : tie.Need-f32-to-f64-requires
+f32-to-f64-requires c κs = search needs
+
+returns : tie.Need-returns
+returns c = search needs
+
+returns-2 : tie.Need-returns-2
+returns-2 c =
+    let s = c .before .before .before .before .args in
+    ap (add binary64 (s .sum)) (c .f32-to-f64 .ensures) ∙ sym (λ k. addHeard (s .sum) (saidOf (c .before .before .said .given .1 k)))
+
+pub add-heard-spec : {M : Type 1} → statement M
+add-heard-spec =
+    tie.close (tie.spec enum-told enum-known-said f32-to-f64-requires returns returns-2)

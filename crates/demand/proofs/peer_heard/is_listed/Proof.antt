@@ -1,0 +1,48 @@
+-- `is_listed` meets its contract. Assumes nothing.
+use mathlib.Core.Path.{_∙_}
+use native.Mathlib.Omega.{arith}
+use Rattle.demand.proofs.PeerRowLaws.{find-says, never-unfit}
+use Rattle.demand.proofs.PeerReaderLaws.{listed-found, listed-missing}
+use borrow.Author.Needs.{needs}
+use Rattle.demand.proofs.peer_heard.is_listed.Statement.{statement}
+use Rattle.demand.proofs.peer_heard.is_listed.Tie as tie
+
+find-requires : tie.Need-find-requires
+find-requires c κs = search needs
+
+enum-known-i : tie.Need-enum-known-i
+enum-known-i c = search needs
+
+enum-known-i-2 : tie.Need-enum-known-i-2
+enum-known-i-2 c = search needs
+
+enum-told : tie.Need-enum-told
+enum-told c = search needs
+
+returns : tie.Need-returns
+returns c =
+    let a = c .before in
+    let b = a .before .before in
+    let st = b .before .before in
+    let s = st .args in
+    listed-found (s .n) (s .id) (s .key) (s .t .now) (st .pre) (a .i .given .0 .0) (find-says 4 2 (s .n) (s .id) (s .key) (s .t .now) (omega arith) (omega arith) (omega arith) (st .pre .ready .fit) (b .find .result) (b .find .ensures) ∙ a .i .given .1)
+
+returns-2 : tie.Need-returns-2
+returns-2 c =
+    let a = c .before in
+    let b = a .before .before in
+    let st = b .before .before in
+    let s = st .args in
+    listed-missing (s .n) (s .id) (s .key) (s .t .now) (st .pre) (a .i2 .given .0 .0) (find-says 4 2 (s .n) (s .id) (s .key) (s .t .now) (omega arith) (omega arith) (omega arith) (st .pre .ready .fit) (b .find .result) (b .find .ensures) ∙ a .i2 .given .1)
+
+returns-3 : tie.Need-returns-3
+returns-3 c =
+    let b = c .before .before in
+    let st = b .before .before in
+    let s = st .args in
+    absurd (never-unfit 4 2 (s .n) (s .id) (s .key) (s .t .now) (omega arith) (omega arith) (omega arith) (st .pre .ready .fit) (b .find .result) (b .find .ensures) (c .enum-told .given .1))
+
+pub is-listed-spec : {M : Type 1} → statement M
+is-listed-spec =
+    tie.close
+    (tie.spec find-requires enum-known-i enum-known-i-2 enum-told returns returns-2 returns-3)

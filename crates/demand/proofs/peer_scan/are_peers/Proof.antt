@@ -1,0 +1,50 @@
+-- `are_peers` meets its contract. Assumes nothing.
+use Prim.Native.Nat.{ℕ}
+use mathlib.Core.Path.{_≡_, sym, ap, _∙_}
+use mathlib.Core.Bool.{true, false}
+use native.Mathlib.Omega.{arith}
+use lib.Dec.{leb}
+use lib.ListN.{length}
+use borrow.Author.Tests.{le-leb, lt-leb, not-true, not-false}
+use Rattle.records.specs.Records.{records, keyed, ascending}
+use Rattle.records.proofs.TestLaws.{and-skip}
+use Rattle.records.proofs.RecordLaws.{length-records}
+use Rattle.demand.specs.PeerScan.{arePeers}
+use Rattle.demand.proofs.PeerScanLaws.{stop, goes}
+use Rattle.demand.proofs.PeerRowLaws.{keyed-fit}
+use borrow.Author.Needs.{needs}
+use Rattle.demand.proofs.peer_scan.are_peers.Statement.{statement}
+use Rattle.demand.proofs.peer_scan.are_peers.Tie as tie
+
+few : (c : tie.Else1) → leb (length (records 12 (c .before .before .args .n) (c .before .before .args .t .now))) 32 ≡ true
+few c =
+    let s = c .before .before .args in
+    ap (λ (m : ℕ). leb m 32) (length-records 12 (s .n) (s .t .now)) ∙ le-leb (s .n) 32 (c .if1 .left)
+
+returns : tie.Need-returns
+unfolding arePeers
+returns c =
+    let s = c .before .before .args in
+    stop _ _ (ap (λ (m : ℕ). leb m 32) (length-records 12 (s .n) (s .t .now)) ∙ lt-leb (s .n) 32 (c .if1 .taken))
+
+are-all-peer-words-requires : tie.Need-are-all-peer-words-requires
+are-all-peer-words-requires c κs = search needs
+
+returns-2 : tie.Need-returns-2
+unfolding arePeers
+returns-2 c = goes _ _ false (few (c .before .before)) (stop _ _ (sym (c .before .are-all-peer-words .ensures) ∙ not-true (c .before .are-all-peer-words .result) (c .if2 .taken)))
+
+is-ascending-requires : tie.Need-is-ascending-requires
+is-ascending-requires c κs = search needs
+
+returns-3 : tie.Need-returns-3
+unfolding arePeers
+returns-3 c =
+    let e = c .before in
+    let s = e .before .before .before .before .args in
+    goes _ _ _ (few (e .before .before)) (goes _ _ _ (sym (e .before .are-all-peer-words .ensures) ∙ not-false (e .before .are-all-peer-words .result) (e .if2 .left)) (c .is-ascending .ensures ∙ and-skip (keyed (length (s .t .now)) 12 1 (s .n)) (ascending 1 (records 12 (s .n) (s .t .now))) (keyed-fit (length (s .t .now)) 12 1 (s .n) (omega arith) (omega arith) (omega arith) (omega arith))))
+
+pub are-peers-spec : {M : Type 1} → statement M
+are-peers-spec =
+    tie.close
+    (tie.spec returns are-all-peer-words-requires returns-2 is-ascending-requires returns-3)

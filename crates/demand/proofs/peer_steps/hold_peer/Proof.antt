@@ -1,0 +1,110 @@
+-- `hold_peer` meets its contract: two words of the record that is found. Assumes nothing.
+use Prim.Native.Nat.{ℕ, _+_, _*_, _≤_, _<_}
+use mathlib.Core.Path.{_≡_, sym, ap, _∙_}
+use mathlib.Core.List.{List, []}
+use native.Mathlib.Omega.{arith}
+use borrow.Author.Needs.{needs}
+use lib.ListN.{getD, length, set, length-set}
+use Rattle.records.specs.declared.Found.the-variants.{At}
+use Rattle.records.specs.Records.{records, findIn}
+use Rattle.demand.proofs.PeerTableLaws.{InOrder, in-order-says, found-inside, found-fit}
+use Rattle.demand.proofs.PeerHoldLaws.{held-at, held-gap}
+use Rattle.demand.proofs.peer_steps.hold_peer.Statement.{statement}
+use Rattle.demand.proofs.peer_steps.hold_peer.Tie as tie
+
+abbrev start : tie.After-find → tie.Start
+start c = c .before .before .before
+
+ordered : (c : tie.After-find) → InOrder 12 1 (start c .args .n) (start c .args .peers .now)
+ordered c = in-order-says 12 1 (start c .args .n) (start c .args .peers .now) (start c .pre .0)
+
+abbrev at : tie.After-known-told → tie.After-find
+at c = c .before .before .before
+
+place : (c : tie.After-known-told) → At (c .before .found .given .0 .0) ≡ findIn 12 1 (start (at c) .args .n) (start (at c) .args .id) 0 (start (at c) .args .peers .now)
+place c = sym (c .before .found .given .1) ∙ at c .find .ensures
+
+inside : (c : tie.After-known-told) → (c .before .found .given .0 .0 < start (at c) .args .n) × (c .before .found .given .0 .0 * 12 + 12 ≤ length (start (at c) .args .peers .now))
+inside c =
+    found-inside 12 (start (at c) .args .n) (start (at c) .args .id) (start (at c) .args .peers .now) (ordered (at c)) (c .before .found .given .0 .0) (place c)
+
+find-requires : tie.Need-find-requires
+find-requires c κs = search needs
+
+enum-known-found : tie.Need-enum-known-found
+enum-known-found c = search needs
+
+mul-at : tie.Need-mul-at
+mul-at c = omega (arith, inside c)
+
+add-peers : tie.Need-add-peers
+add-peers c = omega (arith, inside c)
+
+mul-peers : tie.Need-mul-peers
+mul-peers c = omega (arith, inside c)
+
+slice-write-peers : tie.Need-slice-write-peers
+slice-write-peers c = omega (arith, inside c)
+
+add-peers-2 : tie.Need-add-peers-2
+add-peers-2 c = omega (arith, inside c)
+
+mul-peers-2 : tie.Need-mul-peers-2
+mul-peers-2 c = omega (arith, inside c)
+
+slice-write-peers-2 : tie.Need-slice-write-peers-2
+slice-write-peers-2 c = simp length-set (omega (arith, inside c))
+
+enum-told : tie.Need-enum-told
+enum-told c = search needs
+
+enum-told-2 : tie.Need-enum-told-2
+enum-told-2 c = search needs
+
+same-length : tie.Need-same-length
+same-length c = simp length-set
+
+returns : tie.Need-returns
+returns c =
+    let s = start (at c) in
+    held-at (s .args .n) (s .args .id) (s .args .until) (s .args .peers .now) (ordered (at c)) (s .pre .1) (c .before .found .given .0 .0) (place c)
+
+same-length-2 : tie.Need-same-length-2
+same-length-2 c = search needs
+
+returns-2 : tie.Need-returns-2
+returns-2 c =
+    let f = c .before .before in
+    let s = start f in
+    held-gap (s .args .n) (s .args .id) (s .args .until) (s .args .peers .now) (ordered f) (s .pre .1) (c .enum-told .given .0 .0) (sym (c .enum-told .given .1) ∙ f .find .ensures)
+
+same-length-3 : tie.Need-same-length-3
+same-length-3 c = search needs
+
+returns-3 : tie.Need-returns-3
+returns-3 c =
+    let f = c .before .before in
+    let s = start f in
+    found-fit 12 (s .args .n) (s .args .id) (s .args .peers .now) (ordered f) (sym (c .enum-told2 .given .1) ∙ f .find .ensures)
+
+pub hold-peer-spec : {M : Type 1} → statement M
+hold-peer-spec =
+    tie.close
+    (tie.spec
+    find-requires
+    enum-known-found
+    mul-at
+    add-peers
+    mul-peers
+    slice-write-peers
+    add-peers-2
+    mul-peers-2
+    slice-write-peers-2
+    enum-told
+    enum-told-2
+    same-length
+    returns
+    same-length-2
+    returns-2
+    same-length-3
+    returns-3)

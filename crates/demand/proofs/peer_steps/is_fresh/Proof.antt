@@ -1,0 +1,16 @@
+-- `is_fresh` meets its contract. Assumes nothing.
+use Prim.Native.Nat.{ℕ}
+use mathlib.Core.Path.{ap}
+use lib.Dec.{ltb}
+use borrow.Author.Needs.{needs}
+use Rattle.demand.proofs.peer_steps.is_fresh.Statement.{statement}
+use Rattle.demand.proofs.peer_steps.is_fresh.Tie as tie
+
+later-by-requires : tie.Need-later-by-requires
+later-by-requires c κs = search needs
+
+returns : tie.Need-returns
+returns c = ap (λ (z : ℕ). ltb (c .before .args .reading) z) (c .later-by .ensures)
+
+pub is-fresh-spec : {M : Type 1} → statement M
+is-fresh-spec = tie.close (tie.spec later-by-requires returns)

@@ -1,0 +1,115 @@
+-- `retain_contested` meets its contract: the invariant is `Kept`. Assumes nothing.
+use Prim.Native.Nat.{ℕ, _+_, _-_, _*_, _≤_, _<_}
+use mathlib.Core.Path.{_≡_, sym, ap, _∙_}
+use mathlib.Core.Bool.{Bool}
+use mathlib.Core.List.{List, [], map}
+use native.Mathlib.Omega.{arith}
+use lib.ListN.{length, getD}
+use Rattle.records.specs.Records.{records}
+use Rattle.demand.specs.PeerRecords.{peerOf, snapshotKeyOf, contestedOf, timeOf, flagOf}
+use Rattle.demand.specs.PeerState.{hasSnapshot, isTaken}
+use Rattle.demand.specs.PeerSteps.{staysContested, staysPeer}
+use Rattle.demand.proofs.PeerKeepLaws.{Kept, kept-none, kept-first, kept-word, kept-inside, kept-next, kept-all}
+use borrow.Author.Needs.{needs}
+use Rattle.demand.proofs.peer_steps.retain_contested.Statement.{statement}
+use Rattle.demand.proofs.peer_steps.retain_contested.Tie as tie
+
+abbrev test : List ℕ → ℕ → ℕ → ℕ → List ℕ → Bool
+test peers n at age x = staysContested at age (map peerOf (records 12 n peers)) (contestedOf x .peer) (contestedOf x .heardAt)
+
+abbrev Inv-loop : tie.InvT-loop
+Inv-loop peers n contested₀ c reading max-age kept₀ i₀ contested kept i = Kept (test peers n reading max-age) 6 c contested₀ contested i kept
+
+abbrev μ-loop : tie.MeasureT-loop
+μ-loop peers n contested₀ c reading max-age kept₀ i₀ contested kept i = c - i
+
+inside : (c : tie.In-loop Inv-loop μ-loop) → c .before .loop .i * 6 + 6 ≤ length (c .before .loop .contested)
+inside c =
+    let s = c .before .before .before .before .args in
+    let l = c .before .loop in
+    kept-inside (test (s .peers .now) (s .n) (s .reading) (s .max-age)) 6 (s .c) (s .contested .now) (l .contested) (l .i) (l .kept) (l .inv) (c .loop-test .taken)
+
+loop-holds : tie.Need-loop-holds Inv-loop μ-loop
+loop-holds c =
+    let s = c .before .before in
+    kept-none (test (s .args .peers .now) (s .args .n) (s .args .reading) (s .args .max-age)) 6 (s .args .c) (s .args .contested .now) (omega arith) (s .pre .1)
+
+mul-at : tie.Need-mul-at Inv-loop μ-loop
+mul-at c = omega (arith, inside c)
+
+mul-stays-contested : tie.Need-mul-stays-contested Inv-loop μ-loop
+mul-stays-contested c = omega (arith, inside c)
+
+slice-read-stays-contested : tie.Need-slice-read-stays-contested Inv-loop μ-loop
+slice-read-stays-contested c = omega (arith, inside (c .before))
+
+add-stays-contested : tie.Need-add-stays-contested Inv-loop μ-loop
+add-stays-contested c = omega (arith, inside (c .before))
+
+mul-stays-contested-2 : tie.Need-mul-stays-contested-2 Inv-loop μ-loop
+mul-stays-contested-2 c = omega (arith, inside (c .before))
+
+slice-read-stays-contested-2 : tie.Need-slice-read-stays-contested-2 Inv-loop μ-loop
+slice-read-stays-contested-2 c = omega (arith, inside (c .before .before))
+
+stays-contested-requires : tie.Need-stays-contested-requires Inv-loop μ-loop
+stays-contested-requires c κs = c .before .before .before .before .before .before .pre .0
+
+keep-record-requires : tie.Need-keep-record-requires Inv-loop μ-loop
+keep-record-requires c κs =
+    let l = c .before .before .before .before in
+    (omega arith, l .before .loop .inv .behind, inside l)
+
+add-i : tie.Need-add-i Inv-loop μ-loop
+add-i c = omega arith
+
+loop-less : tie.Need-loop-less Inv-loop μ-loop
+loop-less c = omega arith
+
+loop-again : tie.Need-loop-again Inv-loop μ-loop
+unfolding contestedOf
+loop-again c =
+    let r = c .before .before in
+    let h = r .before .before in
+    let t = h .before .before .before in
+    let l = t .before .loop in
+    let s = t .before .before .before .before .args in
+    let p : List ℕ → Bool = test (s .peers .now) (s .n) (s .reading) (s .max-age) in
+    kept-next p 6 (s .c) (s .contested .now) (l .contested) (l .i) (l .kept) (l .inv) (t .loop-test .taken)
+    (h .stays-contested .result) (r .keep-record .last .0) (r .keep-record .result)
+    (h .stays-contested .ensures
+    ∙ (λ k. staysContested (s .reading) (s .max-age) (map peerOf (records 12 (s .n) (s .peers .now)))
+    (kept-first p 6 (s .c) (s .contested .now) (l .contested) (l .i) (l .kept) (l .inv) (t .loop-test .taken) k)
+    (kept-word p 6 (s .c) (s .contested .now) (l .contested) (l .i) (l .kept) (l .inv) (t .loop-test .taken) 5 (omega arith) k)))
+    (r .keep-record .ensures .0)
+    (r .keep-record .ensures .1)
+
+same-length : tie.Need-same-length Inv-loop μ-loop
+same-length c = c .before .loop .inv .as-long
+
+returns : tie.Need-returns Inv-loop μ-loop
+returns c =
+    let l = c .before .loop in
+    let s = c .before .before .before .before .args in
+    kept-all (test (s .peers .now) (s .n) (s .reading) (s .max-age)) 6 (s .c) (s .contested .now) (l .contested) (l .i) (l .kept) (l .inv) (c .loop-test .left)
+
+pub retain-contested-spec : {M : Type 1} → statement M
+retain-contested-spec =
+    tie.close
+    (tie.spec
+    Inv-loop
+    μ-loop
+    loop-holds
+    mul-at
+    mul-stays-contested
+    slice-read-stays-contested
+    add-stays-contested
+    mul-stays-contested-2
+    slice-read-stays-contested-2
+    stays-contested-requires
+    keep-record-requires
+    add-i
+    loop-less
+    loop-again
+    same-length
+    returns)

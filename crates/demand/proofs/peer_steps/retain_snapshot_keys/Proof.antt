@@ -1,0 +1,99 @@
+-- `retain_snapshot_keys` meets its contract: the invariant is `Kept`. Assumes nothing.
+use Prim.Native.Nat.{ℕ, _+_, _-_, _*_, _≤_, _<_}
+use mathlib.Core.Path.{_≡_, sym, ap, _∙_}
+use mathlib.Core.Bool.{Bool}
+use mathlib.Core.List.{List, [], map}
+use native.Mathlib.Omega.{arith}
+use lib.ListN.{length, getD}
+use Rattle.records.specs.Records.{records}
+use Rattle.demand.specs.PeerRecords.{peerOf, snapshotKeyOf, contestedOf, timeOf, flagOf}
+use Rattle.demand.specs.PeerState.{hasSnapshot, isTaken}
+use Rattle.demand.specs.PeerSteps.{staysContested, staysPeer}
+use Rattle.demand.proofs.PeerKeepLaws.{Kept, kept-none, kept-first, kept-word, kept-inside, kept-next, kept-all}
+use borrow.Author.Needs.{needs}
+use Rattle.demand.proofs.peer_steps.retain_snapshot_keys.Statement.{statement}
+use Rattle.demand.proofs.peer_steps.retain_snapshot_keys.Tie as tie
+
+abbrev test : List ℕ → ℕ → List ℕ → Bool
+test peers n x = hasSnapshot (map peerOf (records 12 n peers)) (snapshotKeyOf x .peer)
+
+abbrev Inv-loop : tie.InvT-loop
+Inv-loop peers n snapshot-keys₀ k kept₀ i₀ snapshot-keys kept i = Kept (test peers n) 4 k snapshot-keys₀ snapshot-keys i kept
+
+abbrev μ-loop : tie.MeasureT-loop
+μ-loop peers n snapshot-keys₀ k kept₀ i₀ snapshot-keys kept i = k - i
+
+inside : (c : tie.In-loop Inv-loop μ-loop) → c .before .loop .i * 4 + 4 ≤ length (c .before .loop .snapshot-keys)
+inside c =
+    let s = c .before .before .before .before .args in
+    let l = c .before .loop in
+    kept-inside (test (s .peers .now) (s .n)) 4 (s .k) (s .snapshot-keys .now) (l .snapshot-keys) (l .i) (l .kept) (l .inv) (c .loop-test .taken)
+
+loop-holds : tie.Need-loop-holds Inv-loop μ-loop
+loop-holds c =
+    let s = c .before .before in
+    kept-none (test (s .args .peers .now) (s .args .n)) 4 (s .args .k) (s .args .snapshot-keys .now) (omega arith) (s .pre .1)
+
+mul-at : tie.Need-mul-at Inv-loop μ-loop
+mul-at c = omega (arith, inside c)
+
+mul-has-snapshot : tie.Need-mul-has-snapshot Inv-loop μ-loop
+mul-has-snapshot c = omega (arith, inside c)
+
+slice-read-has-snapshot : tie.Need-slice-read-has-snapshot Inv-loop μ-loop
+slice-read-has-snapshot c = omega (arith, inside (c .before))
+
+has-snapshot-requires : tie.Need-has-snapshot-requires Inv-loop μ-loop
+has-snapshot-requires c κs = c .before .before .before .before .before .pre .0
+
+keep-record-requires : tie.Need-keep-record-requires Inv-loop μ-loop
+keep-record-requires c κs =
+    let l = c .before .before .before in
+    (omega arith, l .before .loop .inv .behind, inside l)
+
+add-i : tie.Need-add-i Inv-loop μ-loop
+add-i c = omega arith
+
+loop-less : tie.Need-loop-less Inv-loop μ-loop
+loop-less c = omega arith
+
+loop-again : tie.Need-loop-again Inv-loop μ-loop
+unfolding snapshotKeyOf
+loop-again c =
+    let r = c .before .before in
+    let h = r .before .before in
+    let t = h .before .before in
+    let l = t .before .loop in
+    let s = t .before .before .before .before .args in
+    kept-next (test (s .peers .now) (s .n)) 4 (s .k) (s .snapshot-keys .now) (l .snapshot-keys) (l .i) (l .kept) (l .inv) (t .loop-test .taken)
+    (h .has-snapshot .result) (r .keep-record .last .0) (r .keep-record .result)
+    (h .has-snapshot .ensures ∙ ap (hasSnapshot (map peerOf (records 12 (s .n) (s .peers .now)))) (kept-first (test (s .peers .now) (s .n)) 4 (s .k) (s .snapshot-keys .now) (l .snapshot-keys) (l .i) (l .kept) (l .inv) (t .loop-test .taken)))
+    (r .keep-record .ensures .0)
+    (r .keep-record .ensures .1)
+
+same-length : tie.Need-same-length Inv-loop μ-loop
+same-length c = c .before .loop .inv .as-long
+
+returns : tie.Need-returns Inv-loop μ-loop
+returns c =
+    let l = c .before .loop in
+    let s = c .before .before .before .before .args in
+    kept-all (test (s .peers .now) (s .n)) 4 (s .k) (s .snapshot-keys .now) (l .snapshot-keys) (l .i) (l .kept) (l .inv) (c .loop-test .left)
+
+pub retain-snapshot-keys-spec : {M : Type 1} → statement M
+retain-snapshot-keys-spec =
+    tie.close
+    (tie.spec
+    Inv-loop
+    μ-loop
+    loop-holds
+    mul-at
+    mul-has-snapshot
+    slice-read-has-snapshot
+    has-snapshot-requires
+    keep-record-requires
+    add-i
+    loop-less
+    loop-again
+    same-length
+    returns)

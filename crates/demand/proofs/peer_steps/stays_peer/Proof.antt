@@ -1,0 +1,38 @@
+-- `stays_peer` meets its contract: case by case of the two flags. Assumes nothing.
+use mathlib.Core.Path.{_≡_, sym, _∙_}
+use mathlib.Core.List.{List, map}
+use lib.Dec.{eqb}
+use borrow.Author.Needs.{needs}
+use Rattle.records.specs.Records.{records}
+use Rattle.demand.specs.PeerRecords.{ContestedKey, contestedOf}
+use Rattle.demand.proofs.PeerRangeLaws.{any-map}
+use Rattle.demand.proofs.PeerStayLaws.{held-peer, taken-peer, bare-peer}
+use Rattle.demand.proofs.peer_steps.stays_peer.Statement.{statement}
+use Rattle.demand.proofs.peer_steps.stays_peer.Tie as tie
+
+abbrev contested : tie.Start → List ContestedKey
+contested c = map contestedOf (records 6 (c .args .c) (c .args .contested .now))
+
+returns : tie.Need-returns
+returns c =
+    let s = c .before .before in
+    held-peer (s .args .reading) (s .args .id) (s .args .held) (s .args .until) (s .args .taken) (contested s) (c .if1 .taken)
+
+returns-2 : tie.Need-returns-2
+returns-2 c =
+    let s = c .before .before .before in
+    taken-peer (s .args .reading) (s .args .id) (s .args .held) (s .args .until) (s .args .taken) (contested s) (c .before .if1 .left) (c .if2 .taken)
+
+has-contested-requires : tie.Need-has-contested-requires
+has-contested-requires c κs = c .before .before .before .pre
+
+returns-3 : tie.Need-returns-3
+returns-3 c =
+    let e = c .before in
+    let s = e .before .before .before in
+    c .has-contested .ensures
+    ∙ sym (any-map contestedOf (λ (x : ContestedKey). eqb (x .peer) (s .args .id)) (records 6 (s .args .c) (s .args .contested .now)))
+    ∙ bare-peer (s .args .reading) (s .args .id) (s .args .held) (s .args .until) (s .args .taken) (contested s) (e .before .if1 .left) (e .if2 .left)
+
+pub stays-peer-spec : {M : Type 1} → statement M
+stays-peer-spec = tie.close (tie.spec returns returns-2 has-contested-requires returns-3)

@@ -1,0 +1,222 @@
+-- The hot set (003), on the list of its entries in ascending order of their keys. Definitions only.
+use Prim.Native.Nat.{ℕ, _-_, _*_, _≤_}
+use mathlib.Core.Path.{_≡_}
+use mathlib.Core.Bool.{Bool, true, false, cond, _&&_, _||_}
+use mathlib.Core.List.{List, [], _∷_, map}
+use mathlib.Core.Option.{Option, none, some}
+use lib.Dec.{ltb, leb, eqb}
+use lib.Ieee.{Float, binary64, toBits, ofBits, lt, mul}
+use lib.ListN.{length, getD}
+use Rattle.float.specs.Magnitude.{magnitude}
+use Rattle.float.specs.Order.{totalLess}
+use Rattle.records.specs.Records.{records, ascending}
+use Rattle.demand.specs.declared.hot_set.Cooling.{Cooling}
+use Rattle.demand.specs.declared.hot_set.Cooling.the-variants.{Unset, Since}
+use Rattle.demand.specs.declared.hot_set.HotEntry.{HotEntry}
+use Rattle.demand.specs.declared.hot_set.HotSet.{HotSet}
+
+-- ---- an entry as words (01, 'The saved image', kind 3: key, demand, primary, cooling since?, since)
+
+-- flags are 0 or 1
+abbrev pub flag : Bool → ℕ
+flag true = 1
+flag false = 0
+
+-- a time that may be missing has a flag word first and is 0 if missing
+abbrev pub coolingFlag : Cooling → ℕ
+coolingFlag Unset = 0
+coolingFlag (Since t) = 1
+
+abbrev pub coolingTime : Cooling → ℕ
+coolingTime Unset = 0
+coolingTime (Since t) = t
+
+-- the words of an entry's record
+unfoldable pub words : HotEntry → List ℕ
+words e =
+    e .key ∷ toBits binary64 (e .demand) ∷ flag (e .primary) ∷ coolingFlag (e .«cooling_since») ∷ coolingTime (e .«cooling_since») ∷ e .since ∷ []
+
+abbrev pub cooling : Bool → ℕ → Cooling
+cooling true t = Since t
+cooling false t = Unset
+
+-- the entry of a record's words
+unfoldable pub entry : List ℕ → HotEntry
+entry r = record {
+  key = getD r 0 0;
+  demand = ofBits binary64 (getD r 1 0);
+  primary = eqb (getD r 2 0) 1;
+  «cooling_since» = cooling (eqb (getD r 3 0) 1) (getD r 4 0);
+  since = getD r 5 0;
+}
+
+-- the first n entries in lent words
+unfoldable pub entries : ℕ → List ℕ → List HotEntry
+entries n xs = map entry (records 6 n xs)
+
+-- ---- validity (01, 'The saved image')
+
+-- the demand is finite with a clear sign bit, flags are 0 or 1, a time is 0 if missing
+unfoldable pub isEntry : List ℕ → Bool
+isEntry r =
+    magnitude (ofBits binary64 (getD r 1 0))
+    && (leb (getD r 2 0) 1 && (leb (getD r 3 0) 1 && (eqb (getD r 3 0) 1 || eqb (getD r 4 0) 0)))
+
+unfoldable pub allEntries : List (List ℕ) → Bool
+allEntries [] = true
+allEntries (r ∷ rs) = isEntry r && allEntries rs
+
+-- records of kind 3, 'ids strictly ascending'
+unfoldable pub validEntries : List (List ℕ) → Bool
+validEntries rs = ascending 1 rs && allEntries rs
+
+-- the key at word `at` is above that of the record before it, if there is one
+unfoldable pub follows : ℕ → List ℕ → Bool
+follows at xs = cond (ltb at 6) true (ltb (getD xs (at - 6) 0) (getD xs at 0))
+
+-- the first n records are within the words, and valid
+pub record Held (n : ℕ) (xs : List ℕ) : Type 0 where
+  pub fit : n * 6 ≤ length xs
+  pub good : validEntries (records 6 n xs) ≡ true
+
+-- 01, question 6: the hot set size is 1 to 64
+unfoldable pub validSize : ℕ → Bool
+validSize n = leb 1 n && leb n 64
+
+-- a lone hot set with the records in use: the size passes 6, and counts keep their bounds
+unfoldable pub valid : HotSet → List (List ℕ) → Bool
+valid s rs = validSize (s .«max_size») && (leb (s .len) (s .«max_size») && validEntries rs)
+
+-- ---- 003's map of keys to entries, ascending
+
+-- the entry of a key
+unfoldable pub get : ℕ → List HotEntry → Option HotEntry
+get k [] = none
+get k (e ∷ es) = cond (eqb (e .key) k) (some e) (get k es)
+
+-- the entry under its key, in place of one that has it
+unfoldable pub put : HotEntry → List HotEntry → List HotEntry
+put e [] = e ∷ []
+put e (x ∷ xs) =
+    cond (ltb (x .key) (e .key)) (x ∷ put e xs) (cond (eqb (x .key) (e .key)) (e ∷ xs) (e ∷ x ∷ xs))
+
+-- without the entry of a key
+unfoldable pub remove : ℕ → List HotEntry → List HotEntry
+remove k [] = []
+remove k (e ∷ es) = cond (eqb (e .key) k) es (e ∷ remove k es)
+
+-- ---- 003, `weakest`: the totalOrder-least demand, ties to the smaller key
+
+-- a is weaker than b
+unfoldable pub weaker : HotEntry → HotEntry → Bool
+weaker a b =
+    let x = toBits binary64 (a .demand) in
+    let y = toBits binary64 (b .demand) in
+    totalLess x y || (eqb x y && ltb (a .key) (b .key))
+
+-- the weakest of e and es
+unfoldable pub weakestOf : HotEntry → List HotEntry → HotEntry
+weakestOf e [] = e
+weakestOf e (x ∷ xs) = weakestOf (cond (weaker x e) x e) xs
+
+unfoldable pub weakest : List HotEntry → Option HotEntry
+weakest [] = none
+weakest (e ∷ es) = some (weakestOf e es)
+
+-- ---- 003, `promote`
+
+-- whether the key is hot afterwards, and the entries then
+pub record Outcome : Type 0 where
+  pub hot : Bool
+  pub left : List HotEntry
+
+abbrev pub hotWith : List HotEntry → Outcome
+hotWith es = record { hot = true; left = es }
+
+abbrev pub coldWith : List HotEntry → Outcome
+coldWith es = record { hot = false; left = es }
+
+-- 003, `insert`: an entry made at `now`
+abbrev pub newEntry : (key : ℕ) (demand : Float) (primary : Bool) (now : ℕ) → HotEntry
+newEntry key demand primary now =
+    record { key = key; demand = demand; primary = primary; «cooling_since» = Unset; since = now }
+
+-- an entry that is there already
+abbrev pub renewed : (demand : Float) (primary : Bool) → HotEntry → HotEntry
+renewed demand primary e =
+    record { key = e .key; demand = demand; primary = primary; «cooling_since» = Unset; since = e .since }
+
+-- 'a full set admits an absent key only above least × 1.1, replacing the totalOrder-least'; a full set has a weakest entry
+unfoldable pub evict : (margin : Float) → HotEntry → List HotEntry → Option HotEntry → Outcome
+evict margin e es none = coldWith es
+evict margin e es (some w) =
+    cond (lt (mul binary64 (w .demand) margin) (e .demand)) (hotWith (put e (remove (w .key) es))) (coldWith es)
+
+-- an absent key
+unfoldable pub admit : (margin : Float) (size : ℕ) → HotEntry → List HotEntry → Outcome
+admit margin size e es = cond (ltb (length es) size) (hotWith (put e es)) (evict margin e es (weakest es))
+
+unfoldable pub promoteFrom : (margin : Float) (size key : ℕ) (demand : Float) (primary : Bool) (now : ℕ) → List HotEntry → Option HotEntry → Outcome
+promoteFrom margin size key demand primary now es (some e) = hotWith (put (renewed demand primary e) es)
+promoteFrom margin size key demand primary now es none = admit margin size (newEntry key demand primary now) es
+
+unfoldable pub promote : (margin : Float) (size key : ℕ) (demand : Float) (primary : Bool) (now : ℕ) → List HotEntry → Outcome
+promote margin size key demand primary now es = promoteFrom margin size key demand primary now es (get key es)
+
+-- ---- 003, `cool`, of one entry
+
+-- a primary entry counts its cooldown and then stops being primary
+abbrev pub countDown : (cooldown : ℕ) (demand : Float) (now : ℕ) → HotEntry → Cooling → HotEntry
+countDown cooldown demand now e Unset =
+    record { key = e .key; demand = demand; primary = true; «cooling_since» = Since now; since = e .since }
+countDown cooldown demand now e (Since t) =
+    cond (leb cooldown (now - t))
+    (record { key = e .key; demand = demand; primary = false; «cooling_since» = Unset; since = e .since })
+    (record { key = e .key; demand = demand; primary = true; «cooling_since» = Since t; since = e .since })
+
+unfoldable pub cooled : (cooldown : ℕ) (demand : Float) (now : ℕ) → HotEntry → HotEntry
+cooled cooldown demand now e =
+    cond (e .primary)
+    (countDown cooldown demand now e (e .«cooling_since»))
+    (record { key = e .key; demand = demand; primary = false; «cooling_since» = e .«cooling_since»; since = e .since })
+
+abbrev pub coolFrom : (cooldown : ℕ) (demand : Float) (now : ℕ) → List HotEntry → Option HotEntry → List HotEntry
+coolFrom cooldown demand now es none = es
+coolFrom cooldown demand now es (some e) = put (cooled cooldown demand now e) es
+
+unfoldable pub cool : (cooldown key : ℕ) (demand : Float) (now : ℕ) → List HotEntry → List HotEntry
+cool cooldown key demand now es = coolFrom cooldown demand now es (get key es)
+
+-- ---- 003, `update_with`
+
+-- not above the threshold, after `cool`
+unfoldable pub settle : (margin : Float) (size key : ℕ) (demand : Float) (now : ℕ) (elsewhere : Bool) → List HotEntry → Option HotEntry → Outcome
+settle margin size key demand now elsewhere es (some e) = cond (e .primary || elsewhere) (hotWith es) (coldWith (remove key es))
+settle margin size key demand now elsewhere es none = cond elsewhere (promote margin size key demand false now es) (coldWith es)
+
+unfoldable pub belowThreshold : (margin : Float) (cooldown size key : ℕ) (demand : Float) (now : ℕ) (elsewhere : Bool) → List HotEntry → Outcome
+belowThreshold margin cooldown size key demand now elsewhere es =
+    let cooler = cool cooldown key demand now es in
+    settle margin size key demand now elsewhere cooler (get key cooler)
+
+unfoldable pub updateWith : (margin : Float) → HotSet → (key : ℕ) (demand threshold : Float) (now : ℕ) (elsewhere : Bool) → List HotEntry → Outcome
+updateWith margin s key demand threshold now elsewhere es =
+    cond (lt threshold demand)
+    (promote margin (s .«max_size») key demand true now es)
+    (belowThreshold margin (s .cooldown) (s .«max_size») key demand now elsewhere es)
+
+-- ---- 003, the readers
+abbrev pub there : Option HotEntry → Bool
+there none = false
+there (some e) = true
+
+abbrev pub sinceOf : Option HotEntry → Option ℕ
+sinceOf none = none
+sinceOf (some e) = some (e .since)
+
+abbrev pub primaryOf : Option HotEntry → Bool
+primaryOf none = false
+primaryOf (some e) = e .primary
+
+abbrev pub isHot : ℕ → List HotEntry → Bool
+isHot key es = there (get key es)

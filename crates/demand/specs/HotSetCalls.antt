@@ -1,0 +1,144 @@
+-- The promise of each public function of the hot set: 01's questions in their order, and then its value. Definitions only.
+use Prim.Native.Nat.{ℕ, _*_, min}
+use mathlib.Core.Path.{_≡_}
+use mathlib.Core.Bool.{Bool, false, cond, _&&_}
+use mathlib.Core.List.{List, [], _∷_, map}
+use mathlib.Core.Option.{Option, none, some}
+use lib.Dec.{leb, eqb}
+use lib.Ieee.{Float, binary64, ofBits}
+use lib.ListN.{length}
+use Rattle.float.specs.Magnitude.{magnitude}
+use Rattle.records.specs.Records.{records, table, fits}
+use Rattle.gcra.specs.Questions.{Question, _asks_, Answer, refused, given, answer, changed, firstNo}
+use Rattle.demand.specs.HotSet.{words, entries, validEntries, validSize, valid, get, weakest, Outcome, evict, promote, belowThreshold, updateWith, isHot, sinceOf, primaryOf}
+use Rattle.demand.specs.declared.hot_set.HotSet.{HotSet}
+use Rattle.demand.specs.declared.hot_set.HotEntry.{HotEntry}
+use Rattle.demand.specs.declared.hot_set.Updated.{Updated}
+use Rattle.demand.specs.declared.hot_set.Slot.{Slot}
+use Rattle.demand.specs.declared.hot_set.Slot.the-variants.{Free, Entry}
+use Rattle.demand.specs.declared.hot_set.NewAnswer.{NewAnswer}
+use Rattle.demand.specs.declared.hot_set.NewAnswer.the-variants as new-answer
+use Rattle.demand.specs.declared.hot_set.UpdateAnswer.{UpdateAnswer}
+use Rattle.demand.specs.declared.hot_set.UpdateAnswer.the-variants as update-answer
+use Rattle.demand.specs.declared.hot_set.TestAnswer.{TestAnswer}
+use Rattle.demand.specs.declared.hot_set.TestAnswer.the-variants as test-answer
+use Rattle.demand.specs.declared.hot_set.SinceAnswer.{SinceAnswer}
+use Rattle.demand.specs.declared.hot_set.SinceAnswer.the-variants as since-answer
+use Rattle.demand.specs.declared.hot_set.LenAnswer.{LenAnswer}
+use Rattle.demand.specs.declared.hot_set.LenAnswer.the-variants as len-answer
+
+-- 01's number and values for each case of the answers
+abbrev pub newAnswer : NewAnswer → Answer HotSet
+newAnswer (new-answer.No n) = refused n
+newAnswer (new-answer.Is s) = given s
+
+abbrev pub updateAnswer : UpdateAnswer → Answer Updated
+updateAnswer (update-answer.No n) = refused n
+updateAnswer (update-answer.Is u) = given u
+
+abbrev pub testAnswer : TestAnswer → Answer Bool
+testAnswer (test-answer.No n) = refused n
+testAnswer (test-answer.Is b) = given b
+
+abbrev pub sinceAnswer : SinceAnswer → Answer (Option ℕ)
+sinceAnswer (since-answer.No n) = refused n
+sinceAnswer since-answer.NotHot = given none
+sinceAnswer (since-answer.Since t) = given (some t)
+
+abbrev pub lenAnswer : LenAnswer → Answer ℕ
+lenAnswer (len-answer.No n) = refused n
+lenAnswer (len-answer.Is n) = given n
+
+-- 01, question 1: the words that a hot set takes; a size above its bound counts as that bound
+abbrev pub room : ℕ → ℕ
+room size = 6 * min size 64
+
+abbrev pub askNew : (size : ℕ) (xs : List ℕ) → List Question
+askNew size xs = (1 asks leb (room size) (length xs)) ∷ (6 asks validSize size) ∷ []
+
+abbrev pub askSet : HotSet → List ℕ → List Question
+askSet s xs = (1 asks leb (room (s .«max_size»)) (length xs)) ∷ (2 asks valid s (records 6 (s .len) xs)) ∷ []
+
+-- the threshold may be any f64
+abbrev pub askUpdate : HotSet → List ℕ → Float → List Question
+askUpdate s xs demand =
+    (1 asks leb (room (s .«max_size»)) (length xs)) ∷ (2 asks valid s (records 6 (s .len) xs)) ∷ (11 asks magnitude demand) ∷ []
+
+-- 01: 'only above least × 1.1'
+abbrev pub evictionMargin : Float
+evictionMargin = ofBits binary64 0x3ff199999999999a
+
+-- the entries that a set holds in lent words
+abbrev pub held : HotSet → List ℕ → List HotEntry
+held s xs = entries (s .len) xs
+
+-- `are_valid`: the first n records are within the words, and valid
+abbrev pub SaidValid : (xs : List ℕ) (n : ℕ) → Bool → Type 0
+SaidValid xs n r = r ≡ (fits (length xs) 6 n && validEntries (records 6 n xs))
+
+-- `HotSet::new`
+abbrev pub MadeNew : (xs : List ℕ) (cooldown size : ℕ) → NewAnswer → Type 0
+MadeNew xs cooldown size r =
+    newAnswer r ≡ answer (askNew size xs) (record { cooldown = cooldown; «max_size» = size; len = 0 })
+
+-- the entry of a key, or none
+abbrev pub slot : Slot → Option HotEntry
+slot Free = none
+slot (Entry e) = some e
+
+-- an answer with the number of entries afterwards
+abbrev pub counted : HotSet → Bool → ℕ → Updated
+counted s b n = record { «is_hot» = b; set = record { cooldown = s .cooldown; «max_size» = s .«max_size»; len = n } }
+
+-- what is answered where the entries become those of the outcome
+abbrev pub updated : HotSet → Outcome → Updated
+updated s o = counted s (o .hot) (length (o .left))
+
+-- the words after it: those of the new entries, then those from there on as they were
+abbrev pub rewritten : Outcome → List ℕ → List ℕ
+rewritten o xs = table (map words (o .left)) xs
+
+-- a call that passed its questions
+pub record Acted (s : HotSet) (o : Outcome) (xs : List ℕ) (r : Updated) (ys : List ℕ) : Type 0 where
+  pub says : r ≡ updated s o
+  pub left : ys ≡ rewritten o xs
+
+abbrev pub Evicts : (margin : Float) → HotSet → HotEntry → (xs : List ℕ) → Updated → List ℕ → Type 0
+Evicts margin s e xs r ys = Acted s (evict margin e (held s xs) (weakest (held s xs))) xs r ys
+
+abbrev pub Promotes : (margin : Float) → HotSet → (key : ℕ) (demand : Float) (primary : Bool) (now : ℕ) (xs : List ℕ) → Updated → List ℕ → Type 0
+Promotes margin s key demand primary now xs r ys =
+    Acted s (promote margin (s .«max_size») key demand primary now (held s xs)) xs r ys
+
+abbrev pub Cools : (margin : Float) → HotSet → (key : ℕ) (demand : Float) (now : ℕ) (elsewhere : Bool) (xs : List ℕ) → Updated → List ℕ → Type 0
+Cools margin s key demand now elsewhere xs r ys =
+    Acted s (belowThreshold margin (s .cooldown) (s .«max_size») key demand now elsewhere (held s xs)) xs r ys
+
+abbrev pub Updates : (margin : Float) → HotSet → (key : ℕ) (demand threshold : Float) (now : ℕ) (elsewhere : Bool) (xs : List ℕ) → Updated → List ℕ → Type 0
+Updates margin s key demand threshold now elsewhere xs r ys =
+    Acted s (updateWith margin s key demand threshold now elsewhere (held s xs)) xs r ys
+
+-- `HotSet::update_with`
+pub record UpdatedWith (s : HotSet) (xs : List ℕ) (key : ℕ) (demand threshold : Float) (now : ℕ) (elsewhere : Bool) (r : UpdateAnswer) (ys : List ℕ) : Type 0 where
+  pub answered : updateAnswer r ≡ answer (askUpdate s xs demand) (updated s (updateWith evictionMargin s key demand threshold now elsewhere (held s xs)))
+  pub left : ys ≡ changed (askUpdate s xs demand) xs (rewritten (updateWith evictionMargin s key demand threshold now elsewhere (held s xs)) xs)
+
+-- `HotSet::update`: no peer holds the key primary
+abbrev pub UpdatedAlone : (s : HotSet) (xs : List ℕ) (key : ℕ) (demand threshold : Float) (now : ℕ) → UpdateAnswer → List ℕ → Type 0
+UpdatedAlone s xs key demand threshold now r ys = UpdatedWith s xs key demand threshold now false r ys
+
+-- the readers: `is_hot`, `hot_since`, `is_primary`, `len`, `is_empty`
+abbrev pub SaidHot : HotSet → List ℕ → (key : ℕ) → TestAnswer → Type 0
+SaidHot s xs key r = testAnswer r ≡ answer (askSet s xs) (isHot key (held s xs))
+
+abbrev pub SaidSince : HotSet → List ℕ → (key : ℕ) → SinceAnswer → Type 0
+SaidSince s xs key r = sinceAnswer r ≡ answer (askSet s xs) (sinceOf (get key (held s xs)))
+
+abbrev pub SaidPrimary : HotSet → List ℕ → (key : ℕ) → TestAnswer → Type 0
+SaidPrimary s xs key r = testAnswer r ≡ answer (askSet s xs) (primaryOf (get key (held s xs)))
+
+abbrev pub SaidLen : HotSet → List ℕ → LenAnswer → Type 0
+SaidLen s xs r = lenAnswer r ≡ answer (askSet s xs) (s .len)
+
+abbrev pub SaidEmpty : HotSet → List ℕ → TestAnswer → Type 0
+SaidEmpty s xs r = testAnswer r ≡ answer (askSet s xs) (eqb (s .len) 0)

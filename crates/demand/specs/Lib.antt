@@ -1,0 +1,17 @@
+pub mod Weight
+pub mod Exponential
+pub mod Estimator
+pub mod EstimatorCalls
+pub mod Allocation
+pub mod HotSet
+pub mod HotSetCalls
+pub mod PeerLists
+pub mod PeerRecords
+pub mod PeerState
+pub mod PeerScan
+pub mod PeerHeard
+pub mod PeerChanges
+pub mod PeerSteps
+pub mod PeerReaders
+pub mod PeerCalls
+pub mod PeerRuns

@@ -1,0 +1,140 @@
+-- The promise of each call on the peers: 01's questions in their order, its answer, and what the value and the tables hold afterwards. Definitions only.
+use Prim.Native.Nat.{ℕ, _<_, _*_}
+use mathlib.Core.Path.{_≡_}
+use mathlib.Core.Bool.{Bool, _&&_, _||_}
+use mathlib.Core.List.{List, [], _∷_}
+use mathlib.Core.Option.{Option, none, some}
+use lib.Dec.{ltb, leb, eqb}
+use lib.Ieee.{Float}
+use lib.ListN.{length}
+use Rattle.float.specs.Magnitude.{magnitude}
+use Rattle.demand.specs.declared.peer_demand.KeyDemand.{KeyDemand}
+use Rattle.demand.specs.declared.peer_demand.DemandReport.{DemandReport}
+use Rattle.demand.specs.declared.peer_demand.Heard.{Heard}
+use Rattle.demand.specs.declared.peer_demand.PeerDemand.{PeerDemand}
+use Rattle.demand.specs.declared.peer_demand.RoundsAnswer.{RoundsAnswer}
+use Rattle.demand.specs.declared.peer_demand.RoundsAnswer.the-variants as rounds-answer
+use Rattle.demand.specs.declared.peer_demand.PeersAnswer.{PeersAnswer}
+use Rattle.demand.specs.declared.peer_demand.PeersAnswer.the-variants as peers-answer
+use Rattle.demand.specs.declared.peer_demand.ChangeAnswer.{ChangeAnswer}
+use Rattle.demand.specs.declared.peer_demand.ChangeAnswer.the-variants as change-answer
+use Rattle.demand.specs.declared.peer_demand.PeersChanged.{PeersChanged}
+use Rattle.demand.specs.declared.peer_demand.HeardAnswer.{HeardAnswer}
+use Rattle.demand.specs.declared.peer_demand.HeardAnswer.the-variants as heard-answer
+use Rattle.demand.specs.declared.peer_demand.TotalAnswer.{TotalAnswer}
+use Rattle.demand.specs.declared.peer_demand.TotalAnswer.the-variants as total-answer
+use Rattle.demand.specs.declared.peer_demand.FlagAnswer.{FlagAnswer}
+use Rattle.demand.specs.declared.peer_demand.FlagAnswer.the-variants as flag-answer
+use Rattle.demand.specs.declared.peer_demand.LenAnswer.{LenAnswer}
+use Rattle.demand.specs.declared.peer_demand.LenAnswer.the-variants as len-answer
+use Rattle.gcra.specs.Questions.{Question, _asks_, Answer, refused, given, firstNo, numbered}
+use Rattle.demand.specs.PeerLists.{all}
+use Rattle.demand.specs.PeerState.{PeersState, PeerTables, maxPeers, maxDemandKeys, isKnown, haveRoom, stateOf, isValid, Stores}
+use Rattle.demand.specs.PeerChanges as changes
+use Rattle.demand.specs.PeerReaders as readers
+
+-- ---- 01's number and values for each case of the answers
+
+abbrev pub roundsAnswer : RoundsAnswer → Answer ℕ
+roundsAnswer (rounds-answer.No n) = refused n
+roundsAnswer (rounds-answer.Is n) = given n
+
+abbrev pub peersAnswer : PeersAnswer → Answer PeerDemand
+peersAnswer (peers-answer.No n) = refused n
+peersAnswer (peers-answer.Is p) = given p
+
+abbrev pub changeAnswer : ChangeAnswer → Answer (Unit {0})
+changeAnswer (change-answer.No n) = refused n
+changeAnswer change-answer.Done = given tt
+
+abbrev pub heardAnswer : HeardAnswer → Answer (Option Heard)
+heardAnswer (heard-answer.No n) = refused n
+heardAnswer heard-answer.Nothing = given none
+heardAnswer (heard-answer.Is h) = given (some h)
+
+abbrev pub totalAnswer : TotalAnswer → Answer Float
+totalAnswer (total-answer.No n) = refused n
+totalAnswer (total-answer.Is x) = given x
+
+abbrev pub flagAnswer : FlagAnswer → Answer Bool
+flagAnswer (flag-answer.No n) = refused n
+flagAnswer (flag-answer.Is b) = given b
+
+abbrev pub lenAnswer : LenAnswer → Answer ℕ
+lenAnswer (len-answer.No n) = refused n
+lenAnswer (len-answer.Is n) = given n
+
+-- ---- questions
+
+-- is the cluster size 1 to 65,535?
+abbrev pub clusterQuestions : ℕ → List Question
+clusterQuestions n = (7 asks leb 1 n && leb n 65535) ∷ []
+
+-- are the lent tables long enough?
+abbrev pub newQuestions : PeerTables → List Question
+newQuestions t = (1 asks haveRoom t) ∷ []
+
+-- and could the lent state stand in a valid image?
+abbrev pub peersQuestions : PeerDemand → PeerTables → List Question
+peersQuestions p t = (1 asks haveRoom t) ∷ (2 asks isValid p t) ∷ []
+
+-- has the report at most 64 keys? is each demand finite with a clear sign bit? is the peer known, or are fewer than 32 known?
+abbrev pub reportQuestions : PeerDemand → PeerTables → ℕ → DemandReport → List Question
+reportQuestions p t id r =
+    (1 asks haveRoom t)
+    ∷ (2 asks isValid p t)
+    ∷ (10 asks leb (r .count) maxDemandKeys)
+    ∷ (11 asks all (λ (k : KeyDemand). magnitude (k .demand)) (changes.listed r))
+    ∷ (12 asks isKnown (stateOf p t .peers) id || ltb (length (stateOf p t .peers)) maxPeers)
+    ∷ []
+
+-- ---- calls that change the state
+
+-- all is as before
+pub record Unchanged (p p′ : PeerDemand) (t t′ : PeerTables) : Type 0 where
+  pub value : p′ ≡ p
+  pub peers : t′ .peers ≡ t .peers
+  pub snapshotKeys : t′ .snapshotKeys ≡ t .snapshotKeys
+  pub contested : t′ .contested ≡ t .contested
+
+-- the answer; a 'no' changes nothing; else the value and the tables hold the state changed
+pub record Changes (qs : List Question) (change : PeersState → PeersState) (p : PeerDemand) (t : PeerTables) (r : PeersChanged) (t′ : PeerTables) : Type 0 where
+  pub answered : changeAnswer (r .answer) ≡ numbered (firstNo qs) tt
+  pub kept : 0 < firstNo qs → Unchanged p (r .peers) t t′
+  pub stored : firstNo qs ≡ 0 → Stores (change (stateOf p t)) (r .peers) t t′
+
+abbrev pub Applies : PeerDemand → PeerTables → ℕ → DemandReport → ℕ → PeersChanged → PeerTables → Type 0
+Applies p t id report at r t′ =
+    Changes (reportQuestions p t id report) (changes.apply changes.implausibleJump id report at) p t r t′
+
+abbrev pub Forgets : PeerDemand → PeerTables → ℕ → PeersChanged → PeerTables → Type 0
+Forgets p t id r t′ = Changes (peersQuestions p t) (changes.forget id) p t r t′
+
+abbrev pub Leaves : PeerDemand → PeerTables → ℕ → ℕ → ℕ → PeersChanged → PeerTables → Type 0
+Leaves p t id at hold r t′ = Changes (peersQuestions p t) (changes.leave id at hold) p t r t′
+
+abbrev pub Expires : PeerDemand → PeerTables → ℕ → ℕ → PeersChanged → PeerTables → Type 0
+Expires p t at maxAge r t′ = Changes (peersQuestions p t) (changes.expire at maxAge) p t r t′
+
+-- ---- calls that read, which are lent what they cannot write
+
+abbrev pub IsNew : PeerTables → PeersAnswer → Type 0
+IsNew t r = peersAnswer r ≡ numbered (firstNo (newQuestions t)) (record { peers = 0; «snapshot_keys» = 0; contested = 0 })
+
+abbrev pub Gets : PeerDemand → PeerTables → ℕ → ℕ → HeardAnswer → Type 0
+Gets p t id key r = heardAnswer r ≡ numbered (firstNo (peersQuestions p t)) (readers.heard id key (stateOf p t))
+
+abbrev pub Totals : PeerDemand → PeerTables → ℕ → TotalAnswer → Type 0
+Totals p t key r = totalAnswer r ≡ numbered (firstNo (peersQuestions p t)) (readers.total key (stateOf p t))
+
+abbrev pub TellsHotElsewhere : PeerDemand → PeerTables → ℕ → FlagAnswer → Type 0
+TellsHotElsewhere p t key r = flagAnswer r ≡ numbered (firstNo (peersQuestions p t)) (readers.hotElsewhere key (stateOf p t))
+
+abbrev pub Counts : PeerDemand → PeerTables → LenAnswer → Type 0
+Counts p t r = lenAnswer r ≡ numbered (firstNo (peersQuestions p t)) (readers.len (stateOf p t))
+
+abbrev pub TellsEmpty : PeerDemand → PeerTables → FlagAnswer → Type 0
+TellsEmpty p t r = flagAnswer r ≡ numbered (firstNo (peersQuestions p t)) (eqb (readers.len (stateOf p t)) 0)
+
+abbrev pub StaleRounds : ℕ → RoundsAnswer → Type 0
+StaleRounds n r = roundsAnswer r ≡ numbered (firstNo (clusterQuestions n)) (changes.staleAfterRounds n)

@@ -1,0 +1,316 @@
+-- What reports, departures and time do to the peers' state (peer_demand.rs). Definitions only.
+use Prim.Native.Nat.{ℕ, zero, suc, _+_, _-_, _*_, _%_, _^_, min, max}
+use mathlib.Core.Bool.{Bool, true, false, cond, not, _&&_, _||_}
+use mathlib.Core.List.{List, [], _∷_, _++_, map}
+use mathlib.Core.Option.{Option, none, some}
+use lib.Dec.{ltb, leb, eqb}
+use lib.Ieee.{Float, binary32, ofBits, toBits, lt}
+use lib.ListN.{take, length}
+use Rattle.records.specs.Records.{same}
+use Rattle.demand.specs.declared.peer_demand.KeyDemand.{KeyDemand}
+use Rattle.demand.specs.declared.peer_demand.DemandReport.{DemandReport}
+use Rattle.demand.specs.PeerLists.{only, any, first, those, replaced}
+use Rattle.demand.specs.PeerRecords.{maxPastEpochs, Snapshot, PeerRecord, SnapshotKey, ContestedKey, snapshotKeyWords}
+use Rattle.demand.specs.PeerState.{PeersState, maxContested, peerWith, snapshotKeysOf, contestedKeysOf, isTaken, isHeld, isKnown, hasSnapshot}
+
+-- ---- rounds (01, 'Reports (002)')
+
+-- the round difference, modulo 65,536
+abbrev pub ahead : ℕ → ℕ → ℕ
+ahead a b = (a + (2 ^ 16 - b)) % 2 ^ 16
+
+-- newer means 1 to 32,767
+unfoldable pub newer : ℕ → ℕ → Bool
+newer a b = leb 1 (ahead a b) && leb (ahead a b) 32767
+
+-- a jump of rounds that no live peer makes
+unfoldable pub implausible : ℕ → ℕ → ℕ → Bool
+implausible jump a b = leb jump (ahead a b)
+
+-- `IMPLAUSIBLE_JUMP`
+abbrev pub implausibleJump : ℕ
+implausibleJump = 0x4000
+
+-- max(10, 3·N)
+abbrev pub staleAfterRounds : ℕ → ℕ
+staleAfterRounds n = max 10 (3 * n)
+
+-- ---- times and demands
+
+-- a time sum, held at 2^64 - 1
+abbrev pub later : ℕ → ℕ → ℕ
+later t d = min (t + d) (2 ^ 64 - 1)
+
+-- a > b, as floats; the patterns being those of demands, it is their order as numbers
+unfoldable pub exceeds : ℕ → ℕ → Bool
+exceeds a b = lt (ofBits binary32 b) (ofBits binary32 a)
+
+-- ---- the keys of a report
+
+-- what a report lists
+abbrev pub listed : DemandReport → List KeyDemand
+listed r = take (r .count) (r .keys)
+
+abbrev pub keyOf : ℕ → KeyDemand → SnapshotKey
+keyOf id k = record { peer = id; key = k .«key_hash»; demand = toBits binary32 (k .demand); primary = k .primary }
+
+-- the keys of a peer with k put in; one of the same key goes
+abbrev pub putKey : SnapshotKey → List SnapshotKey → List SnapshotKey
+putKey k ks = replaced (λ (x : SnapshotKey). x .key) (k .key) (k ∷ []) ks
+
+-- listed keys put in one after the other: a key listed twice counts as listed last
+unfoldable pub collected : ℕ → List KeyDemand → List SnapshotKey → List SnapshotKey
+collected id [] ks = ks
+collected id (d ∷ ds) ks = collected id ds (putKey (keyOf id d) ks)
+
+abbrev pub reportKeys : ℕ → DemandReport → List SnapshotKey
+reportKeys id r = collected id (listed r) []
+
+-- ---- contested keys (`Peer::contest`)
+
+-- a key heard in the given round at the given time, where none is contested
+abbrev pub fresh : ℕ → ℕ → SnapshotKey → ContestedKey
+fresh round at k = record { peer = k .peer; key = k .key; demand = k .demand; primary = k .primary; round = round; heardAt = at }
+
+-- and where one is: the higher demand with its round, primary if either is, the later time
+abbrev pub merged : ℕ → ℕ → SnapshotKey → ContestedKey → ContestedKey
+merged round at k c =
+    record {
+      peer = c .peer;
+      key = c .key;
+      demand = cond (exceeds (k .demand) (c .demand)) (k .demand) (c .demand);
+      primary = c .primary || k .primary;
+      round = cond (exceeds (k .demand) (c .demand)) round (c .round);
+      heardAt = max (c .heardAt) at;
+    }
+
+abbrev pub contestedWith : ℕ → ℕ → SnapshotKey → Option ContestedKey → ContestedKey
+contestedWith round at k none = fresh round at k
+contestedWith round at k (some c) = merged round at k c
+
+abbrev pub mergeKey : ℕ → ℕ → SnapshotKey → List ContestedKey → List ContestedKey
+mergeKey round at k cs =
+    replaced (λ (c : ContestedKey). c .key) (k .key)
+    (contestedWith round at k (first (those (λ (c : ContestedKey). c .key) (k .key) cs)) ∷ [])
+    cs
+
+-- all keys of a report, among the contested keys of its peer
+unfoldable pub mergeKeys : ℕ → ℕ → List SnapshotKey → List ContestedKey → List ContestedKey
+mergeKeys round at [] cs = cs
+mergeKeys round at (k ∷ ks) cs = mergeKeys round at ks (mergeKey round at k cs)
+
+-- heard longer ago; of two heard at once, the smaller key
+abbrev pub older : ContestedKey → ContestedKey → Bool
+older c d = ltb (c .heardAt) (d .heardAt) || (eqb (c .heardAt) (d .heardAt) && ltb (c .key) (d .key))
+
+-- the key of the oldest of c and cs
+unfoldable pub oldest : ContestedKey → List ContestedKey → ℕ
+oldest c [] = c .key
+oldest c (d ∷ ds) = oldest (cond (older d c) d c) ds
+
+abbrev pub withoutOldest : List ContestedKey → List ContestedKey
+withoutOldest [] = []
+withoutOldest (c ∷ cs) = replaced (λ (x : ContestedKey). x .key) (oldest c cs) [] (c ∷ cs)
+
+-- without the n oldest, taken one at a time
+unfoldable pub withoutOldests : ℕ → List ContestedKey → List ContestedKey
+withoutOldests zero cs = cs
+withoutOldests (suc n) cs = withoutOldests n (withoutOldest cs)
+
+abbrev pub trimmed : ℕ → List ContestedKey → List ContestedKey
+trimmed bound cs = withoutOldests (length cs - bound) cs
+
+-- merges the whole report, then trims
+unfoldable pub contest : ℕ → ℕ → List SnapshotKey → List ContestedKey → List ContestedKey
+contest round at ks cs = trimmed maxContested (mergeKeys round at ks cs)
+
+-- ---- a report (`PeerDemand::apply`)
+
+-- a report is taken with these past epochs, the keys that it replaces being contested or not; or it is contested; or it is a duplicate
+pub data Verdict : Type 0 where
+  takes : List ℕ → Bool → Verdict
+  contests : Verdict
+  duplicates : Verdict
+
+-- the same keys, demands and flags
+unfoldable pub sameKeys : List SnapshotKey → List SnapshotKey → Bool
+sameKeys [] [] = true
+sameKeys [] (y ∷ ys) = false
+sameKeys (x ∷ xs) [] = false
+sameKeys (x ∷ xs) (y ∷ ys) = same (snapshotKeyWords x) (snapshotKeyWords y) && sameKeys xs ys
+
+-- not of a past epoch, and of another epoch or a newer round
+abbrev pub isNews : DemandReport → Snapshot → List ℕ → Bool
+isNews r old past =
+    not (any (λ (e : ℕ). eqb e (r .epoch)) past) && (not (eqb (old .epoch) (r .epoch)) || newer (r .round) (old .round))
+
+-- the same epoch keeps its past and contests what it replaces after an implausible jump; a new one remembers the old and contests what it replaces
+abbrev pub taken : ℕ → DemandReport → Snapshot → List ℕ → Verdict
+taken jump r old past =
+    cond (eqb (old .epoch) (r .epoch))
+    (takes past (implausible jump (r .round) (old .round)))
+    (takes (old .epoch ∷ take (maxPastEpochs - 1) past) true)
+
+-- the same report again is no conflict
+abbrev pub notTaken : DemandReport → Snapshot → Bool → Verdict
+notTaken r old alike = cond (eqb (old .epoch) (r .epoch) && (eqb (old .round) (r .round) && alike)) duplicates contests
+
+-- `alike`: the report has the keys of the snapshot
+abbrev pub verdictOn : ℕ → DemandReport → Option Snapshot → List ℕ → Bool → Verdict
+verdictOn jump r none past alike = takes [] false
+verdictOn jump r (some old) past alike = cond (isNews r old past) (taken jump r old past) (notTaken r old alike)
+
+abbrev pub snapshotIn : Option PeerRecord → Option Snapshot
+snapshotIn none = none
+snapshotIn (some p) = p .snapshot
+
+abbrev pub pastIn : Option PeerRecord → List ℕ
+pastIn none = []
+pastIn (some p) = p .pastEpochs
+
+unfoldable pub verdict : ℕ → ℕ → DemandReport → PeersState → Verdict
+verdict jump id r s =
+    verdictOn jump r
+    (snapshotIn (peerWith id (s .peers)))
+    (pastIn (peerWith id (s .peers)))
+    (sameKeys (snapshotKeysOf id (s .snapshotKeys)) (reportKeys id r))
+
+-- a peer's record and its keys, changed
+abbrev pub withPeer : ℕ → List PeerRecord → List PeerRecord → List PeerRecord
+withPeer id new ps = replaced (λ (p : PeerRecord). p .id) id new ps
+
+abbrev pub withSnapshotKeys : ℕ → List SnapshotKey → List SnapshotKey → List SnapshotKey
+withSnapshotKeys id new ks = replaced (λ (k : SnapshotKey). k .peer) id new ks
+
+abbrev pub withContested : ℕ → List ContestedKey → List ContestedKey → List ContestedKey
+withContested id new cs = replaced (λ (c : ContestedKey). c .peer) id new cs
+
+-- the contested keys cs of a peer after a report replaced its snapshot, whose keys are ks and are contested or not
+abbrev pub keepReplaced : Bool → Option Snapshot → List SnapshotKey → List ContestedKey → List ContestedKey
+keepReplaced keep none ks cs = cs
+keepReplaced keep (some old) ks cs = cond keep (contest (old .round) (old .heardAt) ks cs) cs
+
+-- the peer with the report as its snapshot, and no hold
+abbrev pub takenPeer : ℕ → DemandReport → ℕ → List ℕ → PeerRecord
+takenPeer id r at past =
+    record {
+      id = id;
+      heldUntil = none;
+      snapshot = some (record { epoch = r .epoch; round = r .round; heardAt = at });
+      pastEpochs = past;
+    }
+
+unfoldable pub takeReport : ℕ → DemandReport → ℕ → List ℕ → Bool → PeersState → PeersState
+takeReport id r at past keep s =
+    record {
+      peers = withPeer id (takenPeer id r at past ∷ []) (s .peers);
+      snapshotKeys = withSnapshotKeys id (reportKeys id r) (s .snapshotKeys);
+      contested =
+          withContested id
+          (keepReplaced keep
+          (snapshotIn (peerWith id (s .peers)))
+          (snapshotKeysOf id (s .snapshotKeys))
+          (contestedKeysOf id (s .contested)))
+          (s .contested);
+    }
+
+unfoldable pub contestReport : ℕ → DemandReport → ℕ → PeersState → PeersState
+contestReport id r at s =
+    record {
+      peers = s .peers;
+      snapshotKeys = s .snapshotKeys;
+      contested =
+          withContested id (contest (r .round) at (reportKeys id r) (contestedKeysOf id (s .contested))) (s .contested);
+    }
+
+abbrev pub applyVerdict : ℕ → DemandReport → ℕ → Verdict → PeersState → PeersState
+applyVerdict id r at (takes past keep) s = takeReport id r at past keep s
+applyVerdict id r at contests s = contestReport id r at s
+applyVerdict id r at duplicates s = s
+
+-- a report whose origin is not the sender changes nothing
+unfoldable pub apply : ℕ → ℕ → DemandReport → ℕ → PeersState → PeersState
+apply jump id r at s = cond (eqb (r .origin) id) (applyVerdict id r at (verdict jump id r s) s) s
+
+-- ---- departures
+
+-- drops everything heard from a peer
+unfoldable pub forget : ℕ → PeersState → PeersState
+forget id s =
+    record {
+      peers = withPeer id [] (s .peers);
+      snapshotKeys = withSnapshotKeys id [] (s .snapshotKeys);
+      contested = withContested id [] (s .contested);
+    }
+
+abbrev pub hold : ℕ → PeerRecord → PeerRecord
+hold until p = record { id = p .id; heldUntil = some until; snapshot = p .snapshot; pastEpochs = p .pastEpochs }
+
+unfoldable pub holdPeer : ℕ → ℕ → PeersState → PeersState
+holdPeer id until s =
+    record {
+      peers = withPeer id (map (hold until) (those (λ (p : PeerRecord). p .id) id (s .peers))) (s .peers);
+      snapshotKeys = s .snapshotKeys;
+      contested = s .contested;
+    }
+
+-- with no time to hold it a peer is forgotten at once
+unfoldable pub leave : ℕ → ℕ → ℕ → PeersState → PeersState
+leave id at time s = cond (eqb time 0) (forget id s) (holdPeer id (later at time) s)
+
+-- ---- expiry: held peers whose hold has ended go, then what is too old of those that are not held
+
+abbrev pub holdEnded : ℕ → Option ℕ → Bool
+holdEnded at none = false
+holdEnded at (some until) = leb until at
+
+abbrev pub notEnded : ℕ → List PeerRecord → List PeerRecord
+notEnded at ps = only (λ (p : PeerRecord). not (holdEnded at (p .heldUntil))) ps
+
+unfoldable pub expireHolds : ℕ → PeersState → PeersState
+expireHolds at s =
+    record {
+      peers = notEnded at (s .peers);
+      snapshotKeys = only (λ (k : SnapshotKey). isKnown (notEnded at (s .peers)) (k .peer)) (s .snapshotKeys);
+      contested = only (λ (c : ContestedKey). isKnown (notEnded at (s .peers)) (c .peer)) (s .contested);
+    }
+
+-- last heard less than maxAge ago
+abbrev pub isFresh : ℕ → ℕ → ℕ → Bool
+isFresh at maxAge heardAt = ltb at (later heardAt maxAge)
+
+abbrev pub isFreshSnapshot : ℕ → ℕ → Option Snapshot → Bool
+isFreshSnapshot at maxAge none = false
+isFreshSnapshot at maxAge (some s) = isFresh at maxAge (s .heardAt)
+
+-- a stale snapshot goes with its past epochs
+abbrev pub agePeer : ℕ → ℕ → PeerRecord → PeerRecord
+agePeer at maxAge p =
+    cond (isHeld p || isFreshSnapshot at maxAge (p .snapshot)) p
+    (record { id = p .id; heldUntil = p .heldUntil; snapshot = none; pastEpochs = [] })
+
+unfoldable pub isHeldPeer : List PeerRecord → ℕ → Bool
+isHeldPeer ps id = any (λ (p : PeerRecord). eqb (p .id) id && isHeld p) ps
+
+-- the contested keys of held peers, and those heard lately
+abbrev pub freshContested : ℕ → ℕ → PeersState → List ContestedKey
+freshContested at maxAge s =
+    only (λ (c : ContestedKey). isHeldPeer (s .peers) (c .peer) || isFresh at maxAge (c .heardAt)) (s .contested)
+
+-- a peer that is not held goes if it has no snapshot and none of the contested keys cs
+abbrev pub isLeft : List ContestedKey → PeerRecord → Bool
+isLeft cs p = isHeld p || (isTaken p || any (λ (c : ContestedKey). eqb (c .peer) (p .id)) cs)
+
+abbrev pub freshPeers : ℕ → ℕ → PeersState → List PeerRecord
+freshPeers at maxAge s = only (isLeft (freshContested at maxAge s)) (map (agePeer at maxAge) (s .peers))
+
+unfoldable pub expireAge : ℕ → ℕ → PeersState → PeersState
+expireAge at maxAge s =
+    record {
+      peers = freshPeers at maxAge s;
+      snapshotKeys = only (λ (k : SnapshotKey). hasSnapshot (freshPeers at maxAge s) (k .peer)) (s .snapshotKeys);
+      contested = freshContested at maxAge s;
+    }
+
+unfoldable pub expire : ℕ → ℕ → PeersState → PeersState
+expire at maxAge s = expireAge at maxAge (expireHolds at s)

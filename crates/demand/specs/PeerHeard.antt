@@ -1,0 +1,42 @@
+-- What the private functions of the peers' readers cite. Definitions only.
+use Prim.Native.Nat.{ℕ}
+use mathlib.Core.Path.{_≡_}
+use mathlib.Core.Bool.{Bool, true, _&&_}
+use lib.Dec.{eqb}
+use mathlib.Core.List.{List}
+use mathlib.Core.Option.{Option, none, some}
+use lib.Ieee.{binary32, ofBits}
+use Rattle.records.specs.Records.{records, ascending}
+use Rattle.demand.specs.declared.peer_demand.Heard.{Heard}
+use Rattle.demand.specs.declared.peer_demand.PeerDemand.{PeerDemand}
+use Rattle.demand.specs.declared.peer_heard.Said.{Said}
+use Rattle.demand.specs.declared.peer_heard.Said.the-variants as said
+use Rattle.demand.specs.PeerLists.{all, any}
+use Rattle.demand.specs.PeerRecords.{SnapshotKey, flagOf}
+use Rattle.demand.specs.PeerState.{PeerTables}
+use Rattle.demand.specs.PeerScan.{arePeerWords, areKeyWords, PeersReady, KeysReady}
+
+-- what was heard, if anything
+abbrev pub saidOf : Said → Option Heard
+saidOf said.Silence = none
+saidOf (said.Of h) = some h
+
+-- of the words of a demand and a flag
+abbrev pub heardOf : ℕ → ℕ → ℕ → ℕ → Heard
+heardOf demand flag round at = record { demand = ofBits binary32 demand; primary = flagOf flag; round = round; «heard_at» = at }
+
+-- the snapshot keys have this one
+unfoldable pub isListed : ℕ → ℕ → List SnapshotKey → Bool
+isListed id key ks = any (λ (k : SnapshotKey). eqb (k .peer) id && eqb (k .key) key) ks
+
+-- what a lookup needs of a table of keys, and a reader of the three tables
+pub record KeyTable (w n : ℕ) (xs : List ℕ) : Type 0 where
+  pub ready : KeysReady w n xs
+  pub ascend : ascending 2 (records w n xs) ≡ true
+  pub pass : all (areKeyWords w) (records w n xs) ≡ true
+
+pub record StateReady (p : PeerDemand) (t : PeerTables) : Type 0 where
+  pub peers : PeersReady (p .peers) (t .peers)
+  pub pass : all arePeerWords (records 12 (p .peers) (t .peers)) ≡ true
+  pub snapshotKeys : KeyTable 4 (p .«snapshot_keys») (t .snapshotKeys)
+  pub contested : KeyTable 6 (p .contested) (t .contested)

@@ -1,0 +1,83 @@
+-- What the peers' state says of a key (peer_demand.rs: `heard`, `get`, `total`, `hot_elsewhere`, `len`). Definitions only.
+use Prim.Native.Nat.{ℕ, _+_}
+use mathlib.Core.Bool.{Bool, true, false, cond, not, _&&_, _||_}
+use mathlib.Core.List.{List, [], _∷_}
+use mathlib.Core.Option.{Option, none, some}
+use lib.Dec.{eqb}
+use lib.Ieee.{Float, binary32, binary64, ofBits, add, lt}
+use lib.ListN.{length}
+use Rattle.demand.specs.declared.peer_demand.Heard.{Heard}
+use Rattle.demand.specs.PeerLists.{only, any, first, those}
+use Rattle.demand.specs.PeerRecords.{Snapshot, PeerRecord, SnapshotKey, ContestedKey}
+use Rattle.demand.specs.PeerState.{PeersState, peerWith, snapshotKeysOf, contestedKeysOf}
+use Rattle.demand.specs.PeerChanges.{exceeds, snapshotIn}
+
+-- the snapshot's word on a key, and the contested one
+abbrev pub heardTaken : Option Snapshot → Option SnapshotKey → Option Heard
+heardTaken none k = none
+heardTaken (some s) none = none
+heardTaken (some s) (some k) =
+    some (record { demand = ofBits binary32 (k .demand); primary = k .primary; round = s .round; «heard_at» = s .heardAt })
+
+abbrev pub heardContested : Option ContestedKey → Option Heard
+heardContested none = none
+heardContested (some c) =
+    some (record { demand = ofBits binary32 (c .demand); primary = c .primary; round = c .round; «heard_at» = c .heardAt })
+
+-- the higher of the two, the snapshot's where they are equal; primary if either is
+abbrev pub higher : Heard → Heard → Heard
+higher taken contested = cond (lt (taken .demand) (contested .demand)) contested taken
+
+abbrev pub joined : Heard → Heard → Heard
+joined taken contested =
+    record {
+      demand = higher taken contested .demand;
+      primary = taken .primary || contested .primary;
+      round = higher taken contested .round;
+      «heard_at» = higher taken contested .«heard_at»;
+    }
+
+abbrev pub join : Option Heard → Option Heard → Option Heard
+join none contested = contested
+join (some taken) none = some taken
+join (some taken) (some contested) = some (joined taken contested)
+
+abbrev pub snapshotKeyAt : ℕ → ℕ → List SnapshotKey → Option SnapshotKey
+snapshotKeyAt id key ks = first (those (λ (k : SnapshotKey). k .key) key (snapshotKeysOf id ks))
+
+abbrev pub contestedAt : ℕ → ℕ → List ContestedKey → Option ContestedKey
+contestedAt id key cs = first (those (λ (c : ContestedKey). c .key) key (contestedKeysOf id cs))
+
+-- the most a peer said about a key
+unfoldable pub heard : ℕ → ℕ → PeersState → Option Heard
+heard id key s =
+    join (heardTaken (snapshotIn (peerWith id (s .peers))) (snapshotKeyAt id key (s .snapshotKeys)))
+    (heardContested (contestedAt id key (s .contested)))
+
+-- adds what was heard; an f32 is the f64 of its value
+abbrev pub addHeard : Float → Option Heard → Float
+addHeard sum none = sum
+addHeard sum (some h) = add binary64 sum (h .demand)
+
+unfoldable pub totalFrom : Float → ℕ → PeersState → List PeerRecord → Float
+totalFrom sum key s [] = sum
+totalFrom sum key s (p ∷ ps) = totalFrom (addHeard sum (heard (p .id) key s)) key s ps
+
+-- adds peers in ascending id from +0
+abbrev pub total : ℕ → PeersState → Float
+total key s = totalFrom (ofBits binary64 0) key s (s .peers)
+
+abbrev pub isPrimary : Option Heard → Bool
+isPrimary none = false
+isPrimary (some h) = h .primary
+
+unfoldable pub hotElsewhere : ℕ → PeersState → Bool
+hotElsewhere key s = any (λ (p : PeerRecord). isPrimary (heard (p .id) key s)) (s .peers)
+
+-- how many keys are known over all peers: those of the snapshots, and those that are contested alone
+unfoldable pub isInSnapshot : List SnapshotKey → ContestedKey → Bool
+isInSnapshot ks c = any (λ (k : SnapshotKey). eqb (k .peer) (c .peer) && eqb (k .key) (c .key)) ks
+
+unfoldable pub len : PeersState → ℕ
+len s =
+    length (s .snapshotKeys) + length (only (λ (c : ContestedKey). not (isInSnapshot (s .snapshotKeys) c)) (s .contested))

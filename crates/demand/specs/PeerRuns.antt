@@ -1,0 +1,150 @@
+-- The records that share a first word, in a table or by themselves, as the functions on a peer's keys take and leave them. Definitions only.
+use Prim.Native.Nat.{ℕ, _*_, _/_, _%_, _^_, _≤_, _<_}
+use mathlib.Core.Path.{_≡_}
+use mathlib.Core.Bool.{true, cond}
+use mathlib.Core.List.{List, [], _∷_, map}
+use mathlib.Core.Option.{Option, none, some}
+use lib.Dec.{eqb}
+use lib.ListN.{take, length, getD}
+use Rattle.records.specs.Records.{records, fits, ascending, table}
+use Rattle.demand.specs.declared.peer_demand.DemandReport.{DemandReport}
+use Rattle.demand.specs.declared.peer_demand.Verdict.{Verdict}
+use Rattle.demand.specs.declared.peer_demand.Verdict.the-variants as verdict
+use Rattle.demand.specs.PeerLists.{all, replaced}
+use Rattle.demand.specs.PeerRecords.{Snapshot, PeerRecord, SnapshotKey, ContestedKey, peerWords, snapshotKeyWords, contestedWords, peerOf, snapshotKeyOf, contestedOf}
+use Rattle.gcra.specs.Questions.{firstNo}
+use Rattle.demand.specs.PeerState.{PeerTables, stateOf, contestedKeysOf, peerWith, snapshotKeysOf, validPeer, validSnapshotKey, validContested}
+use Rattle.demand.specs.PeerCalls.{reportQuestions}
+use Rattle.demand.specs.declared.peer_demand.PeerDemand.{PeerDemand}
+use Rattle.demand.specs.PeerChanges as changes
+
+-- a word of a record
+abbrev pub word : ℕ → List ℕ → ℕ
+word i r = getD r i 0
+
+-- what the records in use stand for
+abbrev pub keysIn : ℕ → List ℕ → List SnapshotKey
+keysIn n xs = map snapshotKeyOf (records 4 n xs)
+
+abbrev pub contestedIn : ℕ → List ℕ → List ContestedKey
+contestedIn n xs = map contestedOf (records 6 n xs)
+
+abbrev pub peersIn : ℕ → List ℕ → List PeerRecord
+peersIn n xs = map peerOf (records 12 n xs)
+
+-- ---- records that share a first word
+
+-- the records of a table after those with the first word a were replaced by those in `new`
+abbrev pub replacedRun : ℕ → ℕ → ℕ → List ℕ → List ℕ → List (List ℕ)
+replacedRun w n a new xs = replaced (word 0) a (records w (length new / w) new) (records w n xs)
+
+-- they ascend by their first word, or by more of them, and there is room for the new ones
+pub record Replaceable (w n a : ℕ) (new xs : List ℕ) : Type 0 where
+  pub fit : fits (length xs) w n ≡ true
+  pub depth : ℕ
+  pub some-words : 1 ≤ depth
+  pub ascends : ascending depth (records w n xs) ≡ true
+  pub whole : length new % w ≡ 0
+  pub room : length (replacedRun w n a new xs) * w ≤ length xs
+
+-- the table holds rs, n of them, and is as before past them
+pub record Tabled (n : ℕ) (rs : List (List ℕ)) (xs ys : List ℕ) : Type 0 where
+  pub count : n ≡ length rs
+  pub words : ys ≡ table rs xs
+
+-- n records at the front are rs
+pub record Front (w n : ℕ) (rs : List (List ℕ)) (xs : List ℕ) : Type 0 where
+  pub count : n ≡ length rs
+  pub front : records w n xs ≡ rs
+
+-- records with one first word, which ascend by the second
+pub record Run (w id n : ℕ) (xs : List ℕ) : Type 0 where
+  pub fit : n * w ≤ length xs
+  pub shared : all (λ (r : List ℕ). eqb (word 0 r) id) (records w n xs) ≡ true
+  pub ascends : ascending 2 (records w n xs) ≡ true
+
+-- ---- contested keys of one peer
+
+pub record ContestedRun (id n : ℕ) (xs : List ℕ) : Type 0 where
+  pub run : Run 6 id n xs
+  pub exact : records 6 n xs ≡ map contestedWords (contestedIn n xs)
+  pub keys : all validContested (contestedIn n xs) ≡ true
+
+pub record KeyRun (id n : ℕ) (xs : List ℕ) : Type 0 where
+  pub run : Run 4 id n xs
+  pub exact : records 4 n xs ≡ map snapshotKeyWords (keysIn n xs)
+  pub keys : all validSnapshotKey (keysIn n xs) ≡ true
+
+-- the words of one valid key
+pub record OneKey (ws : List ℕ) : Type 0 where
+  pub four : length ws ≡ 4
+  pub exact : ws ≡ snapshotKeyWords (snapshotKeyOf ws)
+  pub valid : validSnapshotKey (snapshotKeyOf ws) ≡ true
+
+-- the contested keys of all peers once the keys of a report of the peer id were contested
+abbrev pub contestedAfter : ℕ → ℕ → List ℕ → ℕ → ℕ → List ℕ → List ContestedKey
+contestedAfter n id keys round at xs =
+    changes.withContested id
+    (changes.contest round at (keysIn (length keys / 4) keys) (contestedKeysOf id (contestedIn n xs)))
+    (contestedIn n xs)
+
+-- valid contested keys, and room for them after that
+pub record Contestable (n id : ℕ) (keys : List ℕ) (round at : ℕ) (xs : List ℕ) : Type 0 where
+  pub fit : n * 6 ≤ length xs
+  pub exact : records 6 n xs ≡ map contestedWords (contestedIn n xs)
+  pub valids : all validContested (contestedIn n xs) ≡ true
+  pub ascends : ascending 2 (records 6 n xs) ≡ true
+  pub few : length (contestedKeysOf id (contestedIn n xs)) ≤ 256
+  pub keyRun : KeyRun id (length keys / 4) keys
+  pub few-keys : length keys ≤ 256
+  pub rounds : round < 2 ^ 16
+  pub room : length (contestedAfter n id keys round at xs) * 6 ≤ length xs
+
+-- ---- a peer
+
+-- a peer that is not known is one that said nothing (`or_default`)
+abbrev pub orNew : ℕ → Option PeerRecord → PeerRecord
+orNew id none = record { id = id; heldUntil = none; snapshot = none; pastEpochs = [] }
+orNew id (some p) = p
+
+-- the past epochs once a report is taken
+abbrev pub nextPast : DemandReport → Option Snapshot → List ℕ → List ℕ
+nextPast r none past = []
+nextPast r (some old) past = cond (eqb (old .epoch) (r .epoch)) past (old .epoch ∷ take 3 past)
+
+-- the verdict with its past epochs
+abbrev pub verdictWith : List ℕ → Verdict → changes.Verdict
+verdictWith past (verdict.Takes keep) = changes.takes past keep
+verdictWith past verdict.Contests = changes.contests
+verdictWith past verdict.Duplicates = changes.duplicates
+
+-- ---- a report that passed its questions
+
+pub record Passed (p : PeerDemand) (t : PeerTables) (id : ℕ) (r : DemandReport) : Type 0 where
+  pub questions : firstNo (reportQuestions p t id r) ≡ 0
+
+-- the keys of the report
+pub record Reported (id : ℕ) (r : DemandReport) (keys : List ℕ) : Type 0 where
+  pub run : KeyRun id (length keys / 4) keys
+  pub few : length keys ≤ 256
+  pub whole : length keys % 4 ≡ 0
+  pub are : keysIn (length keys / 4) keys ≡ changes.reportKeys id r
+
+-- the keys of the report, those of the peer's snapshot, and the words of the peer
+pub record Read (p : PeerDemand) (t : PeerTables) (id : ℕ) (r : DemandReport) (keys held old : List ℕ) : Type 0 where
+  pub reported : Reported id r keys
+  pub snapshot : KeyRun id (length held / 4) held
+  pub few : length held ≤ 256
+  pub are : keysIn (length held / 4) held ≡ snapshotKeysOf id (stateOf p t .snapshotKeys)
+  pub peer : old ≡ peerWords (orNew id (peerWith id (stateOf p t .peers)))
+
+-- the past epochs of a peer, by its words, once the report is taken
+abbrev pub pastAfter : DemandReport → List ℕ → List ℕ
+pastAfter r old = nextPast r (peerOf old .snapshot) (peerOf old .pastEpochs)
+
+-- valid peers at the front of their table
+pub record Known (n : ℕ) (xs : List ℕ) : Type 0 where
+  pub fit : n * 12 ≤ length xs
+  pub exact : records 12 n xs ≡ map peerWords (peersIn n xs)
+  pub valids : all validPeer (peersIn n xs) ≡ true
+  pub ascends : ascending 1 (records 12 n xs) ≡ true

@@ -1,0 +1,169 @@
+-- The peers' state, when it is valid (01, 'The saved image'), and the tables that hold it. Definitions only.
+use Prim.Native.Nat.{ℕ, _+_, _*_, _^_}
+use mathlib.Core.Path.{_≡_}
+use mathlib.Core.Bool.{Bool, true, _&&_, _||_}
+use mathlib.Core.List.{List, map}
+use mathlib.Core.Option.{Option, none, some}
+use lib.Dec.{ltb, leb, eqb}
+use lib.ListN.{drop, length}
+use Rattle.records.specs.Records.{records, ascending, same}
+use Rattle.demand.specs.declared.peer_demand.PeerDemand.{PeerDemand}
+use Rattle.demand.specs.PeerLists.{all, any, first, present, those}
+use Rattle.demand.specs.PeerRecords.{maxPastEpochs, Snapshot, PeerRecord, SnapshotKey, ContestedKey, peerWords, snapshotKeyWords, contestedWords, peerOf, snapshotKeyOf, contestedOf}
+
+-- the peers by id; the keys of their snapshots, and their contested keys, by peer and then key
+pub record PeersState : Type 0 where
+  pub peers : List PeerRecord
+  pub snapshotKeys : List SnapshotKey
+  pub contested : List ContestedKey
+
+-- 32 peers at most, each with at most 64 snapshot keys (`MAX_DEMAND_KEYS`) and 256 contested ones (`MAX_CONTESTED`)
+abbrev pub maxPeers : ℕ
+maxPeers = 32
+
+abbrev pub maxDemandKeys : ℕ
+maxDemandKeys = 64
+
+abbrev pub maxContested : ℕ
+maxContested = 256
+
+-- ---- a peer and its keys
+
+abbrev pub peerWith : ℕ → List PeerRecord → Option PeerRecord
+peerWith id ps = first (those (λ (p : PeerRecord). p .id) id ps)
+
+abbrev pub snapshotKeysOf : ℕ → List SnapshotKey → List SnapshotKey
+snapshotKeysOf id ks = those (λ (k : SnapshotKey). k .peer) id ks
+
+abbrev pub contestedKeysOf : ℕ → List ContestedKey → List ContestedKey
+contestedKeysOf id cs = those (λ (c : ContestedKey). c .peer) id cs
+
+abbrev pub isTaken : PeerRecord → Bool
+isTaken p = present (p .snapshot)
+
+abbrev pub isHeld : PeerRecord → Bool
+isHeld p = present (p .heldUntil)
+
+-- is the peer known, and has it a snapshot?
+unfoldable pub isKnown : List PeerRecord → ℕ → Bool
+isKnown ps id = any (λ (p : PeerRecord). eqb (p .id) id) ps
+
+unfoldable pub hasSnapshot : List PeerRecord → ℕ → Bool
+hasSnapshot ps id = any (λ (p : PeerRecord). eqb (p .id) id && isTaken p) ps
+
+-- ---- validity
+
+-- a word has 64 bits
+abbrev pub isWord : ℕ → Bool
+isWord w = ltb w (2 ^ 64)
+
+-- an f32 that is finite with a clear sign bit: IEEE 754's exponent field is not all ones
+abbrev pub isDemand : ℕ → Bool
+isDemand w = ltb w 0x7f800000
+
+-- values fit their Rust widths
+abbrev pub validSnapshot : Option Snapshot → Bool
+validSnapshot none = true
+validSnapshot (some s) = ltb (s .epoch) (2 ^ 32) && ltb (s .round) (2 ^ 16)
+
+abbrev pub validPast : List ℕ → Bool
+validPast es = leb (length es) maxPastEpochs && all (λ (e : ℕ). ltb e (2 ^ 32)) es
+
+-- a peer without a snapshot has no past epochs
+abbrev pub pastHasSnapshot : PeerRecord → Bool
+pastHasSnapshot p = isTaken p || eqb (length (p .pastEpochs)) 0
+
+unfoldable pub validPeer : PeerRecord → Bool
+validPeer p =
+    all isWord (peerWords p) && (validSnapshot (p .snapshot) && (validPast (p .pastEpochs) && pastHasSnapshot p))
+
+unfoldable pub validSnapshotKey : SnapshotKey → Bool
+validSnapshotKey k = all isWord (snapshotKeyWords k) && isDemand (k .demand)
+
+unfoldable pub validContested : ContestedKey → Bool
+validContested c = all isWord (contestedWords c) && (isDemand (c .demand) && ltb (c .round) (2 ^ 16))
+
+-- each kind ascends, each value fits, each snapshot key's peer has a snapshot, each contested key's peer a record, and counts keep their bounds
+unfoldable pub validPeers : List PeerRecord → Bool
+validPeers ps = leb (length ps) maxPeers && (all validPeer ps && ascending 1 (map peerWords ps))
+
+unfoldable pub validSnapshotKeys : List PeerRecord → List SnapshotKey → Bool
+validSnapshotKeys ps ks =
+    leb (length ks) (maxPeers * maxDemandKeys)
+    && (all validSnapshotKey ks
+    && (ascending 2 (map snapshotKeyWords ks)
+    && (all (λ (k : SnapshotKey). hasSnapshot ps (k .peer)) ks
+    && all (λ (p : PeerRecord). leb (length (snapshotKeysOf (p .id) ks)) maxDemandKeys) ps)))
+
+unfoldable pub validContesteds : List PeerRecord → List ContestedKey → Bool
+validContesteds ps cs =
+    leb (length cs) (maxPeers * maxContested)
+    && (all validContested cs
+    && (ascending 2 (map contestedWords cs)
+    && (all (λ (c : ContestedKey). isKnown ps (c .peer)) cs
+    && all (λ (p : PeerRecord). leb (length (contestedKeysOf (p .id) cs)) maxContested) ps)))
+
+unfoldable pub valid : PeersState → Bool
+valid s = validPeers (s .peers) && (validSnapshotKeys (s .peers) (s .snapshotKeys) && validContesteds (s .peers) (s .contested))
+
+-- ---- tables
+
+-- the words of the three lent tables
+pub record PeerTables : Type 0 where
+  pub peers : List ℕ
+  pub snapshotKeys : List ℕ
+  pub contested : List ℕ
+
+abbrev pub tables : List ℕ → List ℕ → List ℕ → PeerTables
+tables peers snapshotKeys contested = record { peers = peers; snapshotKeys = snapshotKeys; contested = contested }
+
+-- question 1's formula: words of a record times the most records, and 64 spare contested records while a report is merged
+abbrev pub peersSize : ℕ
+peersSize = 12 * maxPeers
+
+abbrev pub snapshotKeysSize : ℕ
+snapshotKeysSize = 4 * (maxPeers * maxDemandKeys)
+
+abbrev pub contestedSize : ℕ
+contestedSize = 6 * (maxPeers * maxContested + maxDemandKeys)
+
+unfoldable pub haveRoom : PeerTables → Bool
+haveRoom t =
+    leb peersSize (length (t .peers))
+    && (leb snapshotKeysSize (length (t .snapshotKeys)) && leb contestedSize (length (t .contested)))
+
+-- the state that the records in use stand for
+unfoldable pub stateOf : PeerDemand → PeerTables → PeersState
+stateOf p t =
+    record {
+      peers = map peerOf (records 12 (p .peers) (t .peers));
+      snapshotKeys = map snapshotKeyOf (records 4 (p .«snapshot_keys») (t .snapshotKeys));
+      contested = map contestedOf (records 6 (p .contested) (t .contested));
+    }
+
+-- every record's words are those of the record that it stands for: flags are 0 or 1, and absent parts are 0
+abbrev pub exact : {A : Type 0} → (A → List ℕ) → (List ℕ → A) → List (List ℕ) → Bool
+exact words of rs = all (λ (r : List ℕ). same (words (of r)) r) rs
+
+unfoldable pub areExact : PeerDemand → PeerTables → Bool
+areExact p t =
+    exact peerWords peerOf (records 12 (p .peers) (t .peers))
+    && (exact snapshotKeyWords snapshotKeyOf (records 4 (p .«snapshot_keys») (t .snapshotKeys))
+    && exact contestedWords contestedOf (records 6 (p .contested) (t .contested)))
+
+-- question 2: could the lent state stand in a valid image?
+unfoldable pub isValid : PeerDemand → PeerTables → Bool
+isValid p t = areExact p t && valid (stateOf p t)
+
+-- n records, exactly `rs`, at the front of a table that held xs and holds ys; as before from the formula's size on
+pub record Holds (w size n : ℕ) (rs : List (List ℕ)) (xs ys : List ℕ) : Type 0 where
+  pub count : n ≡ length rs
+  pub front : records w n ys ≡ rs
+  pub rest : drop size ys ≡ drop size xs
+  pub as-long : length ys ≡ length xs
+
+-- the value p and the tables t′ hold the state s, in tables that were t
+pub record Stores (s : PeersState) (p : PeerDemand) (t t′ : PeerTables) : Type 0 where
+  pub peers : Holds 12 peersSize (p .peers) (map peerWords (s .peers)) (t .peers) (t′ .peers)
+  pub snapshotKeys : Holds 4 snapshotKeysSize (p .«snapshot_keys») (map snapshotKeyWords (s .snapshotKeys)) (t .snapshotKeys) (t′ .snapshotKeys)
+  pub contested : Holds 6 contestedSize (p .contested) (map contestedWords (s .contested)) (t .contested) (t′ .contested)

@@ -1,0 +1,213 @@
+// A key's demand: an exponentially weighted moving average of attempts per second. It counts
+// attempts, allowed or not. The weight of a tick depends on the time since the one before it.
+
+ghost use mathlib.Core.Path.{_≡_};
+ghost use Rattle.demand.specs.Estimator as Estimator;
+ghost use Rattle.demand.specs.EstimatorCalls as Calls;
+
+// Both times, or neither: `last_tick` is the last tick and `since` is when measuring began.
+pub enum Times {
+    Unset,
+    At { last_tick: u64, since: u64 },
+}
+
+// One key's demand, in attempts per second.
+pub struct Demand {
+    pub current_rate: f64,
+    pub attempts_since_tick: u64,
+    pub times: Times,
+    pub time_constant: u64,
+}
+
+// Answers: the number of the question that was answered 'no', or the value.
+pub enum DemandAnswer {
+    No(u8),
+    Is(Demand),
+}
+
+pub enum PendingAnswer {
+    No(u8),
+    Is(bool),
+}
+
+pub enum RateAnswer {
+    No(u8),
+    Is(f64),
+}
+
+// The part of the average that a tick after the time `elapsed` gives to what is new: exactly
+// (2^52 - weight) / 2^52.
+pub fn alpha(elapsed: u64, time_constant: u64) -> f64
+    ensures { λ r. ⌜ r ≡ Estimator.alpha elapsed «time_constant» ⌝ }
+{
+    let parts = 0x10_0000_0000_0000 - crate::decay::decay_weight(elapsed, time_constant);
+    float::u64_to_f64(parts) / 4503599627370496.0
+}
+
+// The average after a tick.
+fn folded(rate: f64, attempts: u64, elapsed: u64, time_constant: u64) -> f64
+    ensures { λ r. ⌜ r ≡ Estimator.folded rate attempts elapsed «time_constant» ⌝ }
+{
+    let elapsed_secs = float::u64_to_f64(elapsed) / 1_000_000_000.0;
+    let instantaneous_rate = float::u64_to_f64(attempts) / elapsed_secs;
+    let alpha = alpha(elapsed, time_constant);
+    alpha * instantaneous_rate + (1.0 - alpha) * rate
+}
+
+impl Demand {
+    // No attempts yet; `time_constant` is how fast the average follows a change.
+    pub fn new(time_constant: u64) -> Self
+        ensures { λ r. ⌜ r ≡ Estimator.new «time_constant» ⌝ }
+    {
+        Self {
+            current_rate: 0.0,
+            attempts_since_tick: 0,
+            times: Times::Unset,
+            time_constant,
+        }
+    }
+
+    // Starts measuring at `now`, so that the first tick has a time to measure over.
+    pub fn starting_at(time_constant: u64, now: u64) -> Self
+        ensures { λ r. ⌜ r ≡ Estimator.startingAt «time_constant» now ⌝ }
+    {
+        Self {
+            current_rate: 0.0,
+            attempts_since_tick: 0,
+            times: Times::At {
+                last_tick: now,
+                since: now,
+            },
+            time_constant,
+        }
+    }
+
+    // Whether the estimator could stand in a valid image.
+    fn is_valid(self) -> bool
+        ensures { λ r. ⌜ r ≡ Estimator.valid self ⌝ }
+    {
+        float::is_magnitude(self.current_rate)
+    }
+
+    // Counts a request, allowed or not.
+    pub fn record_attempt(self) -> DemandAnswer
+        ensures { λ r. ⌜ Calls.demandAnswer r ≡ Calls.recordAttempts self 1 ⌝ }
+    {
+        self.record_attempts(1)
+    }
+
+    // Counts `n` requests at once.
+    pub fn record_attempts(self, n: u64) -> DemandAnswer
+        ensures { λ r. ⌜ Calls.demandAnswer r ≡ Calls.recordAttempts self n ⌝ }
+    {
+        if !self.is_valid() {
+            return DemandAnswer::No(2);
+        }
+        if n > u64::MAX - self.attempts_since_tick {
+            return DemandAnswer::No(9);
+        }
+        let times = self.times;
+        DemandAnswer::Is(Self {
+            current_rate: self.current_rate,
+            attempts_since_tick: self.attempts_since_tick + n,
+            times,
+            time_constant: self.time_constant,
+        })
+    }
+
+    // Folds the attempts since the last tick into the average.
+    pub fn tick(self, now: u64) -> DemandAnswer
+        ensures { λ r. ⌜ Calls.demandAnswer r ≡ Calls.tick self now ⌝ }
+    {
+        if !self.is_valid() {
+            return DemandAnswer::No(2);
+        }
+        DemandAnswer::Is(self.ticked(now))
+    }
+
+    fn ticked(self, now: u64) -> Self
+        ensures { λ r. ⌜ r ≡ Estimator.ticked self now ⌝ }
+    {
+        let times = self.times;
+        match times {
+            Times::Unset => Self {
+                current_rate: self.current_rate,
+                attempts_since_tick: self.attempts_since_tick,
+                times: Times::At {
+                    last_tick: now,
+                    since: now,
+                },
+                time_constant: self.time_constant,
+            },
+            Times::At { last_tick, since } => {
+                if now <= last_tick {
+                    return self;
+                }
+                Self {
+                    current_rate: folded(
+                        self.current_rate,
+                        self.attempts_since_tick,
+                        now - last_tick,
+                        self.time_constant,
+                    ),
+                    attempts_since_tick: 0,
+                    times: Times::At {
+                        last_tick: now,
+                        since,
+                    },
+                    time_constant: self.time_constant,
+                }
+            }
+        }
+    }
+
+    // Whether attempts wait for a tick.
+    pub fn has_pending(self) -> PendingAnswer
+        ensures { λ r. ⌜ Calls.pendingAnswer r ≡ Calls.hasPending self ⌝ }
+    {
+        if !self.is_valid() {
+            return PendingAnswer::No(2);
+        }
+        PendingAnswer::Is(0 < self.attempts_since_tick)
+    }
+
+    // The average as of the last tick.
+    pub fn rate(self) -> RateAnswer
+        ensures { λ r. ⌜ Calls.rateAnswer r ≡ Calls.rate self ⌝ }
+    {
+        if !self.is_valid() {
+            return RateAnswer::No(2);
+        }
+        RateAnswer::Is(self.current_rate)
+    }
+
+    // The average without the zero that it started from: `rate` divided by the weight that the
+    // measured time has in it.
+    pub fn unbiased_rate(self) -> RateAnswer
+        ensures { λ r. ⌜ Calls.rateAnswer r ≡ Calls.unbiasedRate self ⌝ }
+    {
+        if !self.is_valid() {
+            return RateAnswer::No(2);
+        }
+        RateAnswer::Is(self.unbiased())
+    }
+
+    fn unbiased(self) -> f64
+        ensures { λ r. ⌜ r ≡ Estimator.unbiased self ⌝ }
+    {
+        let times = self.times;
+        match times {
+            Times::Unset => 0.0,
+            Times::At { last_tick, since } => {
+                if last_tick <= since {
+                    return 0.0;
+                }
+                let weight = alpha(last_tick - since, self.time_constant);
+                if weight == 0.0 {
+                    return 0.0;
+                }
+                self.current_rate / weight
+            }
+        }
+    }
+}

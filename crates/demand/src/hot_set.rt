@@ -1,0 +1,658 @@
+// The keys that need coordination. A key is hot while its demand is above a threshold, and for a
+// cooldown after that; or, as secondary, while a peer holds it primary. When the set is full a
+// newcomer evicts the weakest key, but only if it beats it by the eviction margin.
+ghost use mathlib.Core.Path.{_≡_};
+ghost use mathlib.Core.Bool.{true};
+ghost use mathlib.Core.Option.{none, some};
+ghost use mathlib.Core.List.{map};
+ghost use Prim.Native.Nat.{_+_, _-_, _*_, _≤_, _<_};
+ghost use lib.Dec.{leb, eqb};
+ghost use lib.ListN.{length, drop};
+ghost use Rattle.records.specs.Records.{records, table, fits};
+ghost use Rattle.gcra.specs.Questions.{passes};
+ghost use Rattle.demand.specs.HotSet as Set;
+ghost use Rattle.demand.specs.HotSetCalls as Calls;
+ghost use Rattle.gcra.specs.Questions.{firstNo};
+
+// A newcomer's demand must be above that of the weakest key, times this.
+const EVICTION_MARGIN: f64 = 1.1;
+
+// The most keys that a hot set may hold.
+const MAX_SIZE: usize = 64;
+
+// The words of an entry: key, demand, primary, whether it is cooling, since when, and hot since
+// when.
+const WORDS: usize = 6;
+
+// Since when a primary key has been below the threshold, if it is.
+pub enum Cooling {
+    Unset,
+    Since(u64),
+}
+
+// One hot key.
+pub struct HotEntry {
+    pub key: u64,
+    pub demand: f64,
+    pub primary: bool,
+    pub cooling_since: Cooling,
+    pub since: u64,
+}
+
+// The hot keys of one node: at most `max_size`, `len` of them in the lent words, each kept for
+// `cooldown` once it cools.
+pub struct HotSet {
+    pub cooldown: u64,
+    pub max_size: usize,
+    pub len: usize,
+}
+
+// Whether the key is hot afterwards, and the set then.
+pub struct Updated {
+    pub is_hot: bool,
+    pub set: HotSet,
+}
+
+// Answers: the number of the question that was answered 'no', or the value.
+pub enum NewAnswer {
+    No(u8),
+    Is(HotSet),
+}
+
+pub enum UpdateAnswer {
+    No(u8),
+    Is(Updated),
+}
+
+pub enum TestAnswer {
+    No(u8),
+    Is(bool),
+}
+
+pub enum SinceAnswer {
+    No(u8),
+    NotHot,
+    Since(u64),
+}
+
+pub enum LenAnswer {
+    No(u8),
+    Is(usize),
+}
+
+// The entry of a key, or that there is none.
+enum Slot {
+    Free,
+    Entry(HotEntry),
+}
+
+// A flag as a word.
+fn flag(b: bool) -> u64
+    ensures { λ r. ⌜ r ≡ Set.flag b ⌝ }
+{
+    if b { 1 } else { 0 }
+}
+
+// Whether `span` has passed since `then`.
+fn has_passed(span: u64, then: u64, now: u64) -> bool
+    ensures { λ r. ⌜ r ≡ leb span (now - «then») ⌝ }
+{
+    if now < then {
+        return span == 0;
+    }
+    span <= now - then
+}
+
+impl Cooling {
+    // The two words of a time that may be missing, and back.
+    fn flag(self) -> u64
+        ensures { λ r. ⌜ r ≡ Set.coolingFlag self ⌝ }
+    {
+        match self {
+            Cooling::Unset => 0,
+            Cooling::Since(_) => 1,
+        }
+    }
+
+    fn time(self) -> u64
+        ensures { λ r. ⌜ r ≡ Set.coolingTime self ⌝ }
+    {
+        match self {
+            Cooling::Unset => 0,
+            Cooling::Since(t) => t,
+        }
+    }
+
+    fn of_words(flag: u64, time: u64) -> Self
+        ensures { λ r. ⌜ r ≡ Set.cooling (eqb flag 1) time ⌝ }
+    {
+        if flag == 1 {
+            return Cooling::Since(time);
+        }
+        Cooling::Unset
+    }
+}
+
+impl HotEntry {
+    // A key that becomes hot at `now`.
+    fn new(key: u64, demand: f64, primary: bool, now: u64) -> Self
+        ensures { λ r. ⌜ r ≡ Set.newEntry key demand primary now ⌝ }
+    {
+        HotEntry {
+            key,
+            demand,
+            primary,
+            cooling_since: Cooling::Unset,
+            since: now,
+        }
+    }
+
+    // The words of its record.
+    fn words(self) -> [u64; 6]
+        ensures { λ r. ⌜ r ≡ Set.words self ⌝ }
+    {
+        let cooling = self.cooling_since;
+        let demand = float::to_bits(self.demand);
+        let primary = flag(self.primary);
+        let is_cooling = cooling.flag();
+        let cooling_since = cooling.time();
+        [
+            self.key,
+            demand,
+            primary,
+            is_cooling,
+            cooling_since,
+            self.since,
+        ]
+    }
+
+    // The entry whose words begin at `at`.
+    fn of_words(hot: &[u64], at: usize) -> Self
+        requires { ⌜ at + 6 ≤ length (now hot) ⌝ }
+        ensures { λ r. ⌜ r ≡ Set.entry (drop at (now (hot .entry))) ⌝ }
+    {
+        let demand = float::from_bits(hot[at + 1]);
+        let cooling_since = Cooling::of_words(hot[at + 3], hot[at + 4]);
+        HotEntry {
+            key: hot[at],
+            demand,
+            primary: hot[at + 2] == 1,
+            cooling_since,
+            since: hot[at + 5],
+        }
+    }
+
+    // With new demand, and not cooling.
+    fn renewed(self, demand: f64, primary: bool) -> Self
+        ensures { λ r. ⌜ r ≡ Set.renewed demand primary self ⌝ }
+    {
+        HotEntry {
+            key: self.key,
+            demand,
+            primary,
+            cooling_since: Cooling::Unset,
+            since: self.since,
+        }
+    }
+
+    // With new demand that is not above the threshold. A primary key counts down its cooldown and
+    // then stops being primary.
+    fn cool(self, demand: f64, now: u64, cooldown: u64) -> Self
+        ensures { λ r. ⌜ r ≡ Set.cooled cooldown demand now self ⌝ }
+    {
+        let cooling = self.cooling_since;
+        if !self.primary {
+            return HotEntry {
+                key: self.key,
+                demand,
+                primary: false,
+                cooling_since: cooling,
+                since: self.since,
+            };
+        }
+        let mut left = Cooling::Since(now);
+        if let Cooling::Since(t) = cooling {
+            if has_passed(cooldown, t, now) {
+                return self.renewed(demand, false);
+            }
+            left = cooling;
+        }
+        HotEntry {
+            key: self.key,
+            demand,
+            primary: true,
+            cooling_since: left,
+            since: self.since,
+        }
+    }
+}
+
+// ---- questions
+
+// Whether the size is one that a hot set may have.
+fn is_valid_size(max_size: usize) -> bool
+    ensures { λ r. ⌜ r ≡ Set.validSize «max_size» ⌝ }
+{
+    if max_size < 1 {
+        return false;
+    }
+    max_size <= MAX_SIZE
+}
+
+// Whether `len` words are enough for a set of that size; a size above 64 counts as 64.
+fn has_room(max_size: usize, len: usize) -> bool
+    ensures { λ r. ⌜ r ≡ leb (Calls.room «max_size») len ⌝ }
+{
+    if max_size > MAX_SIZE {
+        return WORDS * MAX_SIZE <= len;
+    }
+    WORDS * max_size <= len
+}
+
+// ---- the entries in lent words: the map of keys
+
+// Whether the words at `at`, but for the key, could be those of an entry in a valid image.
+fn is_entry(hot: &[u64], at: usize) -> bool
+    requires { ⌜ at + 6 ≤ length (now hot) ⌝ }
+    ensures { λ r. ⌜ r ≡ Set.isEntry (drop at (now (hot .entry))) ⌝ }
+{
+    if !float::is_magnitude_bits(hot[at + 1]) {
+        return false;
+    }
+    if hot[at + 2] > 1 {
+        return false;
+    }
+    if hot[at + 3] > 1 {
+        return false;
+    }
+    if hot[at + 3] == 1 {
+        return true;
+    }
+    hot[at + 4] == 0
+}
+
+// Whether the key at `at` is above the one before it, if there is one.
+fn follows(hot: &[u64], at: usize) -> bool
+    requires { ⌜ at < length (now hot) ⌝ }
+    ensures { λ r. ⌜ r ≡ Set.follows at (now (hot .entry)) ⌝ }
+{
+    if at < WORDS {
+        return true;
+    }
+    hot[at - WORDS] < hot[at]
+}
+
+// Whether the first n records are within the words, and could stand in a valid image.
+pub fn are_valid(hot: &[u64], n: usize) -> bool
+    ensures { λ r. ⌜ Calls.SaidValid (now (hot .entry)) n r ⌝ }
+{
+    if !records::fits(hot.len(), WORDS, n) {
+        return false;
+    }
+    let mut i = 0;
+    while i < n {
+        let at = i * WORDS;
+        if !follows(hot, at) {
+            return false;
+        }
+        if !is_entry(hot, at) {
+            return false;
+        }
+        i += 1;
+    }
+    true
+}
+
+// The entry of a key.
+fn get(hot: &[u64], n: usize, key: u64) -> Slot
+    requires { ⌜ Set.Held n (now hot) ⌝ }
+    ensures { λ r. ⌜ Calls.slot r ≡ Set.get key (Set.entries n (now (hot .entry))) ⌝ }
+{
+    match records::find(hot, WORDS, 1, n, key, 0) {
+        records::Found::At(i) => Slot::Entry(HotEntry::of_words(hot, i * WORDS)),
+        records::Found::Gap(_) => Slot::Free,
+        records::Found::Unfit => Slot::Free,
+    }
+}
+
+// Puts an entry under its key, in place of one that has it.
+fn put(hot: &mut [u64], n: usize, entry: HotEntry)
+    requires { ⌜ Set.Held n (now hot) ⌝ }
+    requires { ⌜ length (Set.put entry (Set.entries n (now hot))) * 6 ≤ length (now hot) ⌝ }
+    ensures { λ _. ⌜
+        now (hot .exit) ≡ table (map Set.words (Set.put entry (Set.entries n (now (hot .entry)))))
+        (now (hot .entry))
+        ⌝ }
+{
+    let r = entry.words();
+    match records::find(hot, WORDS, 1, n, entry.key, 0) {
+        records::Found::At(i) => {
+            records::overwrite(hot, WORDS, n, i, &r);
+        }
+        records::Found::Gap(i) => {
+            records::insert(hot, WORDS, n, i, &r);
+        }
+        records::Found::Unfit => {}
+    }
+}
+
+// Takes the entry of a key out.
+fn remove(hot: &mut [u64], n: usize, key: u64)
+    requires { ⌜ Set.Held n (now hot) ⌝ }
+    ensures { λ _. ⌜
+        now (hot .exit) ≡ table (map Set.words (Set.remove key (Set.entries n (now (hot .entry)))))
+        (now (hot .entry))
+        ⌝ }
+{
+    match records::find(hot, WORDS, 1, n, key, 0) {
+        records::Found::At(i) => {
+            records::remove(hot, WORDS, n, i);
+        }
+        records::Found::Gap(_) => {}
+        records::Found::Unfit => {}
+    }
+}
+
+// The entry with the least demand, the smaller key where two have it.
+fn weakest(hot: &[u64], n: usize) -> HotEntry
+    requires { ⌜ Set.Held n (now hot) ⌝ }
+    requires { ⌜ 0 < n ⌝ }
+    ensures { λ r. ⌜ some r ≡ Set.weakest (Set.entries n (now (hot .entry))) ⌝ }
+{
+    let mut least = 0;
+    let mut i = 1;
+    while i < n {
+        if float::total_less(hot[i * WORDS + 1], hot[least * WORDS + 1]) {
+            least = i;
+        }
+        i += 1;
+    }
+    HotEntry::of_words(hot, least * WORDS)
+}
+
+impl HotSet {
+    // The first question that is answered 'no', or 0: is there room, and could the set stand in a
+    // valid image?
+    fn ask(self, hot: &[u64]) -> u8
+        ensures { λ r. ⌜ r ≡ firstNo (Calls.askSet self (now (hot .entry))) ⌝ }
+    {
+        if !has_room(self.max_size, hot.len()) {
+            return 1;
+        }
+        if !self.is_valid(hot) {
+            return 2;
+        }
+        0
+    }
+
+    // The same, and whether the demand is finite with a clear sign bit.
+    fn ask_update(self, hot: &[u64], demand_rate: f64) -> u8
+        ensures { λ r. ⌜ r ≡ firstNo (Calls.askUpdate self (now (hot .entry)) «demand_rate») ⌝ }
+    {
+        let no = self.ask(hot);
+        if no != 0 {
+            return no;
+        }
+        if !float::is_magnitude(demand_rate) {
+            return 11;
+        }
+        0
+    }
+
+    // Whether the set could stand in a valid image, with its entries in these words.
+    fn is_valid(self, hot: &[u64]) -> bool
+        requires { ⌜ Calls.room (self .«max_size») ≤ length (now hot) ⌝ }
+        ensures { λ r. ⌜ r ≡ Set.valid self (records 6 (self .len) (now (hot .entry))) ⌝ }
+    {
+        if !is_valid_size(self.max_size) {
+            return false;
+        }
+        if self.max_size < self.len {
+            return false;
+        }
+        are_valid(hot, self.len)
+    }
+
+    // An answer, with the number of entries that the set holds now.
+    fn counted(self, is_hot: bool, len: usize) -> Updated
+        ensures { λ r. ⌜ r ≡ Calls.counted self «is_hot» len ⌝ }
+    {
+        Updated {
+            is_hot,
+            set: HotSet {
+                cooldown: self.cooldown,
+                max_size: self.max_size,
+                len,
+            },
+        }
+    }
+
+    // Makes room in a full set for an absent key, if it beats the weakest by the margin.
+    fn evict(self, hot: &mut [u64], entry: HotEntry, margin: f64) -> Updated
+        requires { ⌜ passes (Calls.askSet self (now hot)) ≡ true ⌝ }
+        requires { ⌜ self .len ≡ self .«max_size» ⌝ }
+        requires { ⌜ Set.get (entry .key) (Calls.held self (now hot)) ≡ none ⌝ }
+        ensures { λ r. ⌜ Calls.Evicts margin self entry (now (hot .entry)) r (now (hot .exit)) ⌝ }
+    {
+        let n = self.len;
+        let least = weakest(hot, n);
+        if entry.demand > least.demand * margin {
+            remove(hot, n, least.key);
+            put(hot, n - 1, entry);
+            return self.counted(true, n);
+        }
+        self.counted(false, n)
+    }
+
+    // Makes the key hot, if it is or there is a place for it.
+    fn promote(
+        self,
+        hot: &mut [u64],
+        key: u64,
+        demand_rate: f64,
+        primary: bool,
+        now: u64,
+        margin: f64,
+    ) -> Updated
+        requires { ⌜ passes (Calls.askSet self (hot .now)) ≡ true ⌝ }
+        ensures { λ r. ⌜ Calls.Promotes margin self key «demand_rate» primary now (hot .entry .now) r (hot .exit .now) ⌝ }
+    {
+        let n = self.len;
+        match get(hot, n, key) {
+            Slot::Entry(entry) => {
+                put(hot, n, entry.renewed(demand_rate, primary));
+                self.counted(true, n)
+            }
+            Slot::Free => {
+                let entry = HotEntry::new(key, demand_rate, primary, now);
+                if n < self.max_size {
+                    put(hot, n, entry);
+                    return self.counted(true, n + 1);
+                }
+                self.evict(hot, entry, margin)
+            }
+        }
+    }
+
+    // The demand is not above the threshold: the key cools, and leaves where neither it nor a peer
+    // is primary.
+    fn below_threshold(
+        self,
+        hot: &mut [u64],
+        key: u64,
+        demand_rate: f64,
+        now: u64,
+        hot_elsewhere: bool,
+        margin: f64,
+    ) -> Updated
+        requires { ⌜ passes (Calls.askSet self (hot .now)) ≡ true ⌝ }
+        ensures { λ r. ⌜ Calls.Cools margin self key «demand_rate» now «hot_elsewhere» (hot .entry .now) r (hot .exit .now) ⌝ }
+    {
+        let n = self.len;
+        match get(hot, n, key) {
+            Slot::Entry(entry) => {
+                let cooled = entry.cool(demand_rate, now, self.cooldown);
+                if cooled.primary || hot_elsewhere {
+                    put(hot, n, cooled);
+                    return self.counted(true, n);
+                }
+                remove(hot, n, key);
+                self.counted(false, n - 1)
+            }
+            Slot::Free => {
+                if hot_elsewhere {
+                    return self.promote(hot, key, demand_rate, false, now, margin);
+                }
+                self.counted(false, n)
+            }
+        }
+    }
+
+    // What `update_with` does once its questions are passed.
+    fn update_with_margin(
+        self,
+        hot: &mut [u64],
+        key: u64,
+        demand_rate: f64,
+        threshold: f64,
+        now: u64,
+        hot_elsewhere: bool,
+        margin: f64,
+    ) -> Updated
+        requires { ⌜ passes (Calls.askSet self (hot .now)) ≡ true ⌝ }
+        ensures { λ r. ⌜
+            Calls.Updates margin self key «demand_rate» threshold now «hot_elsewhere» (hot .entry .now) r
+            (hot .exit .now)
+            ⌝ }
+    {
+        if demand_rate > threshold {
+            return self.promote(hot, key, demand_rate, true, now, margin);
+        }
+        self.below_threshold(hot, key, demand_rate, now, hot_elsewhere, margin)
+    }
+
+    // An empty set of at most `max_size` keys, each kept for `cooldown` once it cools.
+    pub fn new(hot: &[u64], cooldown: u64, max_size: usize) -> NewAnswer
+        ensures { λ r. ⌜ Calls.MadeNew (now (hot .entry)) cooldown «max_size» r ⌝ }
+    {
+        if !has_room(max_size, hot.len()) {
+            return NewAnswer::No(1);
+        }
+        if !is_valid_size(max_size) {
+            return NewAnswer::No(6);
+        }
+        NewAnswer::Is(HotSet {
+            cooldown,
+            max_size,
+            len: 0,
+        })
+    }
+
+    // Feeds a key's current demand and answers whether the key is hot afterwards.
+    pub fn update(
+        self,
+        hot: &mut [u64],
+        key: u64,
+        demand_rate: f64,
+        threshold: f64,
+        now: u64,
+    ) -> UpdateAnswer
+        ensures { λ r. ⌜ Calls.UpdatedAlone self (hot .entry .now) key «demand_rate» threshold now r (hot .exit .now) ⌝ }
+    {
+        self.update_with(hot, key, demand_rate, threshold, now, false)
+    }
+
+    // The same, knowing whether a peer holds the key primary.
+    pub fn update_with(
+        self,
+        hot: &mut [u64],
+        key: u64,
+        demand_rate: f64,
+        threshold: f64,
+        now: u64,
+        hot_elsewhere: bool,
+    ) -> UpdateAnswer
+        ensures { λ r. ⌜
+            Calls.UpdatedWith self (hot .entry .now) key «demand_rate» threshold now «hot_elsewhere» r
+            (hot .exit .now)
+            ⌝ }
+    {
+        let no = self.ask_update(hot, demand_rate);
+        if no != 0 {
+            return UpdateAnswer::No(no);
+        }
+        UpdateAnswer::Is(self.update_with_margin(
+            hot,
+            key,
+            demand_rate,
+            threshold,
+            now,
+            hot_elsewhere,
+            EVICTION_MARGIN,
+        ))
+    }
+
+    // Whether the key is in the set, primary or secondary.
+    pub fn is_hot(self, hot: &[u64], key: u64) -> TestAnswer
+        ensures { λ r. ⌜ Calls.SaidHot self (now (hot .entry)) key r ⌝ }
+    {
+        let no = self.ask(hot);
+        if no != 0 {
+            return TestAnswer::No(no);
+        }
+        match get(hot, self.len, key) {
+            Slot::Entry(_) => TestAnswer::Is(true),
+            Slot::Free => TestAnswer::Is(false),
+        }
+    }
+
+    // Since when the key has been hot without a break, if it is.
+    pub fn hot_since(self, hot: &[u64], key: u64) -> SinceAnswer
+        ensures { λ r. ⌜ Calls.SaidSince self (now (hot .entry)) key r ⌝ }
+    {
+        let no = self.ask(hot);
+        if no != 0 {
+            return SinceAnswer::No(no);
+        }
+        match get(hot, self.len, key) {
+            Slot::Entry(entry) => SinceAnswer::Since(entry.since),
+            Slot::Free => SinceAnswer::NotHot,
+        }
+    }
+
+    // Whether the key is hot by its own demand here, cooldown included.
+    pub fn is_primary(self, hot: &[u64], key: u64) -> TestAnswer
+        ensures { λ r. ⌜ Calls.SaidPrimary self (now (hot .entry)) key r ⌝ }
+    {
+        let no = self.ask(hot);
+        if no != 0 {
+            return TestAnswer::No(no);
+        }
+        match get(hot, self.len, key) {
+            Slot::Entry(entry) => TestAnswer::Is(entry.primary),
+            Slot::Free => TestAnswer::Is(false),
+        }
+    }
+
+    // How many keys are hot.
+    pub fn len(self, hot: &[u64]) -> LenAnswer
+        ensures { λ r. ⌜ Calls.SaidLen self (now (hot .entry)) r ⌝ }
+    {
+        let no = self.ask(hot);
+        if no != 0 {
+            return LenAnswer::No(no);
+        }
+        LenAnswer::Is(self.len)
+    }
+
+    // Whether no key is hot.
+    pub fn is_empty(self, hot: &[u64]) -> TestAnswer
+        ensures { λ r. ⌜ Calls.SaidEmpty self (now (hot .entry)) r ⌝ }
+    {
+        let no = self.ask(hot);
+        if no != 0 {
+            return TestAnswer::No(no);
+        }
+        TestAnswer::Is(self.len == 0)
+    }
+}

@@ -1,0 +1,338 @@
+// The steps of a departure and of expiry: records taken out, kept by a test, or changed, in one
+// lent table.
+ghost use mathlib.Core.Path.{_≡_};
+ghost use mathlib.Core.Bool.{true, cond, _||_};
+ghost use mathlib.Core.List.{[], map};
+ghost use Prim.Native.Nat.{_+_, _*_, _≤_, _<_};
+ghost use lib.Dec.{eqb};
+ghost use lib.ListN.{length, getD};
+ghost use Rattle.records.specs.Words.{copyWithin};
+ghost use Rattle.records.specs.Records.{records, overwriteAt};
+ghost use Rattle.demand.specs.PeerLists.{only, any, those, replaced};
+ghost use Rattle.demand.specs.PeerRecords.{peerWords, peerOf, snapshotKeyOf, contestedOf, flagOf, timeOf, snapshotOf};
+ghost use Rattle.demand.specs.PeerState.{hasSnapshot, isTaken, exact, Holds};
+ghost use Rattle.demand.specs.PeerChanges.{isFresh, later, hold, agePeer};
+ghost use Rattle.demand.specs.PeerScan.{firstWord};
+ghost use Rattle.demand.specs.PeerSteps.{inOrder, staysContested, isStale, staysPeer};
+
+// Takes out the records whose first word is `first`, and tells how many are left.
+pub(crate) fn without(t: &mut [u64], w: usize, n: usize, first: u64) -> usize
+    requires { ⌜ (inOrder w 1 n (now t) || inOrder w 2 n (now t)) ≡ true ⌝ }
+    ensures { λ r. ⌜
+        Holds w (n * w) r (replaced firstWord first [] (records w n (now (t .entry)))) (now (t .entry))
+        (now (t .exit))
+        ⌝ }
+{
+    let none: [u64; 0] = [];
+    let span = records::range(t, w, n, first);
+    match span {
+        records::Span::Between(lo, hi) => {
+            records::splice(t, w, n, lo, hi, &none);
+            n - (hi - lo)
+        }
+        records::Span::NoSpan => n,
+    }
+}
+
+// Copies record `from` over record `to`, which is not after it.
+fn move_record(t: &mut [u64], w: usize, from: usize, to: usize)
+    requires { ⌜ (to ≤ from) × (from * w + w ≤ length (now t)) ⌝ }
+    ensures { λ _. ⌜ now (t .exit) ≡ copyWithin (from * w) (from * w + w) (to * w) (now (t .entry)) ⌝ }
+{
+    let source = from * w;
+    let target = to * w;
+    let mut j = 0;
+    while j < w {
+        t[target + j] = t[source + j];
+        j += 1;
+    }
+}
+
+// One step of keeping records: the one at `i` goes behind the `kept` first ones, if it stays. Tells
+// how many are kept.
+fn keep_record(t: &mut [u64], w: usize, i: usize, kept: usize, stays: bool) -> usize
+    requires { ⌜ (1 ≤ w) × (kept ≤ i) × (i * w + w ≤ length (now t)) ⌝ }
+    ensures { λ r. ⌜ r ≡ cond stays (kept + 1) kept ⌝ }
+    ensures { λ _. ⌜ now (t .exit) ≡ cond stays (copyWithin (i * w) (i * w + w) (kept * w) (now (t .entry))) (now (t .entry)) ⌝ }
+{
+    if stays {
+        move_record(t, w, i, kept);
+        return kept + 1;
+    }
+    kept
+}
+
+// A time sum, held at the largest time.
+pub(crate) fn later_by(t: u64, d: u64) -> u64
+    ensures { λ r. ⌜ r ≡ later t d ⌝ }
+{
+    if 0xffff_ffff_ffff_ffff - t < d {
+        return 0xffff_ffff_ffff_ffff;
+    }
+    t + d
+}
+
+// Whether what was heard then was heard less than `max_age` ago.
+fn is_fresh(reading: u64, max_age: u64, heard_at: u64) -> bool
+    ensures { λ r. ⌜ r ≡ isFresh reading «max_age» «heard_at» ⌝ }
+{
+    reading < later_by(heard_at, max_age)
+}
+
+// Whether a peer has a snapshot.
+fn has_snapshot(peers: &[u64], n: usize, id: u64) -> bool
+    requires { ⌜ inOrder 12 1 n (now peers) ≡ true ⌝ }
+    ensures { λ r. ⌜ r ≡ hasSnapshot (map peerOf (records 12 n (now (peers .entry)))) id ⌝ }
+{
+    let found = records::find(peers, crate::peer_demand::PEER_WORDS, 1, n, id, 0);
+    match found {
+        records::Found::At(i) => peers[i * crate::peer_demand::PEER_WORDS + 3] != 0,
+        records::Found::Gap(_) => false,
+        records::Found::Unfit => false,
+    }
+}
+
+// Whether a peer has a contested key.
+fn has_contested(contested: &[u64], c: usize, id: u64) -> bool
+    requires { ⌜ inOrder 6 2 c (now contested) ≡ true ⌝ }
+    ensures { λ r. ⌜ r ≡ any (λ x. eqb (contestedOf x .peer) id) (records 6 c (now (contested .entry))) ⌝ }
+{
+    let span = records::range(contested, crate::peer_demand::CONTESTED_WORDS, c, id);
+    match span {
+        records::Span::Between(lo, hi) => lo < hi,
+        records::Span::NoSpan => false,
+    }
+}
+
+// Whether a contested key of a peer, heard then, stays.
+fn stays_contested(
+    peers: &[u64],
+    n: usize,
+    id: u64,
+    heard_at: u64,
+    reading: u64,
+    max_age: u64,
+) -> bool
+    requires { ⌜ inOrder 12 1 n (now peers) ≡ true ⌝ }
+    ensures { λ r. ⌜ r ≡ staysContested reading «max_age» (map peerOf (records 12 n (now (peers .entry)))) id «heard_at» ⌝ }
+{
+    let found = records::find(peers, crate::peer_demand::PEER_WORDS, 1, n, id, 0);
+    match found {
+        records::Found::At(i) => {
+            let at = i * crate::peer_demand::PEER_WORDS;
+            if peers[at + 1] != 0 {
+                return reading < peers[at + 2];
+            }
+            is_fresh(reading, max_age, heard_at)
+        }
+        records::Found::Gap(_) => false,
+        records::Found::Unfit => false,
+    }
+}
+
+// Keeps the contested keys that stay, and tells how many.
+pub(crate) fn retain_contested(
+    peers: &[u64],
+    n: usize,
+    contested: &mut [u64],
+    c: usize,
+    reading: u64,
+    max_age: u64,
+) -> usize
+    requires { ⌜ (inOrder 12 1 n (now peers) ≡ true) × (c * 6 ≤ length (now contested)) ⌝ }
+    ensures { λ r. ⌜
+        Holds 6 (c * 6) r
+        (only
+        (λ x. staysContested reading «max_age» (map peerOf (records 12 n (now (peers .entry))))
+        (contestedOf x .peer) (contestedOf x .heardAt)) (records 6 c (now (contested .entry))))
+        (now (contested .entry)) (now (contested .exit))
+        ⌝ }
+{
+    let mut kept = 0;
+    let mut i = 0;
+    while i < c {
+        let at = i * crate::peer_demand::CONTESTED_WORDS;
+        let stays = stays_contested(peers, n, contested[at], contested[at + 5], reading, max_age);
+        kept = keep_record(
+            contested,
+            crate::peer_demand::CONTESTED_WORDS,
+            i,
+            kept,
+            stays,
+        );
+        i += 1;
+    }
+    kept
+}
+
+// Whether a peer that is not held has no snapshot or one that is too old.
+fn is_stale(held: u64, taken: u64, heard_at: u64, reading: u64, max_age: u64) -> bool
+    ensures { λ r. ⌜ r ≡ isStale reading «max_age» (timeOf held 0) (snapshotOf taken 0 0 «heard_at») ⌝ }
+{
+    if held != 0 {
+        return false;
+    }
+    if taken == 0 {
+        return true;
+    }
+    !is_fresh(reading, max_age, heard_at)
+}
+
+// Takes from peer i a snapshot that is too old, with its past epochs.
+fn age_peer(peers: &mut [u64], n: usize, i: usize, reading: u64, max_age: u64)
+    requires { ⌜
+        (n * 12 ≤ length (now peers)) × (i < n) ×
+        (peerWords (peerOf (getD (records 12 n (now peers)) i [])) ≡ getD (records 12 n (now peers)) i [])
+        ⌝ }
+    ensures { λ _. ⌜
+        Holds 12 (n * 12) n
+        (overwriteAt i
+        (peerWords
+        (agePeer reading «max_age» (peerOf (getD (records 12 n (now (peers .entry))) i []))))
+        (records 12 n (now (peers .entry)))) (now (peers .entry)) (now (peers .exit))
+        ⌝ }
+{
+    let at = i * crate::peer_demand::PEER_WORDS;
+    if is_stale(
+        peers[at + 1],
+        peers[at + 3],
+        peers[at + 6],
+        reading,
+        max_age,
+    ) {
+        let bare: [u64; 12] = [peers[at], 0, 0, 0, 0, 0, 0, 0, 0, 0, 0, 0];
+        records::overwrite(peers, crate::peer_demand::PEER_WORDS, n, i, &bare);
+    }
+}
+
+// The same for every peer.
+pub(crate) fn age_peers(peers: &mut [u64], n: usize, reading: u64, max_age: u64)
+    requires { ⌜ (n * 12 ≤ length (now peers)) × (exact peerWords peerOf (records 12 n (now peers)) ≡ true) ⌝ }
+    ensures { λ _. ⌜
+        Holds 12 (n * 12) n
+        (map (λ x. peerWords (agePeer reading «max_age» (peerOf x))) (records 12 n (now (peers .entry))))
+        (now (peers .entry)) (now (peers .exit))
+        ⌝ }
+{
+    let mut i = 0;
+    while i < n {
+        age_peer(peers, n, i, reading, max_age);
+        i += 1;
+    }
+}
+
+// Whether a peer stays, of which these words are known.
+fn stays_peer(
+    contested: &[u64],
+    c: usize,
+    id: u64,
+    held: u64,
+    until: u64,
+    taken: u64,
+    reading: u64,
+) -> bool
+    requires { ⌜ inOrder 6 2 c (now contested) ≡ true ⌝ }
+    ensures { λ r. ⌜
+        r ≡ staysPeer reading (map contestedOf (records 6 c (now (contested .entry)))) id (timeOf held until)
+        (flagOf taken)
+        ⌝ }
+{
+    if held != 0 {
+        return reading < until;
+    }
+    if taken != 0 {
+        return true;
+    }
+    has_contested(contested, c, id)
+}
+
+// Keeps the peers that stay, and tells how many.
+pub(crate) fn retain_peers(
+    contested: &[u64],
+    c: usize,
+    peers: &mut [u64],
+    n: usize,
+    reading: u64,
+) -> usize
+    requires { ⌜ (inOrder 6 2 c (now contested) ≡ true) × (n * 12 ≤ length (now peers)) ⌝ }
+    ensures { λ r. ⌜
+        Holds 12 (n * 12) r
+        (only
+        (λ x. staysPeer reading (map contestedOf (records 6 c (now (contested .entry))))
+        (peerOf x .id) (peerOf x .heldUntil) (isTaken (peerOf x)))
+        (records 12 n (now (peers .entry)))) (now (peers .entry)) (now (peers .exit))
+        ⌝ }
+{
+    let mut kept = 0;
+    let mut i = 0;
+    while i < n {
+        let at = i * crate::peer_demand::PEER_WORDS;
+        let stays = stays_peer(
+            contested,
+            c,
+            peers[at],
+            peers[at + 1],
+            peers[at + 2],
+            peers[at + 3],
+            reading,
+        );
+        kept = keep_record(peers, crate::peer_demand::PEER_WORDS, i, kept, stays);
+        i += 1;
+    }
+    kept
+}
+
+// Keeps the snapshot keys whose peer has a snapshot, and tells how many.
+pub(crate) fn retain_snapshot_keys(
+    peers: &[u64],
+    n: usize,
+    snapshot_keys: &mut [u64],
+    k: usize,
+) -> usize
+    requires { ⌜ (inOrder 12 1 n (now peers) ≡ true) × (k * 4 ≤ length (now «snapshot_keys»)) ⌝ }
+    ensures { λ r. ⌜
+        Holds 4 (k * 4) r
+        (only (λ x. hasSnapshot (map peerOf (records 12 n (now (peers .entry)))) (snapshotKeyOf x .peer))
+        (records 4 k (now («snapshot_keys» .entry)))) (now («snapshot_keys» .entry))
+        (now («snapshot_keys» .exit))
+        ⌝ }
+{
+    let mut kept = 0;
+    let mut i = 0;
+    while i < k {
+        let at = i * crate::peer_demand::SNAPSHOT_KEY_WORDS;
+        let stays = has_snapshot(peers, n, snapshot_keys[at]);
+        kept = keep_record(
+            snapshot_keys,
+            crate::peer_demand::SNAPSHOT_KEY_WORDS,
+            i,
+            kept,
+            stays,
+        );
+        i += 1;
+    }
+    kept
+}
+
+// Holds a peer until then, if it is known.
+pub(crate) fn hold_peer(peers: &mut [u64], n: usize, id: u64, until: u64)
+    requires { ⌜ (inOrder 12 1 n (now peers) ≡ true) × (exact peerWords peerOf (records 12 n (now peers)) ≡ true) ⌝ }
+    ensures { λ _. ⌜
+        Holds 12 (n * 12) n
+        (replaced firstWord id
+        (map (λ x. peerWords (hold until (peerOf x)))
+        (those firstWord id (records 12 n (now (peers .entry)))))
+        (records 12 n (now (peers .entry)))) (now (peers .entry)) (now (peers .exit))
+        ⌝ }
+{
+    let found = records::find(peers, crate::peer_demand::PEER_WORDS, 1, n, id, 0);
+    match found {
+        records::Found::At(i) => {
+            let at = i * crate::peer_demand::PEER_WORDS;
+            peers[at + 1] = 1;
+            peers[at + 2] = until;
+        }
+        records::Found::Gap(_) => {}
+        records::Found::Unfit => {}
+    }
+}
