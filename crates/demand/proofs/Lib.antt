@@ -31,6 +31,7 @@ pub mod PeerContestLaws
 pub mod PeerContestedLaws
 pub mod PeerDemandLaws
 pub mod PeerExpireLaws
+pub mod PeerDepartureLaws
 pub mod PeerFindLaws
 pub mod PeerHeardLaws
 pub mod PeerHoldLaws

@@ -1,13 +1,13 @@
 -- Laws: a call's answer by the number of its first 'no'. Assumes nothing.
-use Prim.Native.Nat.{ℕ, zero, suc, _<_}
-use mathlib.Core.Path.{_≡_, refl, sym, ap, _∙_, subst}
-use mathlib.Core.Bool.{Bool, true, false, cond}
-use mathlib.Core.List.{List, [], _∷_}
+use Prim.Native.Nat.{ℕ, zero, suc}
+use mathlib.Core.Path.{_≡_, refl, sym, ap, _∙_}
+use mathlib.Core.Bool.{Bool, cond}
+use mathlib.Core.List.{List}
 use native.Mathlib.Omega.{arith}
 use Rattle.records.proofs.TestLaws.{split}
 use Rattle.demand.specs.declared.peer_demand.PeerDemand.{PeerDemand}
 use Rattle.demand.specs.declared.peer_demand.ChangeAnswer.the-variants as change-answer
-use Rattle.gcra.specs.Questions.{Question, Answer, refused, given, firstNo, numbered}
+use Rattle.gcra.specs.Questions.{Question, refused, given, firstNo, numbered}
 use Rattle.demand.specs.PeerState.{PeersState, PeerTables, haveRoom, stateOf, isValid, Stores}
 use Rattle.demand.specs.PeerCalls.{peersQuestions, Changes}
 use Rattle.demand.specs.PeerSteps.{Valid}

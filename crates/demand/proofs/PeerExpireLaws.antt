@@ -1,15 +1,15 @@
 -- Laws: what is left of a state as time goes, one test a record, and the tables that hold it. Assumes nothing.
-use Prim.Native.Nat.{ℕ, zero, suc, _+_, _-_, _*_, _≤_, _<_}
+use Prim.Native.Nat.{ℕ, suc, _*_, _≤_}
 use mathlib.Core.Path.{_≡_, refl, sym, ap, _∙_, subst}
 use mathlib.Core.Bool.{Bool, true, false, cond, not, _&&_, _||_}
-use mathlib.Core.List.{List, [], _∷_, _++_, map}
-use mathlib.Core.Option.{Option, none}
+use mathlib.Core.List.{List, [], _∷_, map}
+use mathlib.Core.Option.{none}
 use native.Mathlib.Nat.{mul-le-mul-right}
 use native.Mathlib.Omega.{arith}
 use lib.Dec.{eqb}
-use lib.ListN.{length, take, drop, getD, length-take, length-drop}
+use lib.ListN.{length, drop, getD, length-take, length-drop}
 use Rattle.records.specs.Records.{records, key, before, leads, ascending, same}
-use Rattle.records.proofs.TestLaws.{contradiction, split, both, and-intro, same-truth}
+use Rattle.records.proofs.TestLaws.{split, both, and-intro, same-truth}
 use Rattle.records.proofs.RecordLaws.{length-records}
 use Rattle.records.proofs.OrderLaws.{before-trans}
 use Rattle.records.proofs.EditLaws.{asc-tail}
@@ -21,8 +21,8 @@ use Rattle.demand.specs.PeerState.{PeersState, PeerTables, peersSize, sn
 use Rattle.demand.specs.PeerChanges.{holdEnded, notEnded, expireHolds, expireAge, expire, agePeer, isLeft, isFresh, isFreshSnapshot, isHeldPeer, freshContested, freshPeers}
 use Rattle.demand.specs.PeerSteps.{inOrder, staysContested, staysPeer}
 use Rattle.demand.proofs.PeerWordLaws.{words-of-exact, contested-of-words, peer-of-words}
-use Rattle.demand.proofs.PeerRangeLaws.{only-yes, only-no, only-same, only-only, map-only, any-map, any-only}
-use Rattle.demand.proofs.PeerTableLaws.{InOrder, in-order-says, in-order-intro, holds-more}
+use Rattle.demand.proofs.PeerRangeLaws.{map-self, only-yes, only-no, only-same, only-only, map-only, any-map, any-only}
+use Rattle.demand.proofs.PeerTableLaws.{in-order-says, in-order-intro, holds-more}
 use Rattle.demand.proofs.PeerStoreLaws.{Sound, Tables, map-map}
 
 -- ---- fewer records
@@ -35,25 +35,29 @@ length-only p (x ∷ xs) = split (p x)
     (λ e. let q : length (only p (x ∷ xs)) ≡ length (only p xs) = ap length (only-no p x xs e) in omega (arith, length-only p xs))
 
 -- a key before that of a record is before those of the records after it
-leads-only : (d : ℕ) (r : List ℕ) (p : List ℕ → Bool) (rs : List (List ℕ)) → leads d r rs ≡ true → ascending d rs ≡ true → leads d r (only p rs) ≡ true
+leads-only : {A : Type 0} (d : ℕ) (words : A → List ℕ) (r : List ℕ) (p : A → Bool) (xs : List A) → leads d r (map words xs) ≡ true → ascending d (map words xs) ≡ true → leads d r (map words (only p xs)) ≡ true
 unfolding leads only
-leads-only d r p [] l a = refl
-leads-only d r p (s ∷ rs) l a = split (p s)
-    (λ e. ap (leads d r) (only-yes p s rs e) ∙ l)
-    (λ e. ap (leads d r) (only-no p s rs e) ∙ leads-only d r p rs (next rs l (asc-tail d s rs a .0)) (asc-tail d s rs a .1))
+leads-only d words r p [] l a = refl
+leads-only d words r p (x ∷ xs) l a = split (p x)
+    (λ e. ap (λ ys. leads d r (map words ys)) (only-yes p x xs e) ∙ l)
+    (λ e. ap (λ ys. leads d r (map words ys)) (only-no p x xs e) ∙ leads-only d words r p xs (next (map words xs) l (asc-tail d (words x) (map words xs) a .0)) (asc-tail d (words x) (map words xs) a .1))
   where
-    next : (rs : List (List ℕ)) → before (key d r) (key d s) ≡ true → leads d s rs ≡ true → leads d r rs ≡ true
+    next : (rs : List (List ℕ)) → before (key d r) (key d (words x)) ≡ true → leads d (words x) rs ≡ true → leads d r rs ≡ true
     next [] h k = refl
-    next (t ∷ ts) h k = before-trans (key d r) (key d s) (key d t) h k
+    next (t ∷ ts) h k = before-trans (key d r) (key d (words x)) (key d t) h k
+
+pub ascending-by : {A : Type 0} (d : ℕ) (words : A → List ℕ) (p : A → Bool) (xs : List A) → ascending d (map words xs) ≡ true → ascending d (map words (only p xs)) ≡ true
+unfolding ascending only
+ascending-by d words p [] a = refl
+ascending-by d words p (x ∷ xs) a =
+    let t = asc-tail d (words x) (map words xs) a in
+    split (p x)
+    (λ e. ap (λ ys. ascending d (map words ys)) (only-yes p x xs e) ∙ and-intro (leads d (words x) (map words (only p xs))) (ascending d (map words (only p xs))) (leads-only d words (words x) p xs (t .0) (t .1)) (ascending-by d words p xs (t .1)))
+    (λ e. ap (λ ys. ascending d (map words ys)) (only-no p x xs e) ∙ ascending-by d words p xs (t .1))
 
 pub ascending-only : (d : ℕ) (p : List ℕ → Bool) (rs : List (List ℕ)) → ascending d rs ≡ true → ascending d (only p rs) ≡ true
-unfolding ascending only
-ascending-only d p [] a = refl
-ascending-only d p (r ∷ rs) a =
-    let t = asc-tail d r rs a in
-    split (p r)
-    (λ e. ap (ascending d) (only-yes p r rs e) ∙ and-intro (leads d r (only p rs)) (ascending d (only p rs)) (leads-only d r p rs (t .0) (t .1)) (ascending-only d p rs (t .1)))
-    (λ e. ap (ascending d) (only-no p r rs e) ∙ ascending-only d p rs (t .1))
+ascending-only d p rs a =
+    ap (ascending d) (sym (map-self (only p rs))) ∙ ascending-by d (λ r. r) p rs (ap (ascending d) (map-self rs) ∙ a)
 
 -- records with the same keys
 pub ascending-same : {A : Type 0} (d : ℕ) (f g : A → List ℕ) → ((x : A) → key d (f x) ≡ key d (g x)) → (xs : List A) → ascending d (map f xs) ≡ ascending d (map g xs)
@@ -100,10 +104,10 @@ short-records [] w = tt
 short-records (r ∷ rs) w = (omega (arith, length-take (getD r 7 0) (drop 8 r), length-drop 8 r, w .0), short-records rs (w .1))
 
 -- a peer without its snapshot, and whether it keeps it
-abbrev bare : PeerRecord → PeerRecord
+abbrev pub bare : PeerRecord → PeerRecord
 bare p = record { id = p .id; heldUntil = p .heldUntil; snapshot = none; pastEpochs = [] }
 
-abbrev keeps : ℕ → ℕ → PeerRecord → Bool
+abbrev pub keeps : ℕ → ℕ → PeerRecord → Bool
 keeps at age p = isHeld p || isFreshSnapshot at age (p .snapshot)
 
 short-aged : (at age : ℕ) (ps : List PeerRecord) → Short ps → Short (map (agePeer at age) ps)
@@ -141,21 +145,21 @@ peers-only q (p ∷ ps) s =
 
 -- ---- what is left, one test a record
 
-aged-held : (at age : ℕ) (p : PeerRecord) → agePeer at age p .heldUntil ≡ p .heldUntil
+pub aged-held : (at age : ℕ) (p : PeerRecord) → agePeer at age p .heldUntil ≡ p .heldUntil
 aged-held at age p = by (keeps at age p)
   where
     by : (b : Bool) → cond b p (bare p) .heldUntil ≡ p .heldUntil
     by true = refl
     by false = refl
 
-aged-id : (at age : ℕ) (p : PeerRecord) → agePeer at age p .id ≡ p .id
+pub aged-id : (at age : ℕ) (p : PeerRecord) → agePeer at age p .id ≡ p .id
 aged-id at age p = by (keeps at age p)
   where
     by : (b : Bool) → cond b p (bare p) .id ≡ p .id
     by true = refl
     by false = refl
 
-any-weaker : {A : Type 0} (p q : A → Bool) → ((x : A) → p x ≡ true → q x ≡ true) → (xs : List A) → any p xs ≡ true → any q xs ≡ true
+pub any-weaker : {A : Type 0} (p q : A → Bool) → ((x : A) → p x ≡ true → q x ≡ true) → (xs : List A) → any p xs ≡ true → any q xs ≡ true
 unfolding any
 any-weaker p q h [] e = e
 any-weaker p q h (x ∷ xs) e = split (p x)

@@ -1,21 +1,21 @@
 -- Laws: records changed one after the other, and a peer's record with a hold. Assumes nothing.
-use Prim.Native.Nat.{ℕ, zero, suc, _+_, _-_, _*_, _≤_, _<_, zero-le}
-use mathlib.Core.Path.{_≡_, refl, sym, ap, _∙_, subst}
-use mathlib.Core.Bool.{Bool, true}
-use mathlib.Core.List.{List, [], _∷_, _++_, map, append-assoc, append-nil}
+use Prim.Native.Nat.{ℕ, zero, suc, _+_, _*_, _≤_, _<_, zero-le}
+use mathlib.Core.Path.{_≡_, refl, sym, ap, _∙_}
+use mathlib.Core.Bool.{true}
+use mathlib.Core.List.{List, [], _∷_, _++_, map, append-nil}
 use mathlib.Core.Option.{Option, none, some}
 use native.Mathlib.Nat.{not-suc-le-zero, le-of-suc-le-suc}
 use native.Mathlib.Numerals.{add-one}
 use native.Mathlib.Omega.{arith}
-use lib.ListN.{length, take, drop, getD, set, length-set, length-map, length-append, take-append-drop}
-use lib.Seq.{length-take-le, take-all, take-suc, drop-cons, set-at, set-set, set-split, getD-at, getD-set-same, append-snoc}
+use lib.ListN.{length, take, drop, getD, set, length-set, length-map}
+use lib.Seq.{length-take-le, take-all, take-suc, drop-cons, set-at, set-set, getD-at, getD-set-same, append-snoc}
 use Rattle.records.specs.declared.Found.the-variants.{At, Gap}
-use Rattle.records.specs.Records.{records, same, splice, overwriteAt, findIn}
+use Rattle.records.specs.Records.{records, same, overwriteAt, findIn}
 use Rattle.records.proofs.TestLaws.{both}
 use Rattle.records.proofs.OrderLaws.{same-eq}
 use Rattle.records.proofs.RecordLaws.{length-records}
 use Rattle.demand.specs.PeerLists.{all, those, replaced}
-use Rattle.demand.specs.PeerRecords.{Snapshot, PeerRecord, peerOf, peerWords}
+use Rattle.demand.specs.PeerRecords.{Snapshot, peerOf, peerWords}
 use Rattle.demand.specs.PeerState.{exact, Holds}
 use Rattle.demand.specs.PeerChanges.{hold}
 use Rattle.demand.specs.PeerScan.{firstWord}

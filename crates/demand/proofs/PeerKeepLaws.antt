@@ -1,7 +1,7 @@
 -- Laws: records kept by a test, moved to the front one after the other; and records written over. Assumes nothing.
 use mathlib.Core.Path.{_≡_, refl, sym, ap, _∙_, subst}
 use mathlib.Core.Bool.{Bool, true, false, cond}
-use mathlib.Core.List.{List, [], _∷_, _++_, map, append-nil}
+use mathlib.Core.List.{List, [], _∷_, _++_, append-nil}
 use Prim.Native.Nat.{ℕ, zero, suc, _+_, _-_, _*_, _≤_, _<_, zero-le}
 use native.Mathlib.Nat.{suc-mul, le-of-suc-le-suc, not-suc-le-zero}
 use native.Mathlib.Numerals.{add-one}
@@ -9,7 +9,7 @@ use native.Mathlib.Omega.{arith}
 use borrow.Author.Tests.{lt-ltb, eq-eqb}
 use lib.Dec.{ltb, eqb}
 use lib.ListN.{length, take, drop, getD, set, length-set}
-use lib.Seq.{slice, length-take-le, take-all, take-suc, take-suc-set, drop-cons, drop-drop, take-set-lt, take-set-le, drop-set-lt, drop-set-add, set-split, set-getD, getD-drop}
+use lib.Seq.{slice, length-take-le, take-all, take-suc, take-suc-set, drop-drop, take-set-lt, take-set-le, drop-set-lt, drop-set-add, set-split, set-getD, getD-drop}
 use Rattle.records.specs.Words.{copyWithin, paste}
 use Rattle.records.specs.Records.{records, table, splice, overwriteAt, overwritable, removable, overwritten}
 use Rattle.records.proofs.TestLaws.{and-intro}
@@ -21,7 +21,8 @@ use Rattle.records.proofs.TableLaws.{Wide, wide-records, wide-splice}
 use Rattle.demand.specs.PeerLists.{only}
 use Rattle.demand.specs.PeerState.{Holds}
 use Rattle.demand.proofs.PeerRangeLaws.{only-yes, only-no, only-append}
-use Rattle.demand.proofs.PeerTableLaws.{holds-table, word-at}
+use Rattle.demand.proofs.PeerRowLaws.{word-at}
+use Rattle.demand.proofs.PeerTableLaws.{holds-table}
 
 -- ---- one record written over
 
@@ -106,7 +107,7 @@ module _ (p : List ℕ → Bool) (w n : ℕ) (t₀ t : List ℕ) (i j : ℕ) (k 
 
   -- record i is read as it was
   pub kept-word : (m : ℕ) → m < w → getD t (i * w + m) 0 ≡ getD (getD (records w n t₀) i []) m 0
-  kept-word m l = sym (word-at w n i m t h l) ∙ ap (λ (r : List ℕ). getD r m 0) same-record
+  kept-word m l = sym (word-at w n t i m h l) ∙ ap (λ (r : List ℕ). getD r m 0) same-record
 
   pub kept-first : getD t (i * w) 0 ≡ getD (getD (records w n t₀) i []) 0 0
   kept-first =

@@ -1,14 +1,14 @@
 -- Laws: where records ascend, those with a number, those before it and those after it are ranges. Assumes nothing.
 use mathlib.Core.Path.{_≡_, refl, sym, ap, _∙_, subst}
-use mathlib.Core.Bool.{Bool, true, false, cond, not, _&&_, _||_}
+use mathlib.Core.Bool.{Bool, true, false, cond, not, _&&_, _||_, and-true}
 use mathlib.Core.List.{List, [], _∷_, _++_, map}
-use Prim.Native.Nat.{ℕ, zero, suc, _+_, _-_, _*_, _≤_, _<_, zero-le, suc-le-suc}
+use Prim.Native.Nat.{ℕ, zero, suc, _+_, _≤_, _<_, zero-le, suc-le-suc}
 use mathlib.Core.Logic.{⊎-elim}
 use native.Mathlib.Nat.{le-of-suc-le-suc, not-suc-le-zero, eq-or-lt-of-le}
 use native.Mathlib.Omega.{arith}
 use borrow.Author.Tests.{ltb-true, ltb-false, lt-ltb, le-ltb, eqb-true, eqb-false, eq-eqb, ne-eqb}
-use lib.Dec.{ltb, leb, eqb}
-use lib.ListN.{length, take, drop, getD, length-append}
+use lib.Dec.{ltb, eqb}
+use lib.ListN.{length, take, drop, getD}
 use lib.Seq.{slice, slice-cons, slice-empty, getD-take, take-nil, drop-nil, length-take-le}
 use Rattle.records.specs.declared.Found.the-variants.{At, Gap}
 use Rattle.records.specs.Records.{before, ascending, isBelow, lowerBound, find, splice}
@@ -18,6 +18,9 @@ use Rattle.records.proofs.SearchLaws.{Cut}
 use Rattle.records.proofs.PlaceLaws.{lower-bound-first, at-says, gap-place}
 use Rattle.records.proofs.TableLaws.{Wide}
 use Rattle.demand.specs.PeerLists.{only, any, those, replaced}
+pub use Rattle.demand.specs.PeerScan.{firstWord}
+use Rattle.demand.proofs.PeerListLaws.{only-map}
+pub use Rattle.demand.proofs.PeerListLaws.{any-map}
 
 -- ---- lists by a test
 
@@ -38,11 +41,7 @@ only-append p (x ∷ xs) ys = split (p x)
 
 -- a test of the image
 pub map-only : {A B : Type 0} (f : A → B) (p : B → Bool) (xs : List A) → map f (only (λ x. p (f x)) xs) ≡ only p (map f xs)
-unfolding only
-map-only f p [] = refl
-map-only f p (x ∷ xs) = split (p (f x))
-    (λ e. ap (map f) (only-yes (λ x. p (f x)) x xs e) ∙ ap (λ l. f x ∷ l) (map-only f p xs) ∙ sym (only-yes p (f x) (map f xs) e))
-    (λ e. ap (map f) (only-no (λ x. p (f x)) x xs e) ∙ map-only f p xs ∙ sym (only-no p (f x) (map f xs) e))
+map-only f p xs = sym (only-map f p xs)
 
 pub only-same : {A : Type 0} (p q : A → Bool) → ((x : A) → p x ≡ q x) → (xs : List A) → only p xs ≡ only q xs
 unfolding only
@@ -74,32 +73,42 @@ cut-zero p n c = record {
   above = λ i h l. c .above (suc i) zero-le (suc-le-suc l);
 }
 
--- the elements before it pass
-pub only-front : {A : Type 0} (p : A → Bool) (z : A) (xs : List A) (m : ℕ) → Cut (λ i. p (getD xs i z)) (length xs) m → only p xs ≡ take m xs
+-- the elements before it pass; the test is of an image
+pub only-front-by : {A B : Type 0} (f : A → B) (p : B → Bool) (z : B) (xs : List A) (m : ℕ) → Cut (λ i. p (getD (map f xs) i z)) (length xs) m → only (λ x. p (f x)) xs ≡ take m xs
 unfolding only
-only-front p z [] m c = sym (take-nil m)
-only-front p z (x ∷ xs) zero c =
-    only-no p x xs (c .above 0 zero-le (suc-le-suc zero-le)) ∙ only-front p z xs 0 (cut-zero (λ i. p (getD (x ∷ xs) i z)) (length xs) c)
-only-front p z (x ∷ xs) (suc m) c =
-    only-yes p x xs (c .below 0 (suc-le-suc zero-le)) ∙ ap (λ l. x ∷ l) (only-front p z xs m (cut-next (λ i. p (getD (x ∷ xs) i z)) (length xs) m c))
+only-front-by f p z [] m c = sym (take-nil m)
+only-front-by f p z (x ∷ xs) zero c =
+    only-no (λ y. p (f y)) x xs (c .above 0 zero-le (suc-le-suc zero-le)) ∙ only-front-by f p z xs 0 (cut-zero (λ i. p (getD (map f (x ∷ xs)) i z)) (length xs) c)
+only-front-by f p z (x ∷ xs) (suc m) c =
+    only-yes (λ y. p (f y)) x xs (c .below 0 (suc-le-suc zero-le)) ∙ ap (λ l. x ∷ l) (only-front-by f p z xs m (cut-next (λ i. p (getD (map f (x ∷ xs)) i z)) (length xs) m c))
 
 -- the others fail
-pub only-back : {A : Type 0} (p : A → Bool) (z : A) (xs : List A) (m : ℕ) → Cut (λ i. p (getD xs i z)) (length xs) m → only (λ x. not (p x)) xs ≡ drop m xs
+pub only-back-by : {A B : Type 0} (f : A → B) (p : B → Bool) (z : B) (xs : List A) (m : ℕ) → Cut (λ i. p (getD (map f xs) i z)) (length xs) m → only (λ x. not (p (f x))) xs ≡ drop m xs
 unfolding only
-only-back p z [] m c = sym (drop-nil m)
-only-back p z (x ∷ xs) zero c =
-    only-yes (λ y. not (p y)) x xs (ap not (c .above 0 zero-le (suc-le-suc zero-le))) ∙ ap (λ l. x ∷ l) (only-back p z xs 0 (cut-zero (λ i. p (getD (x ∷ xs) i z)) (length xs) c))
-only-back p z (x ∷ xs) (suc m) c =
-    only-no (λ y. not (p y)) x xs (ap not (c .below 0 (suc-le-suc zero-le))) ∙ only-back p z xs m (cut-next (λ i. p (getD (x ∷ xs) i z)) (length xs) m c)
+only-back-by f p z [] m c = sym (drop-nil m)
+only-back-by f p z (x ∷ xs) zero c =
+    only-yes (λ y. not (p (f y))) x xs (ap not (c .above 0 zero-le (suc-le-suc zero-le))) ∙ ap (λ l. x ∷ l) (only-back-by f p z xs 0 (cut-zero (λ i. p (getD (map f (x ∷ xs)) i z)) (length xs) c))
+only-back-by f p z (x ∷ xs) (suc m) c =
+    only-no (λ y. not (p (f y))) x xs (ap not (c .below 0 (suc-le-suc zero-le))) ∙ only-back-by f p z xs m (cut-next (λ i. p (getD (map f (x ∷ xs)) i z)) (length xs) m c)
+
+pub map-self : {A : Type 0} (xs : List A) → map (λ x. x) xs ≡ xs
+map-self [] = refl
+map-self (x ∷ xs) = ap (λ l. x ∷ l) (map-self xs)
+
+pub only-front : {A : Type 0} (p : A → Bool) (z : A) (xs : List A) (m : ℕ) → Cut (λ i. p (getD xs i z)) (length xs) m → only p xs ≡ take m xs
+only-front p z xs m c = only-front-by (λ x. x) p z xs m (subst (λ l. Cut (λ i. p (getD l i z)) (length xs) m) (sym (map-self xs)) c)
+
+pub only-back : {A : Type 0} (p : A → Bool) (z : A) (xs : List A) (m : ℕ) → Cut (λ i. p (getD xs i z)) (length xs) m → only (λ x. not (p x)) xs ≡ drop m xs
+only-back p z xs m c = only-back-by (λ x. x) p z xs m (subst (λ l. Cut (λ i. p (getD l i z)) (length xs) m) (sym (map-self xs)) c)
 
 -- ---- lists by a number: those below a end at i, those not above it at j
 
-after-test : (x a : ℕ) → ltb a x ≡ not (ltb x (a + 1))
+pub after-test : (x a : ℕ) → ltb a x ≡ not (ltb x (a + 1))
 after-test x a = split (ltb x (a + 1))
     (λ e. le-ltb a x (omega (arith, ltb-true x (a + 1) e)) ∙ sym (ap not e))
     (λ e. lt-ltb a x (omega (arith, ltb-false x (a + 1) e)) ∙ sym (ap not e))
 
-equal-test : (x a : ℕ) → eqb x a ≡ (ltb x (a + 1) && not (ltb x a))
+pub equal-test : (x a : ℕ) → eqb x a ≡ (ltb x (a + 1) && not (ltb x a))
 equal-test x a = split (ltb x a)
     (λ e. ne-eqb x a (λ q. omega (arith, ltb-true x a e)) ∙ sym ((λ k. lt-ltb x (a + 1) (omega (arith, ltb-true x a e)) k && not (e k))))
     (λ e. split (ltb x (a + 1))
@@ -142,10 +151,7 @@ module _ {A : Type 0} (number : A → ℕ) (z : A) (a : ℕ) (xs : List A) (i j 
 
 -- ---- words of records
 
--- the first word of a record, and the second
-abbrev pub firstWord : List ℕ → ℕ
-firstWord r = getD r 0 0
-
+-- the second word of a record
 abbrev pub secondWord : List ℕ → ℕ
 secondWord r = getD r 1 0
 
@@ -318,11 +324,6 @@ module _ {A : Type 0} (number : A → ℕ) (words : A → List ℕ) (wordOf : Li
 
 -- ---- is there one?
 
-pub any-map : {A B : Type 0} (f : A → B) (p : B → Bool) (xs : List A) → any p (map f xs) ≡ any (λ x. p (f x)) xs
-unfolding any
-any-map f p [] = refl
-any-map f p (x ∷ xs) = ap (λ (b : Bool). p (f x) || b) (any-map f p xs)
-
 pub any-same : {A : Type 0} (p q : A → Bool) → ((x : A) → p x ≡ q x) → (xs : List A) → any p xs ≡ any q xs
 unfolding any
 any-same p q h [] = refl
@@ -344,10 +345,6 @@ pub any-some : {A : Type 0} (xs : List A) → any (λ x. true) xs ≡ ltb 0 (len
 unfolding any
 any-some [] = refl
 any-some (x ∷ xs) = sym (lt-ltb 0 (suc (length xs)) (suc-le-suc zero-le))
-
-and-true : (b : Bool) → (b && true) ≡ b
-and-true false = refl
-and-true true = refl
 
 pub any-number : {A : Type 0} (number : A → ℕ) (a : ℕ) (xs : List A) → any (λ x. eqb (number x) a) xs ≡ ltb 0 (length (those number a xs))
 any-number number a xs =

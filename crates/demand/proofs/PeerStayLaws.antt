@@ -1,22 +1,22 @@
 -- Laws: what stays of the peers' state as time goes, by the words of its records. Assumes nothing.
-use Prim.Native.Nat.{ℕ, zero, suc, _+_, _*_, _≤_, _<_}
+use Prim.Native.Nat.{ℕ, zero, suc}
 use mathlib.Core.Path.{_≡_, refl, sym, ap, _∙_}
-use mathlib.Core.Bool.{Bool, true, false, cond, not, _&&_, _||_}
+use mathlib.Core.Bool.{Bool, true, false, cond, not, _&&_, _||_, and-comm, and-assoc}
 use mathlib.Core.List.{List, [], _∷_, map}
 use mathlib.Core.Option.{Option, none, some}
 use native.Mathlib.Omega.{arith}
-use borrow.Author.Tests.{ltb-true, ltb-false, leb-true, leb-false, lt-ltb, le-ltb, le-leb, lt-leb}
+use borrow.Author.Tests.{ltb-true, ltb-false, le-leb, lt-leb}
 use lib.Dec.{ltb, leb, eqb}
 use lib.ListN.{getD}
 use Rattle.records.specs.declared.Found.the-variants.{At, Gap}
 use Rattle.records.specs.Records.{records, findIn}
 use Rattle.records.proofs.TestLaws.{contradiction, split}
-use Rattle.demand.specs.PeerLists.{any, only, present}
-use Rattle.demand.specs.PeerRecords.{Snapshot, PeerRecord, ContestedKey, timeOf, flagOf, snapshotOf, peerOf, peerWords, contestedOf}
+use Rattle.demand.specs.PeerLists.{any, present}
+use Rattle.demand.specs.PeerRecords.{Snapshot, PeerRecord, ContestedKey, timeOf, flagOf, snapshotOf, peerOf, peerWords}
 use Rattle.demand.specs.PeerState.{isKnown, isHeld}
 use Rattle.demand.specs.PeerChanges.{holdEnded, notEnded, isFresh, isFreshSnapshot, isHeldPeer, agePeer}
 use Rattle.demand.specs.PeerSteps.{staysContested, isStale, staysPeer}
-use Rattle.demand.proofs.PeerRangeLaws.{any-map, any-same, any-only}
+use Rattle.demand.proofs.PeerRangeLaws.{any-same, any-only}
 use Rattle.demand.proofs.PeerTableLaws.{InOrder, any-at, any-gap}
 
 not-le : (a b : ℕ) → ltb a b ≡ not (leb b a)
@@ -26,19 +26,8 @@ not-le a b = split (ltb a b)
 
 -- ---- a contested key, by its peer's record
 
-last-first : (a b : Bool) → (a && b) ≡ (b && a)
-last-first false false = refl
-last-first false true = refl
-last-first true false = refl
-last-first true true = refl
-
 last-first-of-three : (a b c : Bool) → (a && (b && c)) ≡ (b && (c && a))
-last-first-of-three false false c = refl
-last-first-of-three false true false = refl
-last-first-of-three false true true = refl
-last-first-of-three true false c = refl
-last-first-of-three true true false = refl
-last-first-of-three true true true = refl
+last-first-of-three a b c = and-comm a (b && c) ∙ and-assoc b c a
 
 -- does a key stay whose peer is held so?
 abbrev pub staysBy : ℕ → Option ℕ → Bool → Bool
@@ -51,7 +40,7 @@ module _ (at id : ℕ) (ps : List PeerRecord) where
   known-is =
       any-only (λ (p : PeerRecord). eqb (p .id) id) (λ (p : PeerRecord). not (holdEnded at (p .heldUntil))) ps
       ∙ any-same (λ (p : PeerRecord). not (holdEnded at (p .heldUntil)) && eqb (p .id) id) (λ (p : PeerRecord). eqb (p .id) id && not (holdEnded at (p .heldUntil)))
-      (λ (p : PeerRecord). last-first (not (holdEnded at (p .heldUntil))) (eqb (p .id) id)) ps
+      (λ (p : PeerRecord). and-comm (not (holdEnded at (p .heldUntil))) (eqb (p .id) id)) ps
 
   held-is : isHeldPeer (notEnded at ps) id ≡ any (λ (p : PeerRecord). eqb (p .id) id && (isHeld p && not (holdEnded at (p .heldUntil)))) ps
   unfolding isHeldPeer

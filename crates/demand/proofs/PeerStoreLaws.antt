@@ -1,29 +1,26 @@
 -- Laws: a valid state in its tables, and what the tables hold after a departure and as time goes. Assumes nothing.
-use Prim.Native.Nat.{ℕ, zero, suc, _+_, _-_, _*_, _≤_, _<_}
+use Prim.Native.Nat.{ℕ, _*_, _≤_}
 use mathlib.Core.Path.{_≡_, refl, sym, ap, _∙_, subst}
-use mathlib.Core.Bool.{Bool, true, false, cond, not, _&&_, _||_}
-use mathlib.Core.List.{List, [], _∷_, _++_, map}
-use mathlib.Core.Option.{Option, none, some}
+use mathlib.Core.Bool.{Bool, true, cond}
+use mathlib.Core.List.{List, [], _∷_, map}
 use native.Mathlib.Nat.{mul-le-mul-right}
 use native.Mathlib.Omega.{arith}
 use borrow.Author.Tests.{leb-true, eq-eqb, ne-eqb}
-use lib.Dec.{ltb, leb, eqb}
-use lib.ListN.{length, take, drop, getD, length-map, length-take, length-drop}
-use Rattle.records.specs.Records.{records, key, before, leads, ascending, same}
-use Rattle.records.proofs.TestLaws.{contradiction, split, both, and-intro, same-truth}
+use lib.Dec.{leb, eqb}
+use lib.ListN.{length, length-map}
+use Rattle.records.specs.Records.{records, ascending}
+use Rattle.records.proofs.TestLaws.{both}
 use Rattle.records.proofs.RecordLaws.{length-records}
-use Rattle.records.proofs.OrderLaws.{before-trans}
-use Rattle.records.proofs.TableLaws.{Wide}
 use Rattle.demand.specs.declared.peer_demand.PeerDemand.{PeerDemand}
-use Rattle.demand.specs.PeerLists.{only, all, any, those, replaced, present}
-use Rattle.demand.specs.PeerRecords.{Snapshot, PeerRecord, SnapshotKey, ContestedKey, peerWords, snapshotKeyWords, contestedWords, peerOf, snapshotKeyOf, contestedOf}
-use Rattle.demand.specs.PeerState.{PeersState, PeerTables, maxPeers, maxDemandKeys, maxContested, peersSize, snapshotKeysSize, contestedSize, haveRoom, exact, areExact, valid, validPeers, validPeer, validSnapshotKeys, validSnapshotKey, validContesteds, validContested, stateOf, isValid, isTaken, isHeld, isKnown, hasSnapshot, Holds, Stores}
-use Rattle.demand.specs.PeerChanges.{forget, hold, holdPeer, leave, later, holdEnded, notEnded, expireHolds, expireAge, expire, agePeer, isLeft, isFresh, isFreshSnapshot, isHeldPeer, freshContested, freshPeers}
+use Rattle.demand.specs.PeerLists.{only, all, those, replaced}
+use Rattle.demand.specs.PeerRecords.{PeerRecord, SnapshotKey, ContestedKey, peerWords, snapshotKeyWords, contestedWords, peerOf, snapshotKeyOf, contestedOf}
+use Rattle.demand.specs.PeerState.{PeersState, PeerTables, maxPeers, maxDemandKeys, maxContested, peersSize, snapshotKeysSize, contestedSize, haveRoom, exact, areExact, valid, validPeers, validPeer, validSnapshotKeys, validSnapshotKey, validContesteds, validContested, stateOf, isValid, Holds, Stores}
+use Rattle.demand.specs.PeerChanges.{forget, hold, holdPeer, leave, later}
 use Rattle.demand.specs.PeerScan.{firstWord}
-use Rattle.demand.specs.PeerSteps.{inOrder, Valid, staysContested, staysPeer}
-use Rattle.demand.proofs.PeerWordLaws.{words-of-exact, contested-of-words, snapshot-key-of-words, peer-of-words}
-use Rattle.demand.proofs.PeerRangeLaws.{only-yes, only-no, only-same, only-only, map-only, any-map, any-only, replaced-words}
-use Rattle.demand.proofs.PeerTableLaws.{InOrder, in-order-says, in-order-intro, holds-more}
+use Rattle.demand.specs.PeerSteps.{inOrder, Valid}
+use Rattle.demand.proofs.PeerWordLaws.{words-of-exact}
+use Rattle.demand.proofs.PeerRangeLaws.{map-only, replaced-words}
+use Rattle.demand.proofs.PeerTableLaws.{in-order-intro, holds-more}
 
 -- ---- a table of a valid state
 

@@ -1,33 +1,29 @@
 -- Laws of the peers' tables: what a valid one is, and what it holds after records were taken out. Assumes nothing.
 use mathlib.Core.Path.{_≡_, refl, sym, ap, _∙_, subst}
 use mathlib.Core.Bool.{Bool, true, false, cond, _&&_, _||_, or-false}
-use mathlib.Core.List.{List, [], _∷_, _++_, map}
-use Prim.Native.Nat.{ℕ, zero, suc, _+_, _-_, _*_, _/_, _≤_, _<_}
+use mathlib.Core.List.{List, [], _∷_, map}
+use Prim.Native.Nat.{ℕ, suc, _+_, _-_, _*_, _/_, _≤_, _<_}
 use native.Mathlib.Nat.{zero-div, zero-mod, mul-le-mul-right}
 use native.Mathlib.Omega.{arith}
 use borrow.Author.Tests.{ltb-true, ltb-false, lt-ltb, le-ltb}
 use lib.Dec.{ltb, eqb}
 use lib.ListN.{length, drop, getD, take-append-drop}
-use lib.Seq.{drop-drop, length-slice, getD-take, getD-drop}
+use lib.Seq.{drop-drop, length-slice}
 use Rattle.records.specs.declared.Found.the-variants.{At, Gap, Unfit}
-use Rattle.records.specs.declared.Span.{Span}
 use Rattle.records.specs.declared.Span.the-variants.{Between, NoSpan}
-use Rattle.records.specs.Records.{records, flat, table, fits, keyed, ascending, lowerBound, find, findIn, rangeOf, rangeIn, splice, spliceable, spliced}
-use Rattle.records.proofs.TestLaws.{contradiction, split, both, and-intro}
-use Rattle.records.proofs.RecordLaws.{fits-pos, fits-le, fits-intro, row, length-records, record-at}
+use Rattle.records.specs.Records.{records, flat, table, keyed, ascending, lowerBound, find, findIn, rangeOf, rangeIn, splice, spliceable, spliced}
+use Rattle.records.proofs.TestLaws.{split, both, and-intro}
+use Rattle.records.proofs.RecordLaws.{fits-pos, fits-le, fits-intro, row, length-records}
 use Rattle.records.proofs.SpliceLaws.{splice-intro}
 use Rattle.records.proofs.OrderLaws.{Keyed, keyed-says, keyed-is}
-use Rattle.records.proofs.PlaceLaws.{range-within, at-says, find-cases}
-use Rattle.records.proofs.SearchLaws.{find-fit}
+use Rattle.records.proofs.PlaceLaws.{range-within, at-says}
 use Rattle.records.proofs.EditLaws.{length-splice}
 use Rattle.records.proofs.TableLaws.{Wide, wide-records, wide-splice, length-flat, records-table, drop-table, length-table}
-use Rattle.demand.specs.declared.peer_demand.PeerDemand.{PeerDemand}
 use Rattle.demand.specs.PeerLists.{any, those, replaced}
-use Rattle.demand.specs.PeerRecords.{PeerRecord, SnapshotKey, ContestedKey, peerWords, snapshotKeyWords, contestedWords, peerOf, snapshotKeyOf, contestedOf}
-use Rattle.demand.specs.PeerState.{PeersState, PeerTables, maxPeers, maxDemandKeys, maxContested, peersSize, snapshotKeysSize, contestedSize, haveRoom, exact, areExact, valid, validPeers, validSnapshotKeys, validContesteds, stateOf, isValid, Holds}
+use Rattle.demand.specs.PeerState.{Holds}
 use Rattle.demand.specs.PeerScan.{firstWord}
 use Rattle.demand.specs.PeerSteps.{inOrder}
-use Rattle.demand.proofs.PeerWordLaws.{words-of-exact}
+use Rattle.demand.proofs.PeerRowLaws.{find-says, never-unfit}
 use Rattle.demand.proofs.PeerRangeLaws.{range-ordered, those-range, replaced-splice, those-at, those-gap, replaced-at, replaced-gap, first-shape, word-before, any-map, any-same, any-those, any-number}
 
 -- ---- records in order
@@ -176,21 +172,11 @@ by-one w n xs e = ap (λ (b : Bool). b || inOrder w 2 n xs) e
 pub by-two : (w n : ℕ) (xs : List ℕ) → inOrder w 2 n xs ≡ true → (inOrder w 1 n xs || inOrder w 2 n xs) ≡ true
 by-two w n xs e = split (inOrder w 1 n xs) (by-one w n xs) (λ f. (λ k. f k || e k))
 
--- ---- a word of a record
-
-pub word-at : (w n i k : ℕ) (xs : List ℕ) → i < n → k < w → getD (getD (records w n xs) i []) k 0 ≡ getD xs (i * w + k) 0
-word-at w n i k xs h l = ap (λ (r : List ℕ). getD r k 0) (record-at w n xs i h) ∙ getD-take w (drop (i * w) xs) k 0 l ∙ getD-drop (i * w) xs k 0
-
-pub first-at : (w n i : ℕ) (xs : List ℕ) → i < n → 0 < w → getD (getD (records w n xs) i []) 0 0 ≡ getD xs (i * w) 0
-first-at w n i xs h l =
-    let z : i * w + 0 ≡ i * w = omega arith in
-    word-at w n i 0 xs h l ∙ ap (λ (m : ℕ). getD xs m 0) z
-
 -- ---- the one record with a number, by `find`
 
 module _ (w n a : ℕ) (xs : List ℕ) (o : InOrder w 1 n xs) where
   found-is : findIn w 1 n a 0 xs ≡ find 1 (a ∷ []) (records w n xs)
-  found-is = find-fit w 1 n a 0 xs (sym (keyed-is (length xs) w 1 n (λ e. omega arith) (o .keys .two-words) (o .keys .in-record)) ∙ o .keys .fit)
+  found-is = sym (find-says w 1 n a 0 xs (o .keys .some-words) (o .keys .two-words) (o .keys .in-record) (o .words) (findIn w 1 n a 0 xs) refl)
 
   pub found-inside : (i : ℕ) → At i ≡ findIn w 1 n a 0 xs → (i < n) × (i * w + w ≤ length xs)
   found-inside i e =
@@ -214,9 +200,7 @@ module _ (w n a : ℕ) (xs : List ℕ) (o : InOrder w 1 n xs) where
       ∙ take-append-drop i (records w n xs)
 
   pub found-fit : {P : Type 0} → Unfit ≡ findIn w 1 n a 0 xs → P
-  found-fit e = find-cases 1 (a ∷ []) (records w n xs)
-      (λ i q. let f : At i ≡ Unfit = sym q ∙ sym (e ∙ found-is) in let z : _≡_ {A = ℕ} 0 1 = cc in absurd (omega arith))
-      (λ i q. let f : Gap i ≡ Unfit = sym q ∙ sym (e ∙ found-is) in let z : _≡_ {A = ℕ} 0 1 = cc in absurd (omega arith))
+  found-fit e = absurd (never-unfit w 1 n a 0 xs (o .keys .some-words) (o .keys .two-words) (o .keys .in-record) (o .words) Unfit e refl)
 
   -- a test of it
   module _ {A : Type 0} (of : List ℕ → A) (number : A → ℕ) (same : (r : List ℕ) → number (of r) ≡ firstWord r) (p : A → Bool) where

@@ -39,6 +39,9 @@ fn move_record(t: &mut [u64], w: usize, from: usize, to: usize)
     requires { ⌜ (to ≤ from) × (from * w + w ≤ length (now t)) ⌝ }
     ensures { λ _. ⌜ now (t .exit) ≡ copyWithin (from * w) (from * w + w) (to * w) (now (t .entry)) ⌝ }
 {
+    if to == from {
+        return;
+    }
     let source = from * w;
     let target = to * w;
     let mut j = 0;

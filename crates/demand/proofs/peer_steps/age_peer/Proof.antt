@@ -1,17 +1,16 @@
 -- `age_peer` meets its contract: a stale record is written over by a bare one. Assumes nothing.
-use Prim.Native.Nat.{ℕ, _+_, _*_, _≤_, _<_}
+use Prim.Native.Nat.{ℕ, _+_, _*_}
 use mathlib.Core.Path.{_≡_, refl, sym, ap, _∙_, subst}
-use mathlib.Core.Bool.{Bool, true, false}
 use mathlib.Core.List.{List, [], _∷_}
 use native.Mathlib.Omega.{arith}
 use borrow.Author.Needs.{needs}
-use lib.ListN.{getD, length}
+use lib.ListN.{getD}
 use Rattle.records.specs.Records.{records, overwriteAt, overwritten}
 use Rattle.demand.specs.PeerRecords.{timeOf, snapshotOf, peerOf, peerWords}
 use Rattle.demand.specs.PeerState.{Holds}
 use Rattle.demand.specs.PeerChanges.{agePeer}
 use Rattle.demand.specs.PeerSteps.{isStale}
-use Rattle.demand.proofs.PeerTableLaws.{word-at, first-at}
+use Rattle.demand.proofs.PeerRowLaws.{word-at, first-at}
 use Rattle.demand.proofs.PeerKeepLaws.{holds-overwritten, holds-same}
 use Rattle.demand.proofs.PeerStayLaws.{stale-same, aged-not, aged-bare}
 use Rattle.demand.proofs.peer_steps.age_peer.Statement.{statement}
@@ -34,7 +33,7 @@ asked c =
     let x : List ℕ = here c in
     sym (c .is-stale .ensures
     ∙ stale-same (s .args .reading) (s .args .max-age) (getD xs (i * 12 + 1) 0) (getD x 2 0) (getD xs (i * 12 + 3) 0) (getD x 4 0) (getD x 5 0) (getD xs (i * 12 + 6) 0)
-    ∙ sym ((λ k. isStale (s .args .reading) (s .args .max-age) (timeOf (word-at 12 n i 1 xs (s .pre .1) (omega arith) k) (getD x 2 0)) (snapshotOf (word-at 12 n i 3 xs (s .pre .1) (omega arith) k) (getD x 4 0) (getD x 5 0) (word-at 12 n i 6 xs (s .pre .1) (omega arith) k)))))
+    ∙ sym ((λ k. isStale (s .args .reading) (s .args .max-age) (timeOf (word-at 12 n xs i 1 (s .pre .1) (omega arith) k) (getD x 2 0)) (snapshotOf (word-at 12 n xs i 3 (s .pre .1) (omega arith) k) (getD x 4 0) (getD x 5 0) (word-at 12 n xs i 6 (s .pre .1) (omega arith) k)))))
 
 mul-at : tie.Need-mul-at
 mul-at c = omega arith
@@ -98,7 +97,7 @@ returns c =
     let bare : List ℕ = getD xs (i * 12) 0 ∷ 0 ∷ 0 ∷ 0 ∷ 0 ∷ 0 ∷ 0 ∷ 0 ∷ 0 ∷ 0 ∷ 0 ∷ 0 ∷ [] in
     let e : peerWords (agePeer (s .args .reading) (s .args .max-age) (peerOf x)) ≡ bare =
     aged-bare (s .args .reading) (s .args .max-age) (peerOf x .id) (peerOf x .heldUntil) (peerOf x .snapshot) (peerOf x .pastEpochs) (asked a ∙ t .if1 .taken)
-    ∙ ap (λ (m : ℕ). m ∷ 0 ∷ 0 ∷ 0 ∷ 0 ∷ 0 ∷ 0 ∷ 0 ∷ 0 ∷ 0 ∷ 0 ∷ 0 ∷ []) (first-at 12 n i xs (s .pre .1) (omega arith)) in
+    ∙ ap (λ (m : ℕ). m ∷ 0 ∷ 0 ∷ 0 ∷ 0 ∷ 0 ∷ 0 ∷ 0 ∷ 0 ∷ 0 ∷ 0 ∷ 0 ∷ []) (first-at 12 n xs i (s .pre .1) (omega arith)) in
     subst (λ (ys : List ℕ). Holds 12 (n * 12) n (overwriteAt i (peerWords (agePeer (s .args .reading) (s .args .max-age) (peerOf x))) (records 12 n xs)) xs ys) (sym (o .overwrite .ensures .1))
     (subst (λ (r : List ℕ). Holds 12 (n * 12) n (overwriteAt i r (records 12 n xs)) xs (overwritten 12 n i bare xs)) (sym e)
     (holds-overwritten 12 n i bare xs (omega arith) (s .pre .0) (s .pre .1) refl))

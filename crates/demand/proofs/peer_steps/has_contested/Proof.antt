@@ -1,5 +1,5 @@
 -- `has_contested` meets its contract: the range of the peer's keys is not empty. Assumes nothing.
-use mathlib.Core.Path.{_≡_, sym, _∙_}
+use mathlib.Core.Path.{sym, _∙_}
 use native.Mathlib.Omega.{arith}
 use borrow.Author.Needs.{needs}
 use Rattle.demand.specs.PeerRecords.{contestedOf}

@@ -1,7 +1,7 @@
 -- `has_snapshot` meets its contract: the flag of the record that is found. Assumes nothing.
 use Prim.Native.Nat.{ℕ, zero, suc, _+_, _*_, _≤_, _<_}
 use mathlib.Core.Path.{_≡_, refl, sym, ap, _∙_}
-use mathlib.Core.Bool.{Bool, not}
+use mathlib.Core.Bool.{not}
 use mathlib.Core.List.{[]}
 use native.Mathlib.Omega.{arith}
 use borrow.Author.Needs.{needs}
@@ -12,7 +12,8 @@ use Rattle.records.specs.Records.{records}
 use Rattle.demand.specs.PeerRecords.{PeerRecord, snapshotOf, peerOf}
 use Rattle.demand.specs.PeerLists.{present}
 use Rattle.demand.specs.PeerState.{isTaken, hasSnapshot}
-use Rattle.demand.proofs.PeerTableLaws.{InOrder, in-order-says, word-at, found-inside, found-fit, any-at, any-gap}
+use Rattle.demand.proofs.PeerRowLaws.{word-at}
+use Rattle.demand.proofs.PeerTableLaws.{InOrder, in-order-says, found-inside, found-fit, any-at, any-gap}
 use Rattle.demand.proofs.peer_steps.has_snapshot.Statement.{statement}
 use Rattle.demand.proofs.peer_steps.has_snapshot.Tie as tie
 
@@ -64,7 +65,7 @@ returns c =
     let k = c .before in
     let s = start (at k) .args in
     let i : ℕ = k .before .found .given .0 .0 in
-    ap (λ (x : ℕ). not (eqb x 0)) (sym (word-at 12 (s .n) i 3 (s .peers .now) (inside k .0) (omega arith)))
+    ap (λ (x : ℕ). not (eqb x 0)) (sym (word-at 12 (s .n) (s .peers .now) i 3 (inside k .0) (omega arith)))
     ∙ flag-test (getD (getD (records 12 (s .n) (s .peers .now)) i []) 3 0) _ _ _
     ∙ sym (any-at 12 (s .n) (s .id) (s .peers .now) (ordered (at k)) peerOf (λ (p : PeerRecord). p .id) (λ r. refl) isTaken i (sym (k .before .found .given .1) ∙ at k .find .ensures))
 

@@ -1,12 +1,11 @@
 -- `hold_peer` meets its contract: two words of the record that is found. Assumes nothing.
-use Prim.Native.Nat.{ℕ, _+_, _*_, _≤_, _<_}
-use mathlib.Core.Path.{_≡_, sym, ap, _∙_}
-use mathlib.Core.List.{List, []}
+use Prim.Native.Nat.{_+_, _*_, _≤_, _<_}
+use mathlib.Core.Path.{_≡_, sym, _∙_}
 use native.Mathlib.Omega.{arith}
 use borrow.Author.Needs.{needs}
-use lib.ListN.{getD, length, set, length-set}
+use lib.ListN.{length, length-set}
 use Rattle.records.specs.declared.Found.the-variants.{At}
-use Rattle.records.specs.Records.{records, findIn}
+use Rattle.records.specs.Records.{findIn}
 use Rattle.demand.proofs.PeerTableLaws.{InOrder, in-order-says, found-inside, found-fit}
 use Rattle.demand.proofs.PeerHoldLaws.{held-at, held-gap}
 use Rattle.demand.proofs.peer_steps.hold_peer.Statement.{statement}

@@ -1,7 +1,7 @@
 -- `is_stale` meets its contract: case by case of the two flags. Assumes nothing.
 use Prim.Native.Nat.{ℕ, zero, suc}
 use mathlib.Core.Path.{_≡_, refl, sym, ap, _∙_}
-use mathlib.Core.Bool.{Bool, true, false, not}
+use mathlib.Core.Bool.{true, false, not}
 use native.Mathlib.Omega.{arith}
 use Rattle.demand.specs.PeerRecords.{timeOf, snapshotOf}
 use Rattle.demand.specs.PeerChanges.{isFresh}

@@ -1,17 +1,13 @@
 -- `keep_record` meets its contract. Assumes nothing.
-use Prim.Native.Nat.{ℕ, _+_, _*_, _≤_}
-use mathlib.Core.Path.{_≡_, refl, sym, ap, _∙_}
-use mathlib.Core.Bool.{Bool, true, false, cond}
-use mathlib.Core.List.{List}
+use Prim.Native.Nat.{_+_, _*_}
+use mathlib.Core.Path.{_≡_, sym, ap, _∙_}
+use mathlib.Core.Bool.{Bool, true, cond}
 use native.Mathlib.Omega.{arith}
 use borrow.Author.Needs.{needs}
-use lib.ListN.{length}
 use Rattle.records.proofs.RecordLaws.{count-le}
 use Rattle.records.specs.Words.{copyWithin}
 use Rattle.demand.proofs.peer_steps.keep_record.Statement.{statement}
 use Rattle.demand.proofs.peer_steps.keep_record.Tie as tie
-use Rattle.demand.proofs.peer_steps.keep_record.Reads as reads
-use Rattle.demand.proofs.peer_steps.keep_record.Lts as lts
 
 yes : {A : Type 0} (b : Bool) (x y : A) → b ≡ true → x ≡ cond b x y
 yes b x y e = sym (ap (λ (z : Bool). cond z x y) e)

@@ -1,12 +1,12 @@
--- `move_record` meets its contract: word by word, front to back. Assumes nothing.
+-- `move_record` meets its contract: nothing where the places are the same, else word by word, front to back. Assumes nothing.
 use mathlib.Core.List.{List}
-use Prim.Native.Nat.{ℕ, _+_, _-_, _*_, _≤_, _<_}
-use mathlib.Core.Path.{_≡_, refl, ap, _∙_}
+use Prim.Native.Nat.{ℕ, _+_, _-_, _*_, _≤_}
+use mathlib.Core.Path.{_≡_, refl, sym, ap, _∙_}
 use native.Mathlib.Nat.{mul-le-mul-right}
 use native.Mathlib.Omega.{arith}
-use borrow.Author.Needs.{needs}
 use lib.ListN.{length, getD, set, length-set}
-use Rattle.records.proofs.WordLaws.{down, down-zero, down-step, down-done}
+use Rattle.records.specs.Words.{copyWithin}
+use Rattle.records.proofs.WordLaws.{copy-here, down, down-zero, down-step, down-done}
 use Rattle.demand.proofs.peer_steps.move_record.Statement.{statement}
 use Rattle.demand.proofs.peer_steps.move_record.Tie as tie
 
@@ -17,14 +17,22 @@ Inv-loop t₀ w from to source target j₀ t j =
 abbrev μ-loop : tie.MeasureT-loop
 μ-loop t₀ w from to source target j₀ t j = w - j
 
+returns : tie.Need-returns Inv-loop μ-loop
+returns c =
+    let s = c .before .args in
+    let e : s .to ≡ s .from = c .if1 .taken in
+    sym (ap (λ (m : ℕ). copyWithin (s .from * s .w) (s .from * s .w + s .w) (m * s .w) (s .t .now)) e ∙ copy-here (s .from * s .w) (s .from * s .w + s .w) (s .t .now) (omega arith) (c .before .pre .1))
+
 mul-source : tie.Need-mul-source Inv-loop μ-loop
 mul-source c = omega arith
 
 mul-target : tie.Need-mul-target Inv-loop μ-loop
-mul-target c = omega (arith, mul-le-mul-right (c .args .w) (c .pre .0))
+mul-target c = omega (arith, mul-le-mul-right (c .before .args .w) (c .before .pre .0))
 
 loop-holds : tie.Need-loop-holds Inv-loop μ-loop
-loop-holds c = (refl, refl, mul-le-mul-right (c .args .w) (c .pre .0), c .pre .1, omega arith, refl, down-zero (c .args .from * c .args .w) (c .args .to * c .args .w) (c .args .t .now))
+loop-holds c =
+    let s = c .before in
+    (refl, refl, mul-le-mul-right (s .args .w) (s .pre .0), s .pre .1, omega arith, refl, down-zero (s .args .from * s .args .w) (s .args .to * s .args .w) (s .args .t .now))
 
 add-t : tie.Need-add-t Inv-loop μ-loop
 add-t c = omega arith
@@ -52,7 +60,7 @@ loop-less c = omega arith
 
 loop-again : tie.Need-loop-again Inv-loop μ-loop
 loop-again c =
-    let s = c .before .before .before .args in
+    let s = c .before .before .before .before .args in
     let l = c .before .before .loop in (
       refl,
       refl,
@@ -67,9 +75,9 @@ loop-again c =
 same-length : tie.Need-same-length Inv-loop μ-loop
 same-length c = omega arith
 
-returns : tie.Need-returns Inv-loop μ-loop
-returns c =
-    let s = c .before .before .args in
+returns-2 : tie.Need-returns-2 Inv-loop μ-loop
+returns-2 c =
+    let s = c .before .before .before .args in
     let l = c .before .loop in
     l .inv .6 ∙ down-done (s .from * s .w) (s .from * s .w + s .w) (s .to * s .w) (l .j) (s .t .now) (omega arith) (omega arith)
 
@@ -79,6 +87,7 @@ move-record-spec =
     (tie.spec
     Inv-loop
     μ-loop
+    returns
     mul-source
     mul-target
     loop-holds
@@ -92,4 +101,4 @@ move-record-spec =
     loop-less
     loop-again
     same-length
-    returns)
+    returns-2)

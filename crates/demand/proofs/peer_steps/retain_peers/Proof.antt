@@ -1,18 +1,17 @@
 -- `retain_peers` meets its contract: the invariant is `Kept`. Assumes nothing.
-use Prim.Native.Nat.{ℕ, _+_, _-_, _*_, _≤_, _<_}
-use mathlib.Core.Path.{_≡_, sym, ap, _∙_}
+use Prim.Native.Nat.{ℕ, _+_, _-_, _*_, _≤_}
+use mathlib.Core.Path.{ap, _∙_}
 use mathlib.Core.Bool.{Bool}
 use mathlib.Core.List.{List, [], map}
 use native.Mathlib.Omega.{arith}
 use lib.ListN.{length, getD}
 use Rattle.records.specs.Records.{records}
-use Rattle.demand.specs.PeerRecords.{peerOf, snapshotKeyOf, contestedOf, timeOf, flagOf}
-use Rattle.demand.specs.PeerState.{hasSnapshot, isTaken}
-use Rattle.demand.specs.PeerSteps.{staysContested, staysPeer}
+use Rattle.demand.specs.PeerRecords.{peerOf, contestedOf, timeOf, flagOf}
+use Rattle.demand.specs.PeerState.{isTaken}
+use Rattle.demand.specs.PeerSteps.{staysPeer}
 use Rattle.demand.specs.PeerRecords.{ContestedKey}
 use Rattle.demand.proofs.PeerStayLaws.{taken-flag}
 use Rattle.demand.proofs.PeerKeepLaws.{Kept, kept-none, kept-first, kept-word, kept-inside, kept-next, kept-all}
-use borrow.Author.Needs.{needs}
 use Rattle.demand.proofs.peer_steps.retain_peers.Statement.{statement}
 use Rattle.demand.proofs.peer_steps.retain_peers.Tie as tie
 

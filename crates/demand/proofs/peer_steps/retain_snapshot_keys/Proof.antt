@@ -1,16 +1,14 @@
 -- `retain_snapshot_keys` meets its contract: the invariant is `Kept`. Assumes nothing.
-use Prim.Native.Nat.{ℕ, _+_, _-_, _*_, _≤_, _<_}
-use mathlib.Core.Path.{_≡_, sym, ap, _∙_}
+use Prim.Native.Nat.{ℕ, _+_, _-_, _*_, _≤_}
+use mathlib.Core.Path.{ap, _∙_}
 use mathlib.Core.Bool.{Bool}
-use mathlib.Core.List.{List, [], map}
+use mathlib.Core.List.{List, map}
 use native.Mathlib.Omega.{arith}
-use lib.ListN.{length, getD}
+use lib.ListN.{length}
 use Rattle.records.specs.Records.{records}
-use Rattle.demand.specs.PeerRecords.{peerOf, snapshotKeyOf, contestedOf, timeOf, flagOf}
-use Rattle.demand.specs.PeerState.{hasSnapshot, isTaken}
-use Rattle.demand.specs.PeerSteps.{staysContested, staysPeer}
-use Rattle.demand.proofs.PeerKeepLaws.{Kept, kept-none, kept-first, kept-word, kept-inside, kept-next, kept-all}
-use borrow.Author.Needs.{needs}
+use Rattle.demand.specs.PeerRecords.{peerOf, snapshotKeyOf}
+use Rattle.demand.specs.PeerState.{hasSnapshot}
+use Rattle.demand.proofs.PeerKeepLaws.{Kept, kept-none, kept-first, kept-inside, kept-next, kept-all}
 use Rattle.demand.proofs.peer_steps.retain_snapshot_keys.Statement.{statement}
 use Rattle.demand.proofs.peer_steps.retain_snapshot_keys.Tie as tie
 

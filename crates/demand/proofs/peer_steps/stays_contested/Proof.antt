@@ -10,7 +10,8 @@ use Rattle.records.specs.declared.Found.the-variants.{At}
 use Rattle.records.specs.Records.{records, findIn}
 use Rattle.demand.specs.PeerRecords.{peerOf}
 use Rattle.demand.specs.PeerChanges.{isFresh}
-use Rattle.demand.proofs.PeerTableLaws.{InOrder, in-order-says, word-at, found-inside, found-fit}
+use Rattle.demand.proofs.PeerRowLaws.{word-at}
+use Rattle.demand.proofs.PeerTableLaws.{InOrder, in-order-says, found-inside, found-fit}
 use Rattle.demand.proofs.PeerStayLaws.{stays-at, stays-gap, held-stays, free-stays}
 use Rattle.demand.proofs.peer_steps.stays_contested.Statement.{statement}
 use Rattle.demand.proofs.peer_steps.stays_contested.Tie as tie
@@ -65,8 +66,8 @@ returns c =
     let s = start (at k) .args in
     let i : ℕ = k .before .found .given .0 .0 in
     let x : List ℕ = getD (records 12 (s .n) (s .peers .now)) i [] in
-    let w₁ : getD x 1 0 ≡ getD (s .peers .now) (i * 12 + 1) 0 = word-at 12 (s .n) i 1 (s .peers .now) (inside k .0) (omega arith) in
-    let w₂ : getD x 2 0 ≡ getD (s .peers .now) (i * 12 + 2) 0 = word-at 12 (s .n) i 2 (s .peers .now) (inside k .0) (omega arith) in
+    let w₁ : getD x 1 0 ≡ getD (s .peers .now) (i * 12 + 1) 0 = word-at 12 (s .n) (s .peers .now) i 1 (inside k .0) (omega arith) in
+    let w₂ : getD x 2 0 ≡ getD (s .peers .now) (i * 12 + 2) 0 = word-at 12 (s .n) (s .peers .now) i 2 (inside k .0) (omega arith) in
     ap (ltb (s .reading)) (sym w₂)
     ∙ held-stays (s .reading) (getD x 1 0) (getD x 2 0) (isFresh (s .reading) (s .max-age) (s .heard-at)) (λ e. c .before .if1 .taken (sym w₁ ∙ e))
     ∙ sym (stays-at (s .n) (s .id) (s .peers .now) (ordered (at k)) (s .reading) (s .max-age) (s .heard-at) i (place k))
@@ -87,7 +88,7 @@ returns-2 c =
     let s = start (at k) .args in
     let i : ℕ = k .before .found .given .0 .0 in
     let x : List ℕ = getD (records 12 (s .n) (s .peers .now)) i [] in
-    let w₁ : getD x 1 0 ≡ getD (s .peers .now) (i * 12 + 1) 0 = word-at 12 (s .n) i 1 (s .peers .now) (inside k .0) (omega arith) in
+    let w₁ : getD x 1 0 ≡ getD (s .peers .now) (i * 12 + 1) 0 = word-at 12 (s .n) (s .peers .now) i 1 (inside k .0) (omega arith) in
     c .is-fresh .ensures
     ∙ free-stays (s .reading) (getD x 1 0) (getD x 2 0) (isFresh (s .reading) (s .max-age) (s .heard-at)) (w₁ ∙ c .before .if1 .left)
     ∙ sym (stays-at (s .n) (s .id) (s .peers .now) (ordered (at k)) (s .reading) (s .max-age) (s .heard-at) i (place k))

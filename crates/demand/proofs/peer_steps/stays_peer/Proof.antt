@@ -1,8 +1,7 @@
 -- `stays_peer` meets its contract: case by case of the two flags. Assumes nothing.
-use mathlib.Core.Path.{_≡_, sym, _∙_}
+use mathlib.Core.Path.{sym, _∙_}
 use mathlib.Core.List.{List, map}
 use lib.Dec.{eqb}
-use borrow.Author.Needs.{needs}
 use Rattle.records.specs.Records.{records}
 use Rattle.demand.specs.PeerRecords.{ContestedKey, contestedOf}
 use Rattle.demand.proofs.PeerRangeLaws.{any-map}

@@ -1,6 +1,4 @@
 -- `expire_all` meets its contract: contested keys, then peers, then snapshot keys. Assumes nothing.
-use Prim.Native.Nat.{_*_, _≤_}
-use mathlib.Core.Path.{_≡_}
 use native.Mathlib.Omega.{arith}
 use borrow.Author.Needs.{needs}
 use Rattle.demand.specs.PeerState.{PeerTables, tables}

@@ -1,7 +1,6 @@
 -- `forget` meets its contract. Assumes nothing.
-use mathlib.Core.Path.{_≡_, sym, _∙_, subst}
 use borrow.Author.Needs.{needs}
-use Rattle.demand.specs.PeerState.{PeerTables, PeersState, tables, stateOf, Stores}
+use Rattle.demand.specs.PeerState.{PeerTables, tables}
 use Rattle.demand.specs.PeerChanges as changes
 use Rattle.demand.specs.PeerCalls.{peersQuestions}
 use Rattle.demand.specs.PeerSteps.{Valid}

@@ -1,6 +1,4 @@
 -- `forget_peer` meets its contract: its records are taken out of each table. Assumes nothing.
-use mathlib.Core.Path.{_≡_, ap}
-use mathlib.Core.Bool.{Bool, true, false, _||_}
 use borrow.Author.Needs.{needs}
 use Rattle.demand.specs.PeerState.{tables}
 use Rattle.demand.proofs.PeerTableLaws.{by-one, by-two}

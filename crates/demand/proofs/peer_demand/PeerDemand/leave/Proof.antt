@@ -1,14 +1,13 @@
 -- `leave` meets its contract. Assumes nothing.
 use Prim.Native.Nat.{ℕ, _*_}
-use mathlib.Core.Path.{ap}
-use mathlib.Core.List.{List, map}
+use mathlib.Core.List.{map}
 use Rattle.records.specs.Records.{records}
 use Rattle.demand.specs.PeerLists.{those, replaced}
 use Rattle.demand.specs.PeerRecords.{peerOf, peerWords}
 use Rattle.demand.specs.PeerState.{Holds}
 use Rattle.demand.specs.PeerScan.{firstWord}
 use Rattle.demand.proofs.PeerStoreLaws.{Tables, tables-of, held-peer-stores, leaves-held, leaves-now}
-use mathlib.Core.Path.{_≡_, sym, _∙_, subst}
+use mathlib.Core.Path.{sym, subst}
 use borrow.Author.Needs.{needs}
 use Rattle.demand.specs.PeerState.{PeerTables, PeersState, tables, stateOf, Stores}
 use Rattle.demand.specs.PeerChanges as changes
