@@ -1,4 +1,4 @@
--- Alpha is exact: a whole number of parts, at most S, over S. Assumes nothing.
+-- Alpha is exact: a whole number of parts, at most S, over S.
 use mathlib.Core.Path.{_≡_, refl, sym, ap, _∙_}
 use mathlib.Core.Bool.{Bool, true, false, cond}
 use Prim.Native.Nat.{ℕ, zero, suc, _-_, _*_, _/_, _%_, _^_, _≤_, _<_, zero-le}

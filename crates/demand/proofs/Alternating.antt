@@ -1,4 +1,4 @@
--- The alternating sums of a series whose terms fall, and that each times the sum of exp is nearly 1. Assumes nothing.
+-- The alternating sums of a series whose terms fall, and that each times the sum of exp is nearly 1.
 use mathlib.Core.Path.{_≡_, refl, sym, ap, _∙_, subst}
 use mathlib.Core.Bool.{Bool, true, false, not, cond, true≢false}
 use Prim.Native.Nat.{ℕ, zero, suc, _+_, _-_, _*_, _≤_, _<_, zero-le}

@@ -1,4 +1,4 @@
--- A call's answer, question by question. Assumes nothing.
+-- A call's answer, question by question.
 use mathlib.Core.Path.{_≡_, sym, ap, _∙_}
 use mathlib.Core.Bool.{Bool, true, false, not}
 use mathlib.Core.List.{List, [], _∷_}

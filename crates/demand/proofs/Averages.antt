@@ -1,4 +1,4 @@
--- The steps of `Demand::ticked` and `Demand::unbiased`, case by case. Assumes nothing.
+-- The steps of `Demand::ticked` and `Demand::unbiased`, case by case.
 use mathlib.Core.Path.{_≡_, sym, ap, _∙_}
 use mathlib.Core.Bool.{true, false}
 use Prim.Native.Nat.{ℕ, _-_, _≤_, _<_}

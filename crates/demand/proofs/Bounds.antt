@@ -1,4 +1,4 @@
--- Bounds on products, over variables alone. Each is a sum of the given bounds times something, once both sides are written as sums of products. Assumes nothing.
+-- Bounds on products, over variables alone. Each is a sum of the given bounds times something, once both sides are written as sums of products.
 use mathlib.Core.Path.{_≡_, ap}
 use Prim.Native.Nat.{ℕ, zero, _+_, _*_, _≤_, _<_}
 use native.Mathlib.Nat.{mul-assoc, mul-comm, mul-left-comm, mul-add, add-mul, mul-one, one-mul, mul-le-mul, mul-le-mul-left, mul-le-mul-right, le-of-mul-le-mul-right}

@@ -1,4 +1,4 @@
--- Finite sums and convolutions of sequences of whole numbers. Assumes nothing.
+-- Finite sums and convolutions of sequences of whole numbers.
 use mathlib.Core.Path.{_≡_, refl, sym, ap, _∙_}
 use Prim.Native.Nat.{ℕ, zero, suc, _+_, _*_, _≤_, _<_, zero-le}
 use native.Mathlib.Nat.{le-refl, le-trans, le-of-eq, le-add-right, add-le-add, mul-le-mul-left, mul-add, add-mul, mul-assoc, mul-left-comm, one-mul, zero-mul, mul-zero, add-zero, zero-add, suc-add, suc-mul}

@@ -1,4 +1,4 @@
--- Long division: a quotient y of r * P by c with its rest, and one digit more of it. Assumes nothing.
+-- Long division: a quotient y of r * P by c with its rest, and one digit more of it.
 use mathlib.Core.Path.{_≡_, sym, ap, _∙_}
 use Prim.Native.Nat.{ℕ, zero, _+_, _-_, _*_, _/_, _%_, _≤_, _<_}
 use native.Mathlib.Nat.{le-trans, le-of-eq, le-of-lt, lt-mul-div-succ, mul-right-comm, div-lt-iff-lt-mul, mul-lt-mul-of-pos-right, mul-assoc, mul-comm, mul-add, add-mul, div-add-mod', mod-lt}

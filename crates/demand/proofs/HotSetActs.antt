@@ -1,4 +1,4 @@
--- What a hot set that passed its questions does: each way through `evict`, `promote`, `cool` and `update_with`. Assumes nothing.
+-- What a hot set that passed its questions does: each way through `evict`, `promote`, `cool` and `update_with`.
 use mathlib.Core.Path.{_≡_, refl, sym, ap, _∙_, subst}
 use mathlib.Core.Bool.{Bool, true, false, cond, _||_}
 use mathlib.Core.List.{List, map}

@@ -1,4 +1,4 @@
--- A call's answer by the first of its questions that is answered 'no', and what a hot set that passes them is. Assumes nothing.
+-- A call's answer by the first of its questions that is answered 'no', and what a hot set that passes them is.
 use Prim.Native.Nat.{ℕ, _*_, _≤_, _<_}
 use native.Mathlib.Omega.{arith}
 use mathlib.Core.Path.{_≡_, refl, sym, ap, _∙_}

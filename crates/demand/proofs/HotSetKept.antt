@@ -1,4 +1,4 @@
--- What the map's operations keep: entries that ascend, with demands that are finite and have a clear sign bit. Assumes nothing.
+-- What the map's operations keep: entries that ascend, with demands that are finite and have a clear sign bit.
 use mathlib.Core.Path.{_≡_, refl, sym, ap, _∙_, subst}
 use mathlib.Core.Bool.{Bool, true, false, cond}
 use mathlib.Core.List.{List, [], _∷_, map}

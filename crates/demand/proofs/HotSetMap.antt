@@ -1,4 +1,4 @@
--- The map of keys on ascending entries: where a key is, and what a search, an insertion and a removal of records do to it. Assumes nothing.
+-- The map of keys on ascending entries: where a key is, and what a search, an insertion and a removal of records do to it.
 use mathlib.Core.Path.{_≡_, refl, sym, ap, _∙_}
 use mathlib.Core.Bool.{Bool, true, false, cond}
 use mathlib.Core.List.{List, [], _∷_, _++_, map}

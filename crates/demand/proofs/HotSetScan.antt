@@ -1,4 +1,4 @@
--- The two passes over the entries: is each of them valid, and which is the weakest. Assumes nothing.
+-- The two passes over the entries: is each of them valid, and which is the weakest.
 use mathlib.Core.Path.{_≡_, refl, sym, ap, _∙_}
 use mathlib.Core.Bool.{Bool, true, false, cond, _&&_, _||_}
 use mathlib.Core.List.{List, [], _∷_}

@@ -1,4 +1,4 @@
--- The small tests of the hot set. Assumes nothing.
+-- The small tests of the hot set.
 use mathlib.Core.Path.{_≡_, refl, sym, ap, _∙_}
 use mathlib.Core.Bool.{Bool, true, false, cond}
 use mathlib.Core.List.{List}

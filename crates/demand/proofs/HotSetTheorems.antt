@@ -1,5 +1,5 @@
 -- What an update keeps, whatever its arguments: a hot set that passes its questions passes them again, it never holds more keys than its
--- size, and the answer says whether the key is in it. And 01's points of an eviction. Assumes nothing.
+-- size, and the answer says whether the key is in it. And 01's points of an eviction.
 use mathlib.Core.Path.{_≡_, refl, sym, ap, _∙_, subst}
 use mathlib.Core.Bool.{Bool, true, false, cond, _||_}
 use mathlib.Core.List.{List, [], _∷_, map}

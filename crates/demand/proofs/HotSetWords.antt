@@ -1,4 +1,4 @@
--- Entries and their words: there and back, and records of entries in lent words. Assumes nothing.
+-- Entries and their words: there and back, and records of entries in lent words.
 use mathlib.Core.Path.{_≡_, refl, sym, ap, _∙_}
 use mathlib.Core.Bool.{Bool, true, false, _&&_, _||_}
 use mathlib.Core.List.{List, [], _∷_, _++_, map}

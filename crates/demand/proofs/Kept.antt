@@ -1,4 +1,4 @@
--- A tick keeps the rate finite with a clear sign bit: attempts per second are at most 2 ^ 94, and what is kept of the rate leaves room for that. Assumes nothing.
+-- A tick keeps the rate finite with a clear sign bit: attempts per second are at most 2 ^ 94, and what is kept of the rate leaves room for that.
 use mathlib.Core.Path.{_≡_, refl, sym, ap, _∙_, subst}
 use mathlib.Core.Logic.{inl, inr}
 use mathlib.Core.Bool.{Bool, true, false, cond, true≢false}

@@ -1,4 +1,4 @@
--- The float literals of the code are whole numbers. Assumes nothing.
+-- The float literals of the code are whole numbers.
 use mathlib.Core.Path.{_≡_, refl}
 use lib.Ieee.{binary64, ofBits, ofInt}
 use Rattle.demand.specs.Estimator.{whole}

@@ -1,4 +1,4 @@
--- D lies within 64 of S * exp(-e / c). Assumes nothing.
+-- D lies within 64 of S * exp(-e / c).
 use mathlib.Core.Path.{_≡_, refl, sym, ap, _∙_, subst}
 use mathlib.Core.Bool.{Bool, true, false, cond}
 use Prim.Native.Nat.{ℕ, zero, suc, _+_, _-_, _*_, _/_, _%_, _^_, _≤_, _<_, zero-le}

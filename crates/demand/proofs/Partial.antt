@@ -1,4 +1,4 @@
--- The sums of the series of exp(-r / c), each over its own denominator. Assumes nothing.
+-- The sums of the series of exp(-r / c), each over its own denominator.
 use Prim.Native.Nat.{ℕ, zero, suc, _+_, _-_, _*_, _^_, _≤_}
 use native.Mathlib.Nat.{le-trans, le-add-left, mul-le-mul, mul-le-mul-right, pow-zero, pow-suc}
 use native.Mathlib.Omega.{arith}

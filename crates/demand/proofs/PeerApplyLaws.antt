@@ -1,4 +1,4 @@
--- Laws: what a report that passed its questions finds in the tables, and what they hold after it. Assumes nothing.
+-- Laws: what a report that passed its questions finds in the tables, and what they hold after it.
 use mathlib.Core.Path.{_≡_, refl, sym, ap, _∙_}
 use mathlib.Core.Bool.{Bool, true, false, cond, _||_}
 use mathlib.Core.List.{List, [], _∷_, _++_, map}

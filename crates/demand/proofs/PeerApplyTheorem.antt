@@ -1,4 +1,4 @@
--- Theorem: a report that passed its questions leaves the peers' state valid. Assumes nothing.
+-- Theorem: a report that passed its questions leaves the peers' state valid.
 use mathlib.Core.Path.{_≡_, refl, sym, ap, _∙_, subst}
 use mathlib.Core.Bool.{Bool, true, false, cond, _&&_, _||_}
 use mathlib.Core.List.{List, [], _∷_, _++_}

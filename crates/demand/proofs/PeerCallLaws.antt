@@ -1,4 +1,4 @@
--- Laws: a call's answer by the number of its first 'no'. Assumes nothing.
+-- Laws: a call's answer by the number of its first 'no'.
 use Prim.Native.Nat.{ℕ, zero, suc}
 use mathlib.Core.Path.{_≡_, refl, sym, ap, _∙_}
 use mathlib.Core.Bool.{Bool, cond}

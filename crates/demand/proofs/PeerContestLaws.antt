@@ -1,4 +1,4 @@
--- Laws: the contested keys of one peer, merged with those of a report and trimmed. Assumes nothing.
+-- Laws: the contested keys of one peer, merged with those of a report and trimmed.
 use mathlib.Core.Path.{_≡_, refl, sym, ap, _∙_, subst}
 use mathlib.Core.Bool.{Bool, true, false, cond, _||_}
 use mathlib.Core.List.{List, [], _∷_, map}

@@ -1,4 +1,4 @@
--- The order of demands is that of their bit patterns: IEEE 754's fields of a number with a clear sign bit rise with it. Assumes nothing.
+-- The order of demands is that of their bit patterns: IEEE 754's fields of a number with a clear sign bit rise with it.
 use Prim.Native.Nat.{ℕ, zero, suc, _+_, _-_, _*_, _/_, _%_, _^_, _≤_, _<_}
 use mathlib.Core.Path.{_≡_, sym, ap, _∙_, subst}
 use mathlib.Core.Logic.{inl, inr}

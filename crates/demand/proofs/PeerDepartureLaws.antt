@@ -1,4 +1,4 @@
--- Laws: a departure and expiry keep the state valid. Assumes nothing.
+-- Laws: a departure and expiry keep the state valid.
 use Prim.Native.Nat.{ℕ, suc, _+_, _*_, _^_, _≤_}
 use mathlib.Core.Path.{_≡_, refl, sym, ap, _∙_, subst}
 use mathlib.Core.Bool.{Bool, true, false, cond, not, _&&_, _||_, and-comm, and-not-self}

@@ -1,4 +1,4 @@
--- Laws: what is left of a state as time goes, one test a record, and the tables that hold it. Assumes nothing.
+-- Laws: what is left of a state as time goes, one test a record, and the tables that hold it.
 use Prim.Native.Nat.{ℕ, suc, _*_, _≤_}
 use mathlib.Core.Path.{_≡_, refl, sym, ap, _∙_, subst}
 use mathlib.Core.Bool.{Bool, true, false, cond, not, _&&_, _||_}

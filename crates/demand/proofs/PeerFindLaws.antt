@@ -1,4 +1,4 @@
--- Searches of tables that ascend: the peer with an id, and how many keys a peer has. Assumes nothing.
+-- Searches of tables that ascend: the peer with an id, and how many keys a peer has.
 use Prim.Native.Nat.{ℕ, _+_, _-_, _≤_, _<_}
 use mathlib.Core.Path.{_≡_, refl, sym, ap, _∙_, subst}
 use mathlib.Core.Bool.{Bool, true, false, _&&_, and-false}

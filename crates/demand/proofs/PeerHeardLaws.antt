@@ -1,4 +1,4 @@
--- What lookups of the tables say of a key. Assumes nothing.
+-- What lookups of the tables say of a key.
 use Prim.Native.Nat.{ℕ, zero, suc, _+_, _-_, _*_, _^_, _<_}
 use mathlib.Core.Path.{_≡_, refl, sym, ap, _∙_}
 use mathlib.Core.Bool.{Bool, true, false, cond, not, _&&_, _||_}

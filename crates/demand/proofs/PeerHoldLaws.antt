@@ -1,4 +1,4 @@
--- Laws: records changed one after the other, and a peer's record with a hold. Assumes nothing.
+-- Laws: records changed one after the other, and a peer's record with a hold.
 use Prim.Native.Nat.{ℕ, zero, suc, _+_, _*_, _≤_, _<_, zero-le}
 use mathlib.Core.Path.{_≡_, refl, sym, ap, _∙_}
 use mathlib.Core.Bool.{true}

@@ -1,4 +1,4 @@
--- Laws: records kept by a test, moved to the front one after the other; and records written over. Assumes nothing.
+-- Laws: records kept by a test, moved to the front one after the other; and records written over.
 use mathlib.Core.Path.{_≡_, refl, sym, ap, _∙_, subst}
 use mathlib.Core.Bool.{Bool, true, false, cond}
 use mathlib.Core.List.{List, [], _∷_, _++_, append-nil}

@@ -1,4 +1,4 @@
--- Laws: a report that passed its questions keeps the peers' state valid. Assumes nothing.
+-- Laws: a report that passed its questions keeps the peers' state valid.
 use mathlib.Core.Path.{_≡_, refl, sym, ap, _∙_}
 use mathlib.Core.Bool.{Bool, true, false, not, _&&_, _||_}
 use mathlib.Core.Logic.{_⊎_, inl, inr, ⊎-elim}

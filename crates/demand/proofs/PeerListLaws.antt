@@ -1,4 +1,4 @@
--- Lists by a test: through a map, from an index on, and by what holds at each index. Assumes nothing.
+-- Lists by a test: through a map, from an index on, and by what holds at each index.
 use Prim.Native.Nat.{ℕ, zero, suc, _-_, _≤_, _<_, zero-le, suc-le-suc}
 use mathlib.Core.Path.{_≡_, refl, ap, _∙_}
 use mathlib.Core.Bool.{Bool, true, false, cond, _&&_, _||_}

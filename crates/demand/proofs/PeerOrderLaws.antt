@@ -1,4 +1,4 @@
--- Laws: lists by a test, and records that ascend, when some are replaced. Assumes nothing.
+-- Laws: lists by a test, and records that ascend, when some are replaced.
 use mathlib.Core.Path.{_≡_, refl, sym, ap, _∙_}
 use mathlib.Core.Bool.{Bool, true, _&&_}
 use mathlib.Core.List.{List, [], _∷_, _++_}

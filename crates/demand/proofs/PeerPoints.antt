@@ -1,4 +1,4 @@
--- Closed points of the peers' definitions: 01's, and a run of one peer as peer_demand.rs has it. Assumes nothing.
+-- Closed points of the peers' definitions: 01's, and a run of one peer as peer_demand.rs has it.
 use Prim.Native.Nat.{ℕ, _^_, _-_}
 use mathlib.Core.Path.{_≡_, refl}
 use mathlib.Core.Bool.{Bool, true, false}

@@ -1,4 +1,4 @@
--- Laws: where records ascend, those with a number, those before it and those after it are ranges. Assumes nothing.
+-- Laws: where records ascend, those with a number, those before it and those after it are ranges.
 use mathlib.Core.Path.{_≡_, refl, sym, ap, _∙_, subst}
 use mathlib.Core.Bool.{Bool, true, false, cond, not, _&&_, _||_, and-true}
 use mathlib.Core.List.{List, [], _∷_, _++_, map}

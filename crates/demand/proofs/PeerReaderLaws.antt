@@ -1,4 +1,4 @@
--- What a valid state says of a key, by its words. Assumes nothing.
+-- What a valid state says of a key, by its words.
 use Prim.Native.Nat.{ℕ, zero, suc, _+_, _-_, _*_, _^_, _≤_, _<_}
 use mathlib.Core.Path.{_≡_, refl, sym, ap, _∙_}
 use mathlib.Core.Bool.{Bool, true, false, cond, not, _&&_, _||_}

@@ -1,4 +1,4 @@
--- Laws: a peer by its words, and what a report does to it. Assumes nothing.
+-- Laws: a peer by its words, and what a report does to it.
 use mathlib.Core.Path.{_≡_, refl, sym, ap, _∙_, subst}
 use mathlib.Core.Bool.{Bool, true, false, cond, not, _&&_, _||_}
 use mathlib.Core.List.{List, [], _∷_, _++_, map}

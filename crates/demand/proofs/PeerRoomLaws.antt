@@ -1,4 +1,4 @@
--- Question 1 of the peers' tables. Assumes nothing.
+-- Question 1 of the peers' tables.
 use Prim.Native.Nat.{ℕ, _<_, _≤_}
 use mathlib.Core.Path.{_≡_, sym, _∙_, ap}
 use mathlib.Core.Bool.{Bool, true, false, cond, _&&_}

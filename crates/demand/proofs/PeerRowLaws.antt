@@ -1,4 +1,4 @@
--- The records of a table by the words at their places, and a scan of them record by record. Assumes nothing.
+-- The records of a table by the words at their places, and a scan of them record by record.
 use Prim.Native.Nat.{ℕ, suc, _+_, _-_, _*_, _^_, _≤_, _<_}
 use mathlib.Core.Path.{_≡_, refl, sym, ap, _∙_}
 use mathlib.Core.Bool.{Bool, true, false, _&&_, _||_}

@@ -1,4 +1,4 @@
--- Laws: records that share a first word, replaced, loaded and put by the functions on words. Assumes nothing.
+-- Laws: records that share a first word, replaced, loaded and put by the functions on words.
 use mathlib.Core.Path.{_≡_, refl, sym, ap, _∙_, subst}
 use mathlib.Core.Bool.{Bool, true, cond}
 use mathlib.Core.List.{List, [], _∷_, append-nil}

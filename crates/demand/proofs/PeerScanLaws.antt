@@ -1,4 +1,4 @@
--- Question 2 asked word by word is question 2. Assumes nothing.
+-- Question 2 asked word by word is question 2.
 use Prim.Native.Nat.{ℕ, zero, suc, _+_, _-_, _^_, _≤_, _<_}
 use mathlib.Core.Path.{_≡_, refl, sym, ap, _∙_}
 use mathlib.Core.Bool.{Bool, true, false, cond, _&&_, _||_, and-true, and-false, and-assoc, and-comm}

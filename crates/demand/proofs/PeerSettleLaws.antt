@@ -1,4 +1,4 @@
--- Laws: which verdict a report meets, and what the state is after it. Assumes nothing.
+-- Laws: which verdict a report meets, and what the state is after it.
 use mathlib.Core.Path.{_≡_, refl, sym, ap, _∙_, subst}
 use mathlib.Core.Bool.{Bool, true, false, cond, _&&_}
 use mathlib.Core.List.{List, [], _∷_, _++_, map}

@@ -1,4 +1,4 @@
--- Laws: what stays of the peers' state as time goes, by the words of its records. Assumes nothing.
+-- Laws: what stays of the peers' state as time goes, by the words of its records.
 use Prim.Native.Nat.{ℕ, zero, suc}
 use mathlib.Core.Path.{_≡_, refl, sym, ap, _∙_}
 use mathlib.Core.Bool.{Bool, true, false, cond, not, _&&_, _||_, and-comm, and-assoc}

@@ -1,4 +1,4 @@
--- Laws of scans over words and records, one step at a time. Assumes nothing.
+-- Laws of scans over words and records, one step at a time.
 use mathlib.Core.Path.{_≡_, refl, sym, ap, _∙_}
 use mathlib.Core.Bool.{Bool, true, false, cond, _&&_, _||_, or-false}
 use mathlib.Core.List.{List, [], _∷_, map}

@@ -1,4 +1,4 @@
--- Laws: a valid state in its tables, and what the tables hold after a departure and as time goes. Assumes nothing.
+-- Laws: a valid state in its tables, and what the tables hold after a departure and as time goes.
 use Prim.Native.Nat.{ℕ, _*_, _≤_}
 use mathlib.Core.Path.{_≡_, refl, sym, ap, _∙_, subst}
 use mathlib.Core.Bool.{Bool, true, cond}

@@ -1,4 +1,4 @@
--- Laws of the peers' tables: what a valid one is, and what it holds after records were taken out. Assumes nothing.
+-- Laws of the peers' tables: what a valid one is, and what it holds after records were taken out.
 use mathlib.Core.Path.{_≡_, refl, sym, ap, _∙_, subst}
 use mathlib.Core.Bool.{Bool, true, false, cond, _&&_, _||_, or-false}
 use mathlib.Core.List.{List, [], _∷_, map}

@@ -1,4 +1,4 @@
--- Laws: a report taken or contested, by the words of the tables. Assumes nothing.
+-- Laws: a report taken or contested, by the words of the tables.
 use mathlib.Core.Path.{_≡_, refl, sym, ap, _∙_, subst}
 use mathlib.Core.Bool.{Bool, true, false, cond, not, _||_}
 use mathlib.Core.List.{List, [], _∷_, _++_, map}

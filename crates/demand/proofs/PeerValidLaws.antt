@@ -1,4 +1,4 @@
--- Question 2 of the whole tables is their scan, where they have room. Assumes nothing.
+-- Question 2 of the whole tables is their scan, where they have room.
 use Prim.Native.Nat.{ℕ, zero, suc, _-_, _*_, _^_, _≤_, _<_}
 use mathlib.Core.Path.{_≡_, refl, sym, ap, _∙_}
 use mathlib.Core.Bool.{Bool, true, false, cond, _&&_, and-true, and-assoc}

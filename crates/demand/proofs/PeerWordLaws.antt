@@ -1,4 +1,4 @@
--- Records and their words: each is the other's inverse where it should be. Assumes nothing.
+-- Records and their words: each is the other's inverse where it should be.
 use Prim.Native.Nat.{ℕ, _≤_}
 use mathlib.Core.Path.{_≡_, refl, ap, _∙_}
 use mathlib.Core.Bool.{Bool, true, false}

@@ -1,4 +1,4 @@
--- The terms of exp(x / c) over one denominator, and that the sums of two such series multiply as exp does. Assumes nothing.
+-- The terms of exp(x / c) over one denominator, and that the sums of two such series multiply as exp does.
 use mathlib.Core.Path.{_≡_, refl, sym, ap, _∙_, subst}
 use mathlib.Core.Bool.{cond}
 use mathlib.Core.Logic.{inl, inr}

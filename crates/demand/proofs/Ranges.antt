@@ -1,4 +1,4 @@
--- Floats that are finite with a clear sign bit, between fractions: what one rounding, a product, a sum and a quotient of them lie between. Assumes nothing.
+-- Floats that are finite with a clear sign bit, between fractions: what one rounding, a product, a sum and a quotient of them lie between.
 use mathlib.Core.Path.{_≡_, refl, sym, ap, _∙_, subst}
 use Prim.Native.Nat.{ℕ, suc, _+_, _*_, _^_, _≤_, _<_}
 use native.Mathlib.Nat.{le-trans, le-of-eq, le-of-lt, lt-irrefl, lt-of-lt-of-le, mul-pos, mul-le-mul, mul-le-mul-right, mul-mul-mul-comm, le-of-mul-le-mul-right, mul-comm, zero-mul, pos-of-ne-zero}

@@ -1,4 +1,4 @@
--- The alternating sums up to the terms 20 and 21 are nearly the reciprocal of the sums of exp(r / c), for an r of at most c. Assumes nothing.
+-- The alternating sums up to the terms 20 and 21 are nearly the reciprocal of the sums of exp(r / c), for an r of at most c.
 use mathlib.Core.Path.{_≡_, refl, sym, ap, _∙_, subst}
 use mathlib.Core.Bool.{Bool, true, false, not, cond}
 use Prim.Native.Nat.{ℕ, zero, suc, _+_, _-_, _*_, _≤_, _<_}

@@ -1,4 +1,4 @@
--- P is near the sums of the series of exp(-r / c): the terms, and their sum, each with its error. Assumes nothing.
+-- P is near the sums of the series of exp(-r / c): the terms, and their sum, each with its error.
 use mathlib.Core.Path.{_≡_, sym}
 use Prim.Native.Nat.{ℕ, zero, suc, _+_, _-_, _*_, _/_, _^_, _≤_, _<_}
 use native.Mathlib.Nat.{le-trans, le-of-eq, le-of-lt, add-zero, mul-suc, mul-le-mul, mul-le-mul-left, mul-le-mul-right, pow-zero, pow-suc, sub-add-cancel, div-mul-le-self}

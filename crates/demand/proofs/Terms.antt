@@ -1,4 +1,4 @@
--- The terms of the series fall, and from one that is 0 on the sum stays. Assumes nothing.
+-- The terms of the series fall, and from one that is 0 on the sum stays.
 use mathlib.Core.Path.{_≡_, refl, sym, ap, _∙_}
 use Prim.Native.Nat.{ℕ, zero, suc, _+_, _-_, _*_, _/_, _≤_, _<_}
 use native.Mathlib.Nat.{le-refl, le-trans, le-of-eq, le-add-left, mul-le-mul-left, mul-le-mul-right, mul-comm, zero-mul, zero-div, zero-add, suc-add, div-le-of-le-mul}

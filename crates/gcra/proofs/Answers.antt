@@ -1,4 +1,4 @@
--- A call's answer, by what its questions were answered. Assumes nothing.
+-- A call's answer, by what its questions were answered.
 use Prim.Native.Nat.{ℕ}
 use mathlib.Core.Path.{_≡_}
 use mathlib.Core.Bool.{Bool, true, false}

@@ -1,4 +1,4 @@
--- A debt that is carried over keeps its slots: five roundings each within one part in 2^53, and one to a whole number. Assumes nothing.
+-- A debt that is carried over keeps its slots: five roundings each within one part in 2^53, and one to a whole number.
 use Prim.Native.Nat.{ℕ, zero, suc, _+_, _-_, _*_, _/_, _^_, _≤_, _<_, min}
 use mathlib.Core.Path.{_≡_, refl, sym, ap, _∙_, subst}
 use mathlib.Core.Logic.{inl, inr}

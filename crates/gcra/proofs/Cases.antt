@@ -1,4 +1,4 @@
--- Joined and negated tests, taken apart. Assumes nothing.
+-- Joined and negated tests, taken apart.
 use mathlib.Core.Path.{_≡_, refl, sym, _∙_}
 use mathlib.Core.Bool.{Bool, true, false, not, _&&_, false≢true}
 use borrow.Author.Tests.{not-true, not-false}

@@ -1,4 +1,4 @@
--- One check, by how it was decided. Assumes nothing.
+-- One check, by how it was decided.
 use Prim.Native.Nat.{ℕ, _+_, _-_, _^_, _≤_, _<_, min, max}
 use mathlib.Core.Path.{_≡_, refl, sym, ap, _∙_}
 use mathlib.Core.Bool.{true, false, true≢false, false≢true}

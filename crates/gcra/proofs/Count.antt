@@ -1,5 +1,5 @@
 -- The quoted ceiling holds: of the checks of one Gcra, whatever the order of their readings, those allowed with readings from s to s + w number at most burst + w / T.
--- Each allowed check in the window moves the TAT by T, from s on, and none moves it past s + w + T * burst. Assumes nothing.
+-- Each allowed check in the window moves the TAT by T, from s on, and none moves it past s + w + T * burst.
 use Prim.Native.Nat.{ℕ, zero, suc, _+_, _-_, _*_, _/_, _^_, _≤_, _<_, max}
 use mathlib.Core.Path.{_≡_, refl, ap, _∙_}
 use mathlib.Core.Bool.{true, _&&_}

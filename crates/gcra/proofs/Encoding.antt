@@ -1,5 +1,4 @@
 -- An interval in 40 bits: it takes the first unit that holds it, comes back rounded up to that unit, and so never shorter. For every accepted table of units.
--- Assumes nothing.
 use Prim.Native.Nat.{ℕ, zero, suc, _+_, _-_, _*_, _^_, _≤_, _<_}
 use mathlib.Core.Path.{_≡_, refl, sym, ap, _∙_}
 use mathlib.Core.Bool.{true, false}

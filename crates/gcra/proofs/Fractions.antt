@@ -1,5 +1,5 @@
 -- Fractions and what a rounding takes off them: `Part a c v w m n` says that v / w is at least m / n of a / c, `Sized a c p` that a / c lies between 1 / p and p.
--- Read the other way round, a `Part` bounds from above. Assumes nothing.
+-- Read the other way round, a `Part` bounds from above.
 use Prim.Native.Nat.{ℕ, _+_, _-_, _*_, _^_, _≤_, _<_}
 use mathlib.Core.Path.{_≡_, sym, ap}
 use mathlib.Core.Bool.{false}

@@ -1,5 +1,4 @@
 -- Packed words: a valid quota comes back as itself, `decode` reads its T and tau, and `step` decides as a check does. For every accepted table of units.
--- Assumes nothing.
 use Prim.Native.Nat.{ℕ, _+_, _*_, _^_, _<_, min, max}
 use mathlib.Core.Path.{_≡_, ap}
 use mathlib.Core.Bool.{true}

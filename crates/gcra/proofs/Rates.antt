@@ -1,4 +1,4 @@
--- The interval of a rate, by how the quotient's tests came out; and the literals of the code as whole numbers. Assumes nothing.
+-- The interval of a rate, by how the quotient's tests came out; and the literals of the code as whole numbers.
 use Prim.Native.Nat.{ℕ, _^_, _<_, min}
 use native.Mathlib.Omega.{arith}
 use lib.Dec.{eqb}

@@ -1,4 +1,4 @@
--- A denied check, asked again at its retry time with no allowed check between, is allowed. Assumes nothing.
+-- A denied check, asked again at its retry time with no allowed check between, is allowed.
 use Prim.Native.Nat.{ℕ}
 use mathlib.Core.Path.{_≡_, refl, sym, ap, _∙_}
 use mathlib.Core.Bool.{true}

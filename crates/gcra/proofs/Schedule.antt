@@ -1,4 +1,4 @@
--- A check is I.371's virtual scheduling, with I = T and L = T * (burst - 1), where nothing is held at a limit. Assumes nothing.
+-- A check is I.371's virtual scheduling, with I = T and L = T * (burst - 1), where nothing is held at a limit.
 use Prim.Native.Nat.{ℕ, _+_, _-_, _*_, _^_, _<_, max}
 use mathlib.Core.Path.{_≡_, refl, sym, ap, _∙_}
 use mathlib.Core.Option.{Option, none, some}

@@ -1,4 +1,4 @@
--- What question 2 says of a lone quota, as facts. Assumes nothing.
+-- What question 2 says of a lone quota, as facts.
 use Prim.Native.Nat.{ℕ, _*_, _≤_, min, max}
 use mathlib.Core.Path.{_≡_}
 use mathlib.Core.Bool.{true}

@@ -1,4 +1,4 @@
--- Laws: what putting a record in, taking one out and writing one over keep. Assumes nothing.
+-- Laws: what putting a record in, taking one out and writing one over keep.
 use mathlib.Core.Path.{_≡_, refl, ap, _∙_}
 use mathlib.Core.Bool.{true}
 use mathlib.Core.List.{List, [], _∷_, _++_}

@@ -1,4 +1,4 @@
--- Laws: the record with a key, after each change. Assumes nothing.
+-- Laws: the record with a key, after each change.
 use mathlib.Core.Path.{_≡_, refl, sym, ap, _∙_, subst}
 use mathlib.Core.Bool.{true, false, cond}
 use mathlib.Core.List.{List, [], _∷_}

@@ -1,4 +1,4 @@
--- Laws of the order of records. Assumes nothing.
+-- Laws of the order of records.
 use mathlib.Core.Path.{_≡_, refl, sym, ap, _∙_, subst}
 use mathlib.Core.Logic.{_⊎_, inl, inr, ⊎-elim}
 use mathlib.Core.Bool.{Bool, true, false, _&&_, or-false}

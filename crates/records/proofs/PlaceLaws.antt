@@ -1,4 +1,4 @@
--- Laws of searches where the records ascend. Assumes nothing.
+-- Laws of searches where the records ascend.
 use mathlib.Core.Path.{_≡_, refl, sym, ap, _∙_, subst}
 use mathlib.Core.Logic.{_⊎_, ⊎-elim}
 use mathlib.Core.Bool.{Bool, true, false, cond, _&&_}

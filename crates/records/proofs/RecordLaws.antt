@@ -1,4 +1,4 @@
--- Laws of records and their words. Assumes nothing.
+-- Laws of records and their words.
 use mathlib.Core.Path.{_≡_, refl, sym, ap, _∙_}
 use mathlib.Core.Bool.{true, false}
 use mathlib.Core.List.{List, [], _∷_, _++_, append-assoc}

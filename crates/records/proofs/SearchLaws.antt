@@ -1,4 +1,4 @@
--- Laws of the bisection, and of searches by it. Assumes nothing.
+-- Laws of the bisection, and of searches by it.
 use mathlib.Core.Path.{_≡_, refl, sym, ap, _∙_, subst}
 use mathlib.Core.Logic.{_⊎_, ⊎-elim}
 use mathlib.Core.Bool.{Bool, true, false, cond}

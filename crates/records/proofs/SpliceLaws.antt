@@ -1,4 +1,4 @@
--- Laws: a splice of records is a move of words and a paste. Assumes nothing.
+-- Laws: a splice of records is a move of words and a paste.
 use mathlib.Core.Path.{_≡_, sym, ap, _∙_}
 use mathlib.Core.Bool.{true, false}
 use mathlib.Core.List.{List, [], _∷_, _++_, append-assoc}

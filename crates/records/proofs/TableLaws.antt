@@ -1,4 +1,4 @@
--- Laws: the records of a table after each change. Assumes nothing.
+-- Laws: the records of a table after each change.
 use mathlib.Core.Path.{_≡_, refl, sym, ap, _∙_}
 use mathlib.Core.Bool.{Bool, true, cond}
 use mathlib.Core.List.{List, [], _∷_, _++_, append-assoc}

@@ -1,4 +1,4 @@
--- Laws of tests. Assumes nothing.
+-- Laws of tests.
 use mathlib.Core.Path.{_≡_, refl, sym, ap, _∙_}
 use mathlib.Core.Bool.{Bool, true, false, cond, _&&_}
 use Prim.Native.Nat.{ℕ, _≤_}

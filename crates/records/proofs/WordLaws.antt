@@ -1,4 +1,4 @@
--- Laws on lists of words, for the moves. Assumes nothing.
+-- Laws on lists of words, for the moves.
 use mathlib.Core.Path.{_≡_, sym, ap, _∙_}
 use mathlib.Core.List.{List, [], _∷_, _++_, append-assoc}
 use Prim.Native.Nat.{ℕ, suc, _+_, _-_, _≤_, _<_}

@@ -1,5 +1,5 @@
 -- Records of w words, ordered by their first d words, in a list of words: what the contracts of `src/lib.rt` cite.
--- They stand for the Rust's maps (document 01: 'HashMaps: ascending records', 'Lookup in ascending records is proved for all record widths together'). Assumes nothing.
+-- They stand for the Rust's maps (document 01: 'HashMaps: ascending records', 'Lookup in ascending records is proved for all record widths together').
 use Prim.Native.Nat.{ℕ, zero, suc, _+_, _-_, _*_, _/_, _%_}
 use mathlib.Core.Bool.{Bool, true, false, cond, _&&_, _||_}
 use mathlib.Core.List.{List, [], _∷_, _++_}

@@ -1,4 +1,4 @@
--- Moves of words within a list. Assumes nothing.
+-- Moves of words within a list.
 use Prim.Native.Nat.{ℕ, _+_, _-_}
 use mathlib.Core.List.{List, _++_}
 use lib.ListN.{take, drop, length}

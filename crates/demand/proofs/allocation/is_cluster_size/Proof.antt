@@ -1,4 +1,4 @@
--- `allocation::is_cluster_size` meets its contract. Assumes nothing.
+-- `allocation::is_cluster_size` meets its contract.
 use mathlib.Core.Path.{_≡_}
 use mathlib.Core.Bool.{false}
 use Prim.Native.Nat.{ℕ, _≤_, _<_}

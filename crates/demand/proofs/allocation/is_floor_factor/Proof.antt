@@ -1,4 +1,4 @@
--- `allocation::is_floor_factor` meets its contract. Assumes nothing.
+-- `allocation::is_floor_factor` meets its contract.
 use mathlib.Core.Path.{_≡_, ap, sym, _∙_}
 use mathlib.Core.Bool.{true, false}
 use lib.Ieee.{Float, binary64, ofBits, le}

@@ -1,4 +1,4 @@
--- `allocation::is_rate` meets its contract. Assumes nothing.
+-- `allocation::is_rate` meets its contract.
 use mathlib.Core.Path.{_≡_, ap, sym, _∙_}
 use mathlib.Core.Bool.{Bool, true, false}
 use lib.Ieee.{Float, binary64, ofBits, lt}

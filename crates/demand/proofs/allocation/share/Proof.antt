@@ -1,4 +1,4 @@
--- `allocation::share` meets its contract. Assumes nothing.
+-- `allocation::share` meets its contract.
 use Rattle.demand.proofs.Answers.{no, yes, value, failed, passed}
 use borrow.Author.Needs.{needs}
 use Rattle.demand.proofs.allocation.share.Statement.{statement}

@@ -1,4 +1,4 @@
--- `allocation::shared` meets its contract. Assumes nothing.
+-- `allocation::shared` meets its contract.
 use mathlib.Core.Path.{_≡_, ap, sym, _∙_}
 use mathlib.Core.Bool.{true, false}
 use lib.Ieee.{Float, binary64, ofBits, add, sub, mul, div, lt}

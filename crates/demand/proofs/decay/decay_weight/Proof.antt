@@ -1,4 +1,4 @@
--- `decay::decay_weight` meets its contract. Assumes nothing.
+-- `decay::decay_weight` meets its contract.
 use mathlib.Core.Path.{_≡_, _∙_, ap}
 use Prim.Native.Nat.{ℕ, _*_, _/_, _%_, _≤_, _<_}
 use native.Mathlib.Nat.{mod-lt, pos-of-ne-zero}

@@ -1,4 +1,4 @@
--- `decay::next_term` meets its contract: dividing by S and then by k is dividing by k * S. Assumes nothing.
+-- `decay::next_term` meets its contract: dividing by S and then by k is dividing by k * S.
 use mathlib.Core.Path.{_≡_, _∙_, ap, subst, sym}
 use Prim.Native.Nat.{ℕ, _*_, _/_, _≤_}
 use native.Mathlib.Nat.{mul-comm, div-div-eq-div-mul, le-of-lt}

@@ -1,4 +1,4 @@
--- `decay::power` meets its contract. The invariant: the power of the turns so far. Assumes nothing.
+-- `decay::power` meets its contract. The invariant: the power of the turns so far.
 use mathlib.Core.Path.{_≡_, refl, sym, ap, _∙_}
 use Prim.Native.Nat.{ℕ, _+_, _-_, _*_, _/_, _≤_}
 use native.Mathlib.Nat.{le-refl, mul-le-mul, div-le-of-le-mul}

@@ -1,4 +1,4 @@
--- `decay::ratio` meets its contract: two digits in the base 2 ^ 26, or `ratio_by_bits`. Assumes nothing.
+-- `decay::ratio` meets its contract: two digits in the base 2 ^ 26, or `ratio_by_bits`.
 use Prim.Native.Nat.{ℕ, zero, _+_, _*_, _/_, _%_, _^_, _<_}
 use native.Mathlib.Nat.{mod-lt}
 use native.Mathlib.Omega.{arith}

@@ -1,4 +1,4 @@
--- `decay::ratio_by_bits` meets its contract. The invariant: y and rest are the quotient and the rest of r * 2 ^ i by c after i turns. Assumes nothing.
+-- `decay::ratio_by_bits` meets its contract. The invariant: y and rest are the quotient and the rest of r * 2 ^ i by c after i turns.
 use mathlib.Core.Path.{_≡_, sym, subst}
 use mathlib.Core.Logic.{⊎-elim}
 use Prim.Native.Nat.{ℕ, _+_, _-_, _*_, _/_, _^_, _≤_, _<_}

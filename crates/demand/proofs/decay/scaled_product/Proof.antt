@@ -1,4 +1,4 @@
--- `decay::scaled_product` meets its contract: both sides of the division by S have 2 ^ 12 more. Assumes nothing.
+-- `decay::scaled_product` meets its contract: both sides of the division by S have 2 ^ 12 more.
 use mathlib.Core.Path.{_≡_, _∙_, ap}
 use Prim.Native.Nat.{ℕ, _*_, _/_, _^_}
 use native.Mathlib.Nat.{mul-mul-mul-comm, mul-div-mul-right}

@@ -1,4 +1,4 @@
--- `decay::series` meets its contract. The invariant: the sum of the terms 0 to 2 * j, and the last of them. Assumes nothing.
+-- `decay::series` meets its contract. The invariant: the sum of the terms 0 to 2 * j, and the last of them.
 use Prim.Native.Nat.{_-_, _≤_}
 use native.Mathlib.Omega.{arith}
 use Rattle.demand.specs.Weight.{S}

@@ -1,4 +1,4 @@
--- `demand::alpha` meets its contract. Assumes nothing.
+-- `demand::alpha` meets its contract.
 use mathlib.Core.Path.{_≡_, ap, sym, _∙_, subst}
 use mathlib.Core.Bool.{false}
 use lib.Ieee.{Float, binary64, ofBits, div, round}

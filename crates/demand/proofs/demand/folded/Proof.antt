@@ -1,4 +1,4 @@
--- `demand::folded` meets its contract. Assumes nothing.
+-- `demand::folded` meets its contract.
 use mathlib.Core.Path.{_≡_}
 use lib.Ieee.{Float, binary64, ofBits, add, sub, mul, div}
 use Prim.Native.Nat.{ℕ}

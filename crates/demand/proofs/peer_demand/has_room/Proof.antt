@@ -1,4 +1,4 @@
--- `has_room` meets its contract: each length is compared with the formula's. Assumes nothing.
+-- `has_room` meets its contract: each length is compared with the formula's.
 use Rattle.demand.proofs.PeerRoomLaws.{short-peers, short-keys, long-contested}
 use Rattle.demand.proofs.peer_demand.has_room.Statement.{statement}
 use Rattle.demand.proofs.peer_demand.has_room.Tie as tie

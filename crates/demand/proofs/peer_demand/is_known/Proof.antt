@@ -1,4 +1,4 @@
--- `is_known` meets its contract. Assumes nothing.
+-- `is_known` meets its contract.
 use mathlib.Core.Path.{sym, _∙_}
 use native.Mathlib.Omega.{arith}
 use lib.ListN.{length}

@@ -1,4 +1,4 @@
--- `round_is_newer` meets its contract: the wrapped difference of rounds that differ is compared with half the circle. Assumes nothing.
+-- `round_is_newer` meets its contract: the wrapped difference of rounds that differ is compared with half the circle.
 use native.Mathlib.Omega.{arith}
 use Rattle.demand.proofs.PeerRoundLaws.{wraps-ahead, some-ahead, newer-if, not-newer-self}
 use borrow.Author.Needs.{needs}

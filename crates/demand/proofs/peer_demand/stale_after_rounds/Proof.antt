@@ -1,4 +1,4 @@
--- `stale_after_rounds` meets its contract: question 7, then the greater of 10 and three times the cluster size. Assumes nothing.
+-- `stale_after_rounds` meets its contract: question 7, then the greater of 10 and three times the cluster size.
 use native.Mathlib.Omega.{arith}
 use Rattle.demand.proofs.PeerRoundLaws.{no-cluster, large-cluster, some-cluster, few-rounds, many-rounds}
 use borrow.Author.Needs.{needs}

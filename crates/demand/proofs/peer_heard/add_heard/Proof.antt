@@ -1,4 +1,4 @@
--- `add_heard` meets its contract. Assumes nothing.
+-- `add_heard` meets its contract.
 use mathlib.Core.Path.{sym, ap, _∙_}
 use lib.Ieee.{binary64, add}
 use Rattle.demand.specs.PeerReaders.{addHeard}

@@ -1,4 +1,4 @@
--- `count_unlisted` meets its contract. Assumes nothing.
+-- `count_unlisted` meets its contract.
 use mathlib.Core.Path.{sym, ap, _∙_}
 use mathlib.Core.Bool.{Bool, cond}
 use borrow.Author.Needs.{needs}

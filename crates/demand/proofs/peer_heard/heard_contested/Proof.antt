@@ -1,4 +1,4 @@
--- `heard_contested` meets its contract. Assumes nothing.
+-- `heard_contested` meets its contract.
 use Prim.Native.Nat.{_+_, _*_, _<_, _≤_}
 use mathlib.Core.Path.{_≡_, ap, _∙_}
 use mathlib.Core.List.{[], _∷_}

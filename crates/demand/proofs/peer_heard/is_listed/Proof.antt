@@ -1,4 +1,4 @@
--- `is_listed` meets its contract. Assumes nothing.
+-- `is_listed` meets its contract.
 use mathlib.Core.Path.{_∙_}
 use native.Mathlib.Omega.{arith}
 use Rattle.demand.proofs.PeerRowLaws.{find-says, never-unfit}

@@ -1,4 +1,4 @@
--- `join` meets its contract. Assumes nothing.
+-- `join` meets its contract.
 use mathlib.Core.Path.{sym, ap, _∙_}
 use mathlib.Core.Option.{some}
 use Rattle.demand.specs.PeerReaders as readers

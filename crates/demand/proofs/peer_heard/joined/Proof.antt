@@ -1,4 +1,4 @@
--- `joined` meets its contract. Assumes nothing.
+-- `joined` meets its contract.
 use Rattle.demand.proofs.PeerHeardLaws.{joined-second, joined-first}
 use borrow.Author.Needs.{needs}
 use Rattle.demand.proofs.peer_heard.joined.Statement.{statement}

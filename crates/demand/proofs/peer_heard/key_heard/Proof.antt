@@ -1,4 +1,4 @@
--- `key_heard` meets its contract. Assumes nothing.
+-- `key_heard` meets its contract.
 use Prim.Native.Nat.{_+_}
 use lib.ListN.{getD}
 use Rattle.demand.proofs.PeerHeardLaws.{flag-is}

@@ -1,4 +1,4 @@
--- `are_all_peer_words` meets its contract. Assumes nothing.
+-- `are_all_peer_words` meets its contract.
 use Prim.Native.Nat.{_+_, _-_, _*_, _≤_}
 use mathlib.Core.Path.{_≡_, refl, sym, _∙_}
 use native.Mathlib.Omega.{arith}

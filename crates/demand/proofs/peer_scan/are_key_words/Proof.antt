@@ -1,4 +1,4 @@
--- `are_key_words` meets its contract. Assumes nothing.
+-- `are_key_words` meets its contract.
 use Prim.Native.Nat.{_+_, _^_}
 use mathlib.Core.Path.{sym, ap, _∙_}
 use mathlib.Core.Bool.{Bool, true, false, _||_}

@@ -1,4 +1,4 @@
--- `are_keys` meets its contract. Assumes nothing.
+-- `are_keys` meets its contract.
 use Prim.Native.Nat.{ℕ, _*_}
 use mathlib.Core.Path.{_≡_, sym, ap, _∙_}
 use mathlib.Core.Bool.{true, false}

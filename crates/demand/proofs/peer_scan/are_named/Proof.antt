@@ -1,4 +1,4 @@
--- `are_named` meets its contract. Assumes nothing.
+-- `are_named` meets its contract.
 use Prim.Native.Nat.{ℕ, _+_, _-_, _*_, _≤_}
 use mathlib.Core.Path.{_≡_, refl, sym, ap, _∙_}
 use mathlib.Core.Bool.{true}

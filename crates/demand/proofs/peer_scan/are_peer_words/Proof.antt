@@ -1,4 +1,4 @@
--- `are_peer_words` meets its contract. Assumes nothing.
+-- `are_peer_words` meets its contract.
 use mathlib.Core.Path.{_∙_}
 use Rattle.demand.proofs.PeerScanLaws.{peer-words-at}
 use borrow.Author.Needs.{needs}

@@ -1,4 +1,4 @@
--- `are_peers` meets its contract. Assumes nothing.
+-- `are_peers` meets its contract.
 use Prim.Native.Nat.{ℕ}
 use mathlib.Core.Path.{_≡_, sym, ap, _∙_}
 use mathlib.Core.Bool.{true, false}

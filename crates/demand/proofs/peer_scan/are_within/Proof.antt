@@ -1,4 +1,4 @@
--- `are_within` meets its contract. Assumes nothing.
+-- `are_within` meets its contract.
 use Prim.Native.Nat.{ℕ, _+_, _-_, _*_, _≤_}
 use mathlib.Core.Path.{_≡_, refl, sym, ap, _∙_}
 use mathlib.Core.List.{List}

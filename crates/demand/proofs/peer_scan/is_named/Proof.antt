@@ -1,4 +1,4 @@
--- `is_named` meets its contract. Assumes nothing.
+-- `is_named` meets its contract.
 use Prim.Native.Nat.{ℕ, _<_}
 use mathlib.Core.Path.{_≡_, sym, ap, _∙_}
 use mathlib.Core.List.{[], _∷_}

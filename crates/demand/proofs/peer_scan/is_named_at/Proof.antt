@@ -1,4 +1,4 @@
--- `is_named_at` meets its contract. Assumes nothing.
+-- `is_named_at` meets its contract.
 use mathlib.Core.Path.{sym, ap, _∙_}
 use Rattle.records.specs.Records.{records}
 use Rattle.demand.specs.PeerScan.{isNamed}

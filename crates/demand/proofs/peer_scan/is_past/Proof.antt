@@ -1,4 +1,4 @@
--- `is_past` meets its contract. Assumes nothing.
+-- `is_past` meets its contract.
 use mathlib.Core.Path.{_≡_, sym, _∙_}
 use mathlib.Core.Bool.{true, false}
 use borrow.Author.Tests.{le-leb, lt-leb, not-true, not-false}

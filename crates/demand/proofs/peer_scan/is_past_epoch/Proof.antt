@@ -1,4 +1,4 @@
--- `is_past_epoch` meets its contract. Assumes nothing.
+-- `is_past_epoch` meets its contract.
 use Rattle.demand.proofs.PeerScanLaws.{counted-epoch, further-epoch}
 use Rattle.demand.proofs.peer_scan.is_past_epoch.Statement.{statement}
 use Rattle.demand.proofs.peer_scan.is_past_epoch.Tie as tie

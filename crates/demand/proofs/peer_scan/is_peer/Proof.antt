@@ -1,4 +1,4 @@
--- `is_peer` meets its contract. Assumes nothing.
+-- `is_peer` meets its contract.
 use mathlib.Core.Path.{_≡_, sym, ap, _∙_}
 use mathlib.Core.Bool.{Bool, true, false, _||_}
 use lib.Dec.{eqb}

@@ -1,4 +1,4 @@
--- `is_time` meets its contract. Assumes nothing.
+-- `is_time` meets its contract.
 use Rattle.demand.proofs.PeerScanLaws.{time-absent, time-present}
 use Rattle.demand.proofs.peer_scan.is_time.Statement.{statement}
 use Rattle.demand.proofs.peer_scan.is_time.Tie as tie

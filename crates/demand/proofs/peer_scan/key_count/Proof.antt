@@ -1,4 +1,4 @@
--- `key_count` meets its contract. Assumes nothing.
+-- `key_count` meets its contract.
 use Rattle.demand.proofs.PeerRowLaws.{span-ordered, span-counts, never-no-span}
 use borrow.Author.Needs.{needs}
 use Rattle.demand.proofs.peer_scan.key_count.Statement.{statement}

@@ -1,4 +1,4 @@
--- `age_peer` meets its contract: a stale record is written over by a bare one. Assumes nothing.
+-- `age_peer` meets its contract: a stale record is written over by a bare one.
 use Prim.Native.Nat.{ℕ, _+_, _*_}
 use mathlib.Core.Path.{_≡_, refl, sym, ap, _∙_, subst}
 use mathlib.Core.List.{List, [], _∷_}

@@ -1,4 +1,4 @@
--- `age_peers` meets its contract: the invariant is `Mapped`. Assumes nothing.
+-- `age_peers` meets its contract: the invariant is `Mapped`.
 use Prim.Native.Nat.{ℕ, _-_}
 use mathlib.Core.Path.{sym, ap, _∙_}
 use mathlib.Core.List.{List}

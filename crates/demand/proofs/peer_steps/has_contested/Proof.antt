@@ -1,4 +1,4 @@
--- `has_contested` meets its contract: the range of the peer's keys is not empty. Assumes nothing.
+-- `has_contested` meets its contract: the range of the peer's keys is not empty.
 use mathlib.Core.Path.{sym, _∙_}
 use native.Mathlib.Omega.{arith}
 use borrow.Author.Needs.{needs}

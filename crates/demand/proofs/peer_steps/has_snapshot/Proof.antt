@@ -1,4 +1,4 @@
--- `has_snapshot` meets its contract: the flag of the record that is found. Assumes nothing.
+-- `has_snapshot` meets its contract: the flag of the record that is found.
 use Prim.Native.Nat.{ℕ, zero, suc, _+_, _*_, _≤_, _<_}
 use mathlib.Core.Path.{_≡_, refl, sym, ap, _∙_}
 use mathlib.Core.Bool.{not}

@@ -1,4 +1,4 @@
--- `hold_peer` meets its contract: two words of the record that is found. Assumes nothing.
+-- `hold_peer` meets its contract: two words of the record that is found.
 use Prim.Native.Nat.{_+_, _*_, _≤_, _<_}
 use mathlib.Core.Path.{_≡_, sym, _∙_}
 use native.Mathlib.Omega.{arith}

@@ -1,4 +1,4 @@
--- `is_fresh` meets its contract. Assumes nothing.
+-- `is_fresh` meets its contract.
 use Prim.Native.Nat.{ℕ}
 use mathlib.Core.Path.{ap}
 use lib.Dec.{ltb}

@@ -1,4 +1,4 @@
--- `is_stale` meets its contract: case by case of the two flags. Assumes nothing.
+-- `is_stale` meets its contract: case by case of the two flags.
 use Prim.Native.Nat.{ℕ, zero, suc}
 use mathlib.Core.Path.{_≡_, refl, sym, ap, _∙_}
 use mathlib.Core.Bool.{true, false, not}

@@ -1,4 +1,4 @@
--- `keep_record` meets its contract. Assumes nothing.
+-- `keep_record` meets its contract.
 use Prim.Native.Nat.{_+_, _*_}
 use mathlib.Core.Path.{_≡_, sym, ap, _∙_}
 use mathlib.Core.Bool.{Bool, true, cond}

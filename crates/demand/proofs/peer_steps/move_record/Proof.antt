@@ -1,4 +1,4 @@
--- `move_record` meets its contract: nothing where the places are the same, else word by word, front to back. Assumes nothing.
+-- `move_record` meets its contract: nothing where the places are the same, else word by word, front to back.
 use mathlib.Core.List.{List}
 use Prim.Native.Nat.{ℕ, _+_, _-_, _*_, _≤_}
 use mathlib.Core.Path.{_≡_, refl, sym, ap, _∙_}

@@ -1,4 +1,4 @@
--- `retain_contested` meets its contract: the invariant is `Kept`. Assumes nothing.
+-- `retain_contested` meets its contract: the invariant is `Kept`.
 use Prim.Native.Nat.{ℕ, _+_, _-_, _*_, _≤_}
 use mathlib.Core.Path.{_∙_}
 use mathlib.Core.Bool.{Bool}

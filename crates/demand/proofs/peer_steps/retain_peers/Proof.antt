@@ -1,4 +1,4 @@
--- `retain_peers` meets its contract: the invariant is `Kept`. Assumes nothing.
+-- `retain_peers` meets its contract: the invariant is `Kept`.
 use Prim.Native.Nat.{ℕ, _+_, _-_, _*_, _≤_}
 use mathlib.Core.Path.{ap, _∙_}
 use mathlib.Core.Bool.{Bool}

@@ -1,4 +1,4 @@
--- `retain_snapshot_keys` meets its contract: the invariant is `Kept`. Assumes nothing.
+-- `retain_snapshot_keys` meets its contract: the invariant is `Kept`.
 use Prim.Native.Nat.{ℕ, _+_, _-_, _*_, _≤_}
 use mathlib.Core.Path.{ap, _∙_}
 use mathlib.Core.Bool.{Bool}

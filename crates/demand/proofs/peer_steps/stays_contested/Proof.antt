@@ -1,4 +1,4 @@
--- `stays_contested` meets its contract: by the hold of the record that is found. Assumes nothing.
+-- `stays_contested` meets its contract: by the hold of the record that is found.
 use Prim.Native.Nat.{ℕ, _+_, _*_, _≤_, _<_}
 use mathlib.Core.Path.{_≡_, sym, ap, _∙_}
 use mathlib.Core.List.{List, []}

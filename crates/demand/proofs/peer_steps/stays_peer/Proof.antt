@@ -1,4 +1,4 @@
--- `stays_peer` meets its contract: case by case of the two flags. Assumes nothing.
+-- `stays_peer` meets its contract: case by case of the two flags.
 use mathlib.Core.Path.{sym, _∙_}
 use mathlib.Core.List.{List, map}
 use lib.Dec.{eqb}

@@ -1,4 +1,4 @@
--- `without` meets its contract: the range of the records is spliced out. Assumes nothing.
+-- `without` meets its contract: the range of the records is spliced out.
 use Prim.Native.Nat.{ℕ, _-_, _*_, _≤_}
 use mathlib.Core.Path.{sym, _∙_, subst}
 use mathlib.Core.List.{List, []}

@@ -1,4 +1,4 @@
--- `Demand::has_pending` meets its contract. Assumes nothing.
+-- `Demand::has_pending` meets its contract.
 use mathlib.Core.Path.{refl}
 use Rattle.demand.proofs.Answers.{no, yes, value, failed, passed}
 use borrow.Author.Needs.{needs}

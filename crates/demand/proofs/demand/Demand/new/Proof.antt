@@ -1,4 +1,4 @@
--- `Demand::new` meets its contract. Assumes nothing.
+-- `Demand::new` meets its contract.
 use Rattle.demand.proofs.Literals.{zero-is}
 use Rattle.demand.proofs.demand.Demand.new.Statement.{statement}
 use Rattle.demand.proofs.demand.Demand.new.Tie as tie

@@ -1,4 +1,4 @@
--- `Demand::rate` meets its contract. Assumes nothing.
+-- `Demand::rate` meets its contract.
 use mathlib.Core.Path.{refl}
 use Rattle.demand.proofs.Answers.{no, yes, value, failed, passed}
 use borrow.Author.Needs.{needs}

@@ -1,4 +1,4 @@
--- `Demand::record_attempts` meets its contract. Assumes nothing.
+-- `Demand::record_attempts` meets its contract.
 use mathlib.Core.Path.{_≡_, refl}
 use mathlib.Core.Bool.{true, false}
 use Prim.Native.Nat.{ℕ, _+_, _-_, _^_, _<_, _≤_}

@@ -1,4 +1,4 @@
--- `Demand::starting_at` meets its contract. Assumes nothing.
+-- `Demand::starting_at` meets its contract.
 use Rattle.demand.proofs.Literals.{zero-is}
 use Rattle.demand.proofs.demand.Demand.starting_at.Statement.{statement}
 use Rattle.demand.proofs.demand.Demand.starting_at.Tie as tie

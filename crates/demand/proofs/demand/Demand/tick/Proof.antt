@@ -1,4 +1,4 @@
--- `Demand::tick` meets its contract. Assumes nothing.
+-- `Demand::tick` meets its contract.
 use Rattle.demand.proofs.Answers.{no, yes, value, failed, passed}
 use borrow.Author.Needs.{needs}
 use Rattle.demand.proofs.demand.Demand.tick.Statement.{statement}

@@ -1,4 +1,4 @@
--- `Demand::ticked` meets its contract. Assumes nothing.
+-- `Demand::ticked` meets its contract.
 use Rattle.demand.proofs.Averages.{first-tick, idle-tick, later-tick}
 use borrow.Author.Needs.{needs}
 use Rattle.demand.proofs.demand.Demand.ticked.Statement.{statement}

@@ -1,4 +1,4 @@
--- `Demand::unbiased` meets its contract. Assumes nothing.
+-- `Demand::unbiased` meets its contract.
 use Rattle.demand.proofs.Literals.{zero-is}
 use Rattle.demand.proofs.Averages.{unmeasured, no-time, no-weight, weighted}
 use borrow.Author.Needs.{needs}

@@ -1,4 +1,4 @@
--- `Demand::unbiased_rate` meets its contract. Assumes nothing.
+-- `Demand::unbiased_rate` meets its contract.
 use Rattle.demand.proofs.Answers.{no, yes, value, failed, passed}
 use borrow.Author.Needs.{needs}
 use Rattle.demand.proofs.demand.Demand.unbiased_rate.Statement.{statement}

@@ -1,4 +1,4 @@
--- `count_keys` meets its contract. Assumes nothing.
+-- `count_keys` meets its contract.
 use Prim.Native.Nat.{ℕ, _+_, _-_, _*_, _≤_}
 use mathlib.Core.Bool.{Bool}
 use mathlib.Core.List.{map}

@@ -1,4 +1,4 @@
--- `expire` meets its contract. Assumes nothing.
+-- `expire` meets its contract.
 use borrow.Author.Needs.{needs}
 use Rattle.demand.specs.PeerState.{PeerTables, tables}
 use Rattle.demand.specs.PeerChanges as changes

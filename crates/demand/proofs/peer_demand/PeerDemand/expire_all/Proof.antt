@@ -1,4 +1,4 @@
--- `expire_all` meets its contract: contested keys, then peers, then snapshot keys. Assumes nothing.
+-- `expire_all` meets its contract: contested keys, then peers, then snapshot keys.
 use native.Mathlib.Omega.{arith}
 use borrow.Author.Needs.{needs}
 use Rattle.demand.specs.PeerState.{PeerTables, tables}

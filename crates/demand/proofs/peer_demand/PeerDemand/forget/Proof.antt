@@ -1,4 +1,4 @@
--- `forget` meets its contract. Assumes nothing.
+-- `forget` meets its contract.
 use borrow.Author.Needs.{needs}
 use Rattle.demand.specs.PeerState.{PeerTables, tables}
 use Rattle.demand.specs.PeerChanges as changes

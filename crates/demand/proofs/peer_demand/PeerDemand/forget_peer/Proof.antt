@@ -1,4 +1,4 @@
--- `forget_peer` meets its contract: its records are taken out of each table. Assumes nothing.
+-- `forget_peer` meets its contract: its records are taken out of each table.
 use borrow.Author.Needs.{needs}
 use Rattle.demand.specs.PeerState.{tables}
 use Rattle.demand.proofs.PeerTableLaws.{by-one, by-two}

@@ -1,4 +1,4 @@
--- `get` meets its contract. Assumes nothing.
+-- `get` meets its contract.
 use mathlib.Core.Path.{sym, ap, _∙_}
 use Rattle.demand.specs.PeerState.{tables}
 use Rattle.demand.specs.PeerHeard.{saidOf, StateReady}

@@ -1,4 +1,4 @@
--- `heard_by` meets its contract. Assumes nothing.
+-- `heard_by` meets its contract.
 use Prim.Native.Nat.{ℕ, _*_, _<_}
 use mathlib.Core.Path.{_≡_, ap, _∙_}
 use native.Mathlib.Omega.{arith}

@@ -1,4 +1,4 @@
--- `heard_from` meets its contract. Assumes nothing.
+-- `heard_from` meets its contract.
 use mathlib.Core.Path.{_∙_}
 use Rattle.demand.specs.PeerState.{tables}
 use Rattle.demand.specs.PeerReaders.{join}

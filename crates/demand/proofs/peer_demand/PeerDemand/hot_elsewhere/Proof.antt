@@ -1,4 +1,4 @@
--- `hot_elsewhere` meets its contract. Assumes nothing.
+-- `hot_elsewhere` meets its contract.
 use Rattle.demand.specs.PeerState.{tables}
 use Rattle.demand.specs.PeerHeard.{StateReady}
 use Rattle.demand.proofs.PeerReaderLaws.{asked-ready, answer-no, answer-yes}

@@ -1,4 +1,4 @@
--- `is_empty` meets its contract. Assumes nothing.
+-- `is_empty` meets its contract.
 use Prim.Native.Nat.{ℕ}
 use lib.Dec.{eqb}
 use mathlib.Core.Path.{ap}

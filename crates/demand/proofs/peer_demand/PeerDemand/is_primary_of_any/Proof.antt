@@ -1,4 +1,4 @@
--- `is_primary_of_any` meets its contract. Assumes nothing.
+-- `is_primary_of_any` meets its contract.
 use Prim.Native.Nat.{_-_, _≤_}
 use mathlib.Core.Path.{_≡_, sym, ap, _∙_}
 use native.Mathlib.Omega.{arith}

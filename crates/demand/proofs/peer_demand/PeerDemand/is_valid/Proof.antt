@@ -1,4 +1,4 @@
--- `is_valid` meets its contract. Assumes nothing.
+-- `is_valid` meets its contract.
 use mathlib.Core.Path.{_≡_, sym, _∙_}
 use mathlib.Core.Bool.{true, false}
 use native.Mathlib.Omega.{arith}

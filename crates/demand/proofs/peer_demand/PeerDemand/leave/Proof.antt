@@ -1,4 +1,4 @@
--- `leave` meets its contract. Assumes nothing.
+-- `leave` meets its contract.
 use Prim.Native.Nat.{ℕ, _*_}
 use mathlib.Core.List.{map}
 use Rattle.records.specs.Records.{records}

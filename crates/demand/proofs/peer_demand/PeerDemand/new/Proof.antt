@@ -1,4 +1,4 @@
--- `PeerDemand::new` meets its contract: question 1 alone. Assumes nothing.
+-- `PeerDemand::new` meets its contract: question 1 alone.
 use mathlib.Core.Path.{sym, _∙_}
 use Rattle.demand.proofs.PeerRoomLaws.{no-room, some-room}
 use borrow.Author.Needs.{needs}

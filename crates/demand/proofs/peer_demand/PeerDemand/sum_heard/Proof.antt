@@ -1,4 +1,4 @@
--- `sum_heard` meets its contract. Assumes nothing.
+-- `sum_heard` meets its contract.
 use Prim.Native.Nat.{_+_, _-_, _≤_}
 use mathlib.Core.Path.{_≡_, sym, ap, _∙_}
 use mathlib.Core.List.{map}

@@ -1,4 +1,4 @@
--- `total` meets its contract. Assumes nothing.
+-- `total` meets its contract.
 use Rattle.demand.specs.PeerState.{tables}
 use Rattle.demand.specs.PeerHeard.{StateReady}
 use Rattle.demand.proofs.PeerReaderLaws.{asked-ready, answer-no, answer-yes}
