@@ -25,7 +25,7 @@ pub mod HotSetAnswers
 pub mod HotSetActs
 pub mod HotSetTheorems
 pub mod PeerApplyLaws
-pub mod PeerApplyTheorem
+pub mod PeerReportValidLaws
 pub mod PeerCallLaws
 pub mod PeerContestLaws
 pub mod PeerContestedLaws
@@ -57,3 +57,4 @@ pub mod PeerTableLaws
 pub mod PeerTakeLaws
 pub mod PeerValidLaws
 pub mod PeerWordLaws
+pub mod PeerTheorems

@@ -18,6 +18,7 @@ use Rattle.demand.specs.PeerLists.{all, any, first, only, those, replace
 use Rattle.demand.specs.PeerRecords.{Snapshot, PeerRecord, SnapshotKey, ContestedKey, timeWords, snapshotWords, pastWords, peerWords, snapshotKeyWords, contestedWords, peerOf, snapshotKeyOf}
 use Rattle.demand.specs.PeerState.{PeersState, PeerTables, isWord, peerWith, isKnown, snapshotKeysOf, contestedKeysOf, peersSize, snapshotKeysSize, contestedSize, stateOf, exact, valid, validSnapshot, validPast, validPeer, validSnapshotKey, Holds, Stores}
 use Rattle.demand.specs.PeerChanges as changes
+use Rattle.demand.specs.PeerCalls.{Widths}
 use Rattle.demand.specs.PeerRuns.{word, keysIn, contestedIn, peersIn, replacedRun, Replaceable, Tabled, KeyRun, contestedAfter, Contestable, orNew, nextPast, pastAfter, Reported, Read}
 use Rattle.demand.proofs.PeerWordLaws.{peer-of-words}
 use Rattle.demand.proofs.PeerValidLaws.{all-take}
@@ -206,13 +207,6 @@ reported-few id r keys e =
     let q : length keys / 4 ≤ 64 = omega (arith, e .few) in
     omega (arith, q, ap length (e .are), length-map (records 4 (length keys / 4) keys) snapshotKeyOf, length-records 4 (length keys / 4) keys)
 
--- what the arguments' types say
-pub record Bounds (id at : ℕ) (r : DemandReport) : Type 0 where
-  pub peer : id < 2 ^ 64
-  pub time : at < 2 ^ 64
-  pub epoch : r .epoch < 2 ^ 32
-  pub round : r .round < 2 ^ 16
-
 id-first : (x : PeerRecord) → word 0 (peerWords x) ≡ x .id
 unfolding peerWords
 id-first x = refl
@@ -223,7 +217,7 @@ one-record ws e =
     let q : length ws / 12 ≡ 1 = omega (arith, e) in
     ap (λ (k : ℕ). records 12 k ws) q ∙ ap (λ (l : List ℕ). l ∷ []) (take-all 12 ws (omega arith))
 
-module _ (p : PeerDemand) (t : PeerTables) (id at : ℕ) (r : DemandReport) (o : Tables p t) (bs : Bounds id at r) where
+module _ (p : PeerDemand) (t : PeerTables) (id at : ℕ) (r : DemandReport) (o : Tables p t) (bs : Widths id at r) where
   abbrev s : PeersState
   s = stateOf p t
 

@@ -1,11 +1,11 @@
 -- The promise of each call on the peers: 01's questions in their order, its answer, and what the value and the tables hold afterwards. Definitions only.
-use Prim.Native.Nat.{ℕ, _<_, _*_}
+use Prim.Native.Nat.{ℕ, _<_, _*_, _^_}
 use mathlib.Core.Path.{_≡_}
 use mathlib.Core.Bool.{Bool, _&&_, _||_}
 use mathlib.Core.List.{List, [], _∷_}
 use mathlib.Core.Option.{Option, none, some}
 use lib.Dec.{ltb, leb, eqb}
-use lib.Ieee.{Float}
+use lib.Ieee.{Float, binary32, fits}
 use lib.ListN.{length}
 use Rattle.float.specs.Magnitude.{magnitude}
 use Rattle.demand.specs.declared.peer_demand.KeyDemand.{KeyDemand}
@@ -29,7 +29,7 @@ use Rattle.demand.specs.declared.peer_demand.LenAnswer.{LenAnswer}
 use Rattle.demand.specs.declared.peer_demand.LenAnswer.the-variants as len-answer
 use Rattle.gcra.specs.Questions.{Question, _asks_, Answer, refused, given, firstNo, numbered}
 use Rattle.demand.specs.PeerLists.{all}
-use Rattle.demand.specs.PeerState.{PeersState, PeerTables, maxPeers, maxDemandKeys, isKnown, haveRoom, stateOf, isValid, Stores}
+use Rattle.demand.specs.PeerState.{PeersState, PeerTables, maxPeers, maxDemandKeys, isWord, isKnown, haveRoom, stateOf, isValid, Stores}
 use Rattle.demand.specs.PeerChanges as changes
 use Rattle.demand.specs.PeerReaders as readers
 
@@ -87,6 +87,19 @@ reportQuestions p t id r =
     ∷ (11 asks all (λ (k : KeyDemand). magnitude (k .demand)) (changes.listed r))
     ∷ (12 asks isKnown (stateOf p t .peers) id || ltb (length (stateOf p t .peers)) maxPeers)
     ∷ []
+
+-- ---- what the types of a report's arguments say
+
+-- a peer's id and a reading have 64 bits, an epoch 32, a round 16
+pub record Widths (id at : ℕ) (r : DemandReport) : Type 0 where
+  pub peer : id < 2 ^ 64
+  pub time : at < 2 ^ 64
+  pub epoch : r .epoch < 2 ^ 32
+  pub round : r .round < 2 ^ 16
+
+-- a key has 64 bits, and a demand is an f32
+abbrev pub fitsWidths : KeyDemand → Bool
+fitsWidths k = isWord (k .«key_hash») && fits binary32 (k .demand)
 
 -- ---- calls that change the state
 

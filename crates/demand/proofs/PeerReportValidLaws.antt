@@ -1,4 +1,4 @@
--- Theorem: a report that passed its questions leaves the peers' state valid.
+-- A report that passes its questions leaves the peers' state valid.
 use mathlib.Core.Path.{_≡_, refl, sym, ap, _∙_, subst}
 use mathlib.Core.Bool.{Bool, true, false, cond, _&&_, _||_}
 use mathlib.Core.List.{List, [], _∷_, _++_}
@@ -7,9 +7,11 @@ use Prim.Native.Nat.{ℕ, suc, _+_, _-_, _^_, _≤_, _<_, zero-le, suc-le-suc}
 use native.Mathlib.Omega.{arith}
 use borrow.Author.Tests.{ltb-true, lt-ltb}
 use lib.Dec.{ltb, eqb}
+use lib.Ieee.{binary32, fits}
 use lib.ListN.{length, length-take, take}
+use Rattle.float.specs.Magnitude.{magnitude}
 use Rattle.records.specs.Records.{ascending}
-use Rattle.records.proofs.TestLaws.{split, both}
+use Rattle.records.proofs.TestLaws.{split, both, and-intro}
 use Rattle.demand.specs.declared.peer_demand.KeyDemand.{KeyDemand}
 use Rattle.demand.specs.declared.peer_demand.DemandReport.{DemandReport}
 use Rattle.demand.specs.declared.peer_demand.Verdict.{Verdict}
@@ -18,13 +20,15 @@ use Rattle.demand.specs.PeerLists.{all, first, those}
 use Rattle.demand.specs.PeerRecords.{Snapshot, PeerRecord, SnapshotKey, ContestedKey, timeWords, snapshotWords, pastWords, peerWords}
 use Rattle.demand.specs.PeerState.{PeersState, isWord, peerWith, isKnown, snapshotKeysOf, contestedKeysOf, valid, validSnapshot, validPast, validPeer, validSnapshotKey}
 use Rattle.demand.specs.PeerChanges as changes
+use Rattle.demand.specs.PeerCalls.{Widths, fitsWidths}
 use Rattle.demand.proofs.PeerOrderLaws.{all-only}
 use Rattle.demand.proofs.PeerContestLaws.{Contesteds}
 use Rattle.demand.proofs.PeerContestedLaws.{peers-contested}
 use Rattle.demand.proofs.PeerReportLaws.{any-counted}
-use Rattle.demand.proofs.PeerKeyLaws.{put-keeps, put-length, Keys, peers-keys}
+use Rattle.demand.proofs.PeerKeyLaws.{put-keeps, put-length, Keys, peers-keys, key-valid}
 use Rattle.demand.proofs.PeerKeptLaws.{ValidState, valid-says, valid-intro, contested-kept, report-kept, taken-valid}
-use Rattle.demand.proofs.PeerTakeLaws.{Bounds, few-of-peer, contest-keeps, contest-few, next-valid}
+use Rattle.demand.proofs.PeerValidLaws.{all-take}
+use Rattle.demand.proofs.PeerTakeLaws.{few-of-peer, contest-keeps, contest-few, next-valid}
 
 -- ---- the keys of a report
 collected-keys : (id : ℕ) (ds : List KeyDemand) (ks : List SnapshotKey) → all (λ (d : KeyDemand). validSnapshotKey (changes.keyOf id d)) ds ≡ true → Keys id ks → Keys id (changes.collected id ds ks)
@@ -96,8 +100,8 @@ known-some : (id : ℕ) (ps : List PeerRecord) (p : PeerRecord) (qs : List PeerR
 unfolding isKnown those
 known-some id ps p qs e = any-counted (λ (q : PeerRecord). eqb (q .id) id) ps ∙ ap (λ (l : List PeerRecord). ltb 0 (length l)) e ∙ lt-ltb 0 (suc (length qs)) (suc-le-suc zero-le)
 
--- ---- the theorem
-module _ (id at : ℕ) (r : DemandReport) (s : PeersState) (v : ValidState s) (bs : Bounds id at r) (count : r .count ≤ 64) (keys : all (λ (d : KeyDemand). validSnapshotKey (changes.keyOf id d)) (changes.listed r) ≡ true) (place : (isKnown (s .peers) id || ltb (length (s .peers)) 32) ≡ true) where
+-- ---- the state after it
+module _ (id at : ℕ) (r : DemandReport) (s : PeersState) (v : ValidState s) (ws : Widths id at r) (count : r .count ≤ 64) (keys : all (λ (d : KeyDemand). validSnapshotKey (changes.keyOf id d)) (changes.listed r) ≡ true) (place : (isKnown (s .peers) id || ltb (length (s .peers)) 32) ≡ true) where
   new-keys : Keys id (changes.reportKeys id r)
   new-keys = collected-keys id (changes.listed r) [] keys (no-keys-yet id)
 
@@ -146,12 +150,12 @@ module _ (id at : ℕ) (r : DemandReport) (s : PeersState) (v : ValidState s) (b
   takes-valid past keep vp =
       let l = left keep (those (λ (p : PeerRecord). p .id) id (s .peers)) firsts in
       valid-intro _ (report-kept id s v (changes.keepReplaced keep (changes.snapshotIn (peerWith id (s .peers))) (snapshotKeysOf id (s .snapshotKeys)) held) (l .0) (l .1) (changes.takenPeer id r at past) refl refl
-      (taken-valid id at r past (record { peer = bs .peer; time = bs .time; epoch = bs .epoch; round = bs .round; pasts = vp }))
+      (taken-valid id at r past (record { peer = ws .peer; time = ws .time; epoch = ws .epoch; round = ws .round; pasts = vp }))
       place (changes.reportKeys id r) new-keys new-few)
 
   contests-valid : isKnown (s .peers) id ≡ true → valid (changes.contestReport id r at s) ≡ true
   unfolding changes.contestReport
-  contests-valid known = valid-intro _ (contested-kept id s v _ (contest-keeps id (r .round) at (changes.reportKeys id r) held new-keys (bs .round) (bs .time) held-run) (contest-few (r .round) at (changes.reportKeys id r) held) known)
+  contests-valid known = valid-intro _ (contested-kept id s v _ (contest-keeps id (r .round) at (changes.reportKeys id r) held new-keys (ws .round) (ws .time) held-run) (contest-few (r .round) at (changes.reportKeys id r) held) known)
 
   verdict-valid : (u : changes.Verdict) → Fit (s .peers) id u → valid (changes.applyVerdict id r at u s) ≡ true
   unfolding Fit
@@ -172,18 +176,30 @@ module _ (id at : ℕ) (r : DemandReport) (s : PeersState) (v : ValidState s) (b
           known-of : (p : PeerRecord) (ps : List PeerRecord) → those (λ (q : PeerRecord). q .id) id (s .peers) ≡ p ∷ ps → isKnown (s .peers) id ≡ true
           known-of p ps e = known-some id (s .peers) p ps e
 
--- the peers' state stays valid
-pub apply-keeps-valid :
+-- the keys of a report, whose demands passed question 11, are valid as they are stored
+listed-valid : (id : ℕ) → id < 2 ^ 64 → (ds : List KeyDemand) → all fitsWidths ds ≡ true → all (λ (d : KeyDemand). magnitude (d .demand)) ds ≡ true → all (λ (d : KeyDemand). validSnapshotKey (changes.keyOf id d)) ds ≡ true
+unfolding all
+listed-valid id h [] f m = refl
+listed-valid id h (d ∷ ds) f m =
+    let a = both (fitsWidths d) _ f in
+    let k = both (isWord (d .«key_hash»)) (fits binary32 (d .demand)) (a .0) in
+    let b = both (magnitude (d .demand)) _ m in
+    and-intro (validSnapshotKey (changes.keyOf id d)) _ (key-valid id d h (ltb-true (d .«key_hash») (2 ^ 64) (k .0)) (k .1) (b .0)) (listed-valid id h ds (a .1) (b .1))
+
+-- the premises are what the arguments' types say, and questions 10 to 12
+pub apply-valid :
     (jump id at : ℕ) (r : DemandReport) (s : PeersState)
-    → valid s ≡ true
-    → Bounds id at r
+    → Widths id at r
+    → all fitsWidths (r .keys) ≡ true
     → r .count ≤ 64
-    → all (λ (d : KeyDemand). validSnapshotKey (changes.keyOf id d)) (changes.listed r) ≡ true
+    → all (λ (d : KeyDemand). magnitude (d .demand)) (changes.listed r) ≡ true
     → (isKnown (s .peers) id || ltb (length (s .peers)) 32) ≡ true
+    → valid s ≡ true
     → valid (changes.apply jump id r at s) ≡ true
 unfolding changes.apply
-apply-keeps-valid jump id at r s e bs count keys place =
+apply-valid jump id at r s ws fit count demands place e =
     let v : ValidState s = valid-says s e in
+    let keys = listed-valid id (ws .peer) (changes.listed r) (all-take fitsWidths (r .count) (r .keys) fit) demands in
     split (eqb (r .origin) id)
-    (λ h. ap (λ (b : Bool). valid (cond b (changes.applyVerdict id r at (changes.verdict jump id r s) s) s)) h ∙ verdict-valid id at r s v bs count keys place (changes.verdict jump id r s) (verdict-fits id at r s v bs count keys place jump))
+    (λ h. ap (λ (b : Bool). valid (cond b (changes.applyVerdict id r at (changes.verdict jump id r s) s) s)) h ∙ verdict-valid id at r s v ws count keys place (changes.verdict jump id r s) (verdict-fits id at r s v ws count keys place jump))
     (λ h. ap (λ (b : Bool). valid (cond b (changes.applyVerdict id r at (changes.verdict jump id r s) s) s)) h ∙ e)
