@@ -38,6 +38,7 @@ pub mod PeerHoldLaws
 pub mod PeerKeepLaws
 pub mod PeerKeptLaws
 pub mod PeerKeyLaws
+pub mod PeerLenLaws
 pub mod PeerListLaws
 pub mod PeerOrderLaws
 pub mod PeerPoints

@@ -20,8 +20,9 @@ use Rattle.demand.specs.PeerScan.{firstWord}
 use Rattle.demand.specs.PeerSteps.{staysContested, staysPeer}
 use Rattle.demand.proofs.PeerListLaws.{all-map}
 use Rattle.demand.proofs.PeerRangeLaws.{only-yes, only-no, only-append, only-same, only-only, only-front-by, only-back-by, map-append, map-self, any-map, any-same, any-only, after-test, equal-test, first-cut}
+use Rattle.demand.proofs.PeerOrderLaws.{length-only}
 use Rattle.demand.proofs.PeerStoreLaws.{leaves-held, leaves-now, map-map}
-use Rattle.demand.proofs.PeerExpireLaws.{length-only, ascending-by, ascending-same, any-weaker, bare, keeps, aged-id, aged-held, leftContested, leftPeers, leftKeys, expire-left}
+use Rattle.demand.proofs.PeerExpireLaws.{ascending-by, ascending-same, any-weaker, bare, keeps, aged-id, aged-held, leftContested, leftPeers, leftKeys, expire-left}
 
 -- ---- a list that ascends by a number, in its parts
 

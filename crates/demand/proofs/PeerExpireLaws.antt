@@ -22,17 +22,11 @@ use Rattle.demand.specs.PeerChanges.{holdEnded, notEnded, expireHolds, e
 use Rattle.demand.specs.PeerSteps.{inOrder, staysContested, staysPeer}
 use Rattle.demand.proofs.PeerWordLaws.{words-of-exact, contested-of-words, peer-of-words}
 use Rattle.demand.proofs.PeerRangeLaws.{map-self, only-yes, only-no, only-same, only-only, map-only, any-map, any-only}
+use Rattle.demand.proofs.PeerOrderLaws.{length-only}
 use Rattle.demand.proofs.PeerTableLaws.{in-order-says, in-order-intro, holds-more}
 use Rattle.demand.proofs.PeerStoreLaws.{Sound, Tables, map-map}
 
 -- ---- fewer records
-
-pub length-only : {A : Type 0} (p : A → Bool) (xs : List A) → length (only p xs) ≤ length xs
-unfolding only
-length-only p [] = omega arith
-length-only p (x ∷ xs) = split (p x)
-    (λ e. let q : length (only p (x ∷ xs)) ≡ suc (length (only p xs)) = ap length (only-yes p x xs e) in omega (arith, length-only p xs))
-    (λ e. let q : length (only p (x ∷ xs)) ≡ length (only p xs) = ap length (only-no p x xs e) in omega (arith, length-only p xs))
 
 -- a key before that of a record is before those of the records after it
 leads-only : {A : Type 0} (d : ℕ) (words : A → List ℕ) (r : List ℕ) (p : A → Bool) (xs : List A) → leads d r (map words xs) ≡ true → ascending d (map words xs) ≡ true → leads d r (map words (only p xs)) ≡ true

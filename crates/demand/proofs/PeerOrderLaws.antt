@@ -103,7 +103,7 @@ asc-ahead d r (s ∷ rs) a =
     and-intro (before (key d r) (key d s)) (all (λ (x : List ℕ). before (key d r) (key d x)) rs) (t .0)
     (all-imply (λ (x : List ℕ). before (key d s) (key d x)) (λ (x : List ℕ). before (key d r) (key d x)) rs (λ x e. before-trans (key d r) (key d s) (key d x) (t .0) e) (asc-ahead d s rs (t .1)))
 
-asc-rest : (d : ℕ) (r : List ℕ) (rs : List (List ℕ)) → ascending d (r ∷ rs) ≡ true → ascending d rs ≡ true
+pub asc-rest : (d : ℕ) (r : List ℕ) (rs : List (List ℕ)) → ascending d (r ∷ rs) ≡ true → ascending d rs ≡ true
 unfolding ascending
 asc-rest d r rs a = both (leads d r rs) (ascending d rs) a .1
 

@@ -13,7 +13,7 @@ use Rattle.demand.specs.PeerLists.{only, all, any, those, replaced}
 use Rattle.demand.specs.PeerRecords.{Snapshot, PeerRecord, SnapshotKey, ContestedKey, peerWords, snapshotKeyWords, contestedWords, peerOf, snapshotKeyOf, contestedOf}
 use Rattle.demand.specs.PeerState.{PeersState, isKnown, hasSnapshot, validPeer, validSnapshotKey, validContested, validPeers, validSnapshotKeys, validContesteds, valid}
 use Rattle.demand.specs.PeerChanges.{newer, implausible, implausibleJump, staleAfterRounds, exceeds, collected, mergeKeys, oldest, withoutOldests, trimmed, contest, sameKeys, Verdict, takes, contests, duplicates, verdict, takeReport, contestReport, apply, forget, holdPeer, leave, expireHolds, isHeldPeer, expireAge, expire}
-use Rattle.demand.specs.PeerReaders.{heard, totalFrom, total, hotElsewhere, isInSnapshot, len}
+use Rattle.demand.specs.PeerReaders.{heard, totalFrom, total, hotElsewhere, sumOver, peerLen, len}
 
 -- 01: newer(1, 65535) yes; (32768, 0) and (0, 32768) no
 newer-wraps : newer 1 65535 ≡ true
@@ -95,7 +95,7 @@ unfolding heard only those lt ofBits ofFields odd
 heard-joined = refl
 
 len-two : len after-old ≡ 2
-unfolding len only any isInSnapshot
+unfolding len sumOver peerLen those only any
 len-two = refl
 
 -- a hold, then a report of a new epoch that lists a key twice: it is taken as listed last, the hold is gone, and what it replaces is contested

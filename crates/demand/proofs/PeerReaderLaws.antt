@@ -23,8 +23,8 @@ use Rattle.demand.specs.PeerRecords.{PeerRecord, SnapshotKey, ContestedK
 use Rattle.demand.specs.PeerState.{PeersState, PeerTables, maxPeers, maxDemandKeys, maxContested, peerWith, haveRoom, stateOf, isValid, isWord}
 use Rattle.demand.specs.PeerScan.{firstWord, isTime, isSnapshot, isPeer, arePeerWords, areKeyWords, arePeers, areKeys, isScanned, PeersReady}
 use Rattle.demand.specs.PeerChanges.{snapshotIn}
-use Rattle.demand.specs.PeerReaders.{heardTaken, heardContested, snapshotKeyAt, contestedAt, join, heard, addHeard, totalFrom, total, isPrimary, hotElsewhere, isInSnapshot, len}
-use Rattle.demand.specs.PeerHeard.{isListed, KeyTable, StateReady}
+use Rattle.demand.specs.PeerReaders.{heardTaken, heardContested, snapshotKeyAt, contestedAt, join, heard, addHeard, totalFrom, total, isPrimary, hotElsewhere}
+use Rattle.demand.specs.PeerHeard.{counted, isListed, KeyTable, StateReady}
 use Rattle.demand.specs.PeerCalls.{peersQuestions}
 use Rattle.demand.proofs.PeerListLaws.{mapped, any-map, only-map, all-index, any-here, any-end, only-here, only-end, any-only}
 use Rattle.demand.proofs.PeerRangeLaws.{secondWord}
@@ -221,16 +221,16 @@ module _ (n id key : ℕ) (xs : List ℕ) (table : KeyTable 4 n xs) where
 abbrev pub alone : ℕ → List ℕ → List ℕ → Bool
 alone n xs r = not (isListed (firstWord r) (secondWord r) (map snapshotKeyOf (records 4 n xs)))
 
-pub len-starts : (p : PeerDemand) (t : PeerTables) → len (stateOf p t) ≡ p .«snapshot_keys» + length (only (alone (p .«snapshot_keys») (t .snapshotKeys)) (drop 0 (records 6 (p .contested) (t .contested))))
-unfolding len stateOf isInSnapshot isListed contestedOf
+pub len-starts : (p : PeerDemand) (t : PeerTables) → counted (stateOf p t) ≡ p .«snapshot_keys» + length (only (alone (p .«snapshot_keys») (t .snapshotKeys)) (drop 0 (records 6 (p .contested) (t .contested))))
+unfolding counted stateOf isListed contestedOf
 len-starts p t =
     let ks : List SnapshotKey = map snapshotKeyOf (records 4 (p .«snapshot_keys») (t .snapshotKeys)) in
     let crs : List (List ℕ) = records 6 (p .contested) (t .contested) in
-    (λ k. (length-map (records 4 (p .«snapshot_keys») (t .snapshotKeys)) snapshotKeyOf ∙ length-records 4 (p .«snapshot_keys») (t .snapshotKeys)) k + (ap length (only-map contestedOf (λ (c : ContestedKey). not (isInSnapshot ks c)) crs) ∙ length-map (only (alone (p .«snapshot_keys») (t .snapshotKeys)) crs) contestedOf) k)
+    (λ k. (length-map (records 4 (p .«snapshot_keys») (t .snapshotKeys)) snapshotKeyOf ∙ length-records 4 (p .«snapshot_keys») (t .snapshotKeys)) k + (ap length (only-map contestedOf (λ (c : ContestedKey). not (isListed (c .peer) (c .key) ks)) crs) ∙ length-map (only (alone (p .«snapshot_keys») (t .snapshotKeys)) crs) contestedOf) k)
 
-counted : (b : Bool) (xs : List (List ℕ)) (r : List ℕ) → length (cond (not b) (r ∷ xs) xs) ≡ cond b 0 1 + length xs
-counted true xs r = omega arith
-counted false xs r = omega arith
+one-more : (b : Bool) (xs : List (List ℕ)) (r : List ℕ) → length (cond (not b) (r ∷ xs) xs) ≡ cond b 0 1 + length xs
+one-more true xs r = omega arith
+one-more false xs r = omega arith
 
 pub at-most-one : (b : Bool) → cond b 0 1 ≤ 1
 at-most-one true = omega arith
@@ -245,7 +245,7 @@ module _ (n : ℕ) (xs : List ℕ) (m : ℕ) (ys : List ℕ) where
   len-goes i h =
       let r : List ℕ = getD crs i [] in
       ap length (only-here (alone n xs) [] crs i (omega (arith, h, length-records 6 m ys)))
-      ∙ counted (isListed (firstWord r) (secondWord r) (map snapshotKeyOf (records 4 n xs))) (only (alone n xs) (drop (suc i) crs)) r
+      ∙ one-more (isListed (firstWord r) (secondWord r) (map snapshotKeyOf (records 4 n xs))) (only (alone n xs) (drop (suc i) crs)) r
       ∙ (λ k. cond (isListed (first-at 6 m ys i h (omega arith) k) (word-at 6 m ys i 1 h (omega arith) k) (map snapshotKeyOf (records 4 n xs))) 0 1 + length (only (alone n xs) (drop (sym (add-one i) k) crs)))
 
   pub len-ends : (i : ℕ) → m ≤ i → length (only (alone n xs) (drop i crs)) ≡ 0

@@ -1,19 +1,20 @@
 -- What the private functions of the peers' readers cite. Definitions only.
-use Prim.Native.Nat.{ℕ}
+use Prim.Native.Nat.{ℕ, _+_}
 use mathlib.Core.Path.{_≡_}
-use mathlib.Core.Bool.{Bool, true, _&&_}
+use mathlib.Core.Bool.{Bool, true, not, _&&_}
 use lib.Dec.{eqb}
 use mathlib.Core.List.{List}
 use mathlib.Core.Option.{Option, none, some}
 use lib.Ieee.{binary32, ofBits}
+use lib.ListN.{length}
 use Rattle.records.specs.Records.{records, ascending}
 use Rattle.demand.specs.declared.peer_demand.Heard.{Heard}
 use Rattle.demand.specs.declared.peer_demand.PeerDemand.{PeerDemand}
 use Rattle.demand.specs.declared.peer_heard.Said.{Said}
 use Rattle.demand.specs.declared.peer_heard.Said.the-variants as said
-use Rattle.demand.specs.PeerLists.{all, any}
-use Rattle.demand.specs.PeerRecords.{SnapshotKey, flagOf}
-use Rattle.demand.specs.PeerState.{PeerTables}
+use Rattle.demand.specs.PeerLists.{only, all, any}
+use Rattle.demand.specs.PeerRecords.{SnapshotKey, ContestedKey, flagOf}
+use Rattle.demand.specs.PeerState.{PeersState, PeerTables}
 use Rattle.demand.specs.PeerScan.{arePeerWords, areKeyWords, PeersReady, KeysReady}
 
 -- what was heard, if anything
@@ -28,6 +29,12 @@ heardOf demand flag round at = record { demand = ofBits binary32 demand; primary
 -- the snapshot keys have this one
 unfoldable pub isListed : ℕ → ℕ → List SnapshotKey → Bool
 isListed id key ks = any (λ (k : SnapshotKey). eqb (k .peer) id && eqb (k .key) key) ks
+
+-- `len`, counted without going by peers: the snapshot keys, and the contested keys that are not among them
+unfoldable pub counted : PeersState → ℕ
+counted s =
+    length (s .snapshotKeys)
+    + length (only (λ (c : ContestedKey). not (isListed (c .peer) (c .key) (s .snapshotKeys))) (s .contested))
 
 -- what a lookup needs of a table of keys, and a reader of the three tables
 pub record KeyTable (w n : ℕ) (xs : List ℕ) : Type 0 where

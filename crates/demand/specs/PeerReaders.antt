@@ -1,6 +1,6 @@
 -- What the peers' state says of a key (peer_demand.rs: `heard`, `get`, `total`, `hot_elsewhere`, `len`). Definitions only.
 use Prim.Native.Nat.{ℕ, _+_}
-use mathlib.Core.Bool.{Bool, true, false, cond, not, _&&_, _||_}
+use mathlib.Core.Bool.{Bool, true, false, cond, not, _||_}
 use mathlib.Core.List.{List, [], _∷_}
 use mathlib.Core.Option.{Option, none, some}
 use lib.Dec.{eqb}
@@ -74,10 +74,17 @@ isPrimary (some h) = h .primary
 unfoldable pub hotElsewhere : ℕ → PeersState → Bool
 hotElsewhere key s = any (λ (p : PeerRecord). isPrimary (heard (p .id) key s)) (s .peers)
 
--- how many keys are known over all peers: those of the snapshots, and those that are contested alone
-unfoldable pub isInSnapshot : List SnapshotKey → ContestedKey → Bool
-isInSnapshot ks c = any (λ (k : SnapshotKey). eqb (k .peer) (c .peer) && eqb (k .key) (c .key)) ks
+-- a number of each peer, added up
+unfoldable pub sumOver : (ℕ → ℕ) → List PeerRecord → ℕ
+sumOver f [] = 0
+sumOver f (p ∷ ps) = f (p .id) + sumOver f ps
 
+-- `Peer::len`: the keys of the peer's snapshot, and its contested keys that the snapshot has not
+unfoldable pub peerLen : PeersState → ℕ → ℕ
+peerLen s id =
+    length (snapshotKeysOf id (s .snapshotKeys))
+    + length (only (λ (c : ContestedKey). not (any (λ (k : SnapshotKey). eqb (k .key) (c .key)) (snapshotKeysOf id (s .snapshotKeys)))) (contestedKeysOf id (s .contested)))
+
+-- how many keys are known over all peers
 unfoldable pub len : PeersState → ℕ
-len s =
-    length (s .snapshotKeys) + length (only (λ (c : ContestedKey). not (isInSnapshot (s .snapshotKeys) c)) (s .contested))
+len s = sumOver (peerLen s) (s .peers)

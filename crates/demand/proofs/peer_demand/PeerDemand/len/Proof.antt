@@ -1,6 +1,8 @@
 -- `len` meets its contract.
+use mathlib.Core.Path.{_∙_}
 use Rattle.demand.specs.PeerState.{tables}
 use Rattle.demand.specs.PeerHeard.{StateReady}
+use Rattle.demand.proofs.PeerLenLaws.{asked-counted}
 use Rattle.demand.proofs.PeerReaderLaws.{asked-ready, answer-no, answer-yes}
 use borrow.Author.Needs.{needs}
 use Rattle.demand.proofs.peer_demand.PeerDemand.len.Statement.{statement}
@@ -28,7 +30,9 @@ count-keys-requires c κs = ready c
 returns-2 : tie.Need-returns-2
 returns-2 c =
     let e = c .before in
-    answer-yes (e .before .ask .result) _ _ _ (e .before .ask .ensures) (e .if1 .left) (c .count-keys .ensures)
+    let s = e .before .before .before .before .before .args in
+    let all-keys = c .count-keys .ensures ∙ asked-counted (s .self) (tables (s .peers .now) (s .snapshot-keys .now) (s .contested .now)) (e .before .ask .result) (e .before .ask .ensures) (e .if1 .left) in
+    answer-yes (e .before .ask .result) _ _ _ (e .before .ask .ensures) (e .if1 .left) all-keys
 
 pub len-spec : {M : Type 1} → statement M
 len-spec = tie.close (tie.spec ask-requires returns count-keys-requires returns-2)
