@@ -21,8 +21,7 @@ use Rattle.demand.proofs.PeerContestLaws.{Contesteds}
 use Rattle.demand.proofs.PeerKeyLaws.{Keys}
 use Rattle.demand.proofs.PeerListLaws.{all-map}
 use Rattle.demand.proofs.PeerScanLaws.{eqb-turn}
-use Rattle.demand.proofs.PeerReportLaws.{any-counted}
-use Rattle.demand.proofs.PeerRangeLaws.{only-yes, only-no, only-append, only-same, replaced-words}
+use Rattle.demand.proofs.PeerRangeLaws.{only-yes, only-no, only-append, only-same, replaced-words, any-counted}
 use Rattle.demand.proofs.PeerOrderLaws.{all-append, all-only, only-passes, all-replaced, all-imply, all-two, length-replaced, asc-replaced, first-before}
 
 pub or-right : (a b : Bool) → b ≡ true → (a || b) ≡ true

@@ -341,13 +341,14 @@ pub any-those : {A : Type 0} (number : A → ℕ) (a : ℕ) (p : A → Bool) (xs
 unfolding those
 any-those number a p xs = sym (any-only p (λ x. eqb (number x) a) xs)
 
-pub any-some : {A : Type 0} (xs : List A) → any (λ x. true) xs ≡ ltb 0 (length xs)
-unfolding any
-any-some [] = refl
-any-some (x ∷ xs) = sym (lt-ltb 0 (suc (length xs)) (suc-le-suc zero-le))
+-- as many as pass
+pub any-counted : {A : Type 0} (p : A → Bool) (xs : List A) → any p xs ≡ ltb 0 (length (only p xs))
+unfolding any only
+any-counted p [] = refl
+any-counted p (x ∷ xs) = split (p x)
+    (λ e. ap (λ (b : Bool). b || any p xs) e ∙ sym (ap (λ l. ltb 0 (length l)) (only-yes p x xs e) ∙ lt-ltb 0 (suc (length (only p xs))) (suc-le-suc zero-le)))
+    (λ e. ap (λ (b : Bool). b || any p xs) e ∙ any-counted p xs ∙ sym (ap (λ l. ltb 0 (length l)) (only-no p x xs e)))
 
 pub any-number : {A : Type 0} (number : A → ℕ) (a : ℕ) (xs : List A) → any (λ x. eqb (number x) a) xs ≡ ltb 0 (length (those number a xs))
-any-number number a xs =
-    any-same (λ x. eqb (number x) a) (λ x. eqb (number x) a && true) (λ x. sym (and-true (eqb (number x) a))) xs
-    ∙ any-those number a (λ x. true) xs
-    ∙ any-some (those number a xs)
+unfolding those
+any-number number a xs = any-counted (λ x. eqb (number x) a) xs

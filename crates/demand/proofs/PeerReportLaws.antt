@@ -25,18 +25,16 @@ use Rattle.demand.specs.PeerRecords.{Snapshot, PeerRecord, snapshotOf, t
 use Rattle.demand.specs.PeerState.{isWord, isKnown, peerWith, validSnapshot, validPast, validPeer}
 use Rattle.demand.specs.PeerChanges as changes
 use Rattle.demand.specs.PeerRuns.{word, peersIn, Replaceable, Front, Known, orNew, nextPast, verdictWith, pastAfter}
-use Rattle.demand.proofs.PeerRangeLaws.{only-yes, only-no, those-at, those-gap, first-shape, word-before, firstWord, those-words}
-use Rattle.demand.proofs.PeerRunLaws.{load-count}
+use Rattle.demand.proofs.PeerRangeLaws.{any-map, only-yes, only-no, those-at, those-gap, first-shape, word-before, firstWord, those-words}
+
 use Rattle.demand.proofs.PeerOrderLaws.{length-replaced}
 
 -- ---- a peer among the known ones
 
-pub any-counted : {A : Type 0} (p : A → Bool) (xs : List A) → any p xs ≡ ltb 0 (length (only p xs))
-unfolding any only
-any-counted p [] = refl
-any-counted p (x ∷ xs) = split (p x)
-    (λ e. ap (λ (b : Bool). b || any p xs) e ∙ sym (ap (λ l. ltb 0 (length l)) (only-yes p x xs e) ∙ lt-ltb 0 (suc (length (only p xs))) (suc-le-suc zero-le)))
-    (λ e. ap (λ (b : Bool). b || any p xs) e ∙ any-counted p xs ∙ sym (ap (λ l. ltb 0 (length l)) (only-no p x xs e)))
+-- a peer is known where a record has its id
+pub known-is : (n id : ℕ) (xs : List ℕ) → any (λ (r : List ℕ). eqb (word 0 r) id) (records 12 n xs) ≡ isKnown (peersIn n xs) id
+unfolding isKnown peerOf
+known-is n id xs = sym (any-map peerOf (λ (p : PeerRecord). eqb (p .id) id) (records 12 n xs))
 
 module _ (n id : ℕ) (xs : List ℕ) (k : Known n xs) where
   those-peers : those (word 0) id (records 12 n xs) ≡ map peerWords (those (λ (p : PeerRecord). p .id) id (peersIn n xs))
@@ -73,17 +71,6 @@ module _ (n id : ℕ) (xs : List ℕ) (k : Known n xs) where
 
   peers-length : length (those (word 0) id (records 12 n xs)) ≡ length (those (λ (p : PeerRecord). p .id) id (peersIn n xs))
   peers-length = ap length those-peers ∙ length-map (those (λ (p : PeerRecord). p .id) id (peersIn n xs)) peerWords
-
-  pub known-is : (lo hi : ℕ) → rangeIn 12 n id xs ≡ Between lo hi → ltb lo hi ≡ isKnown (peersIn n xs) id
-  unfolding isKnown those
-  known-is lo hi e =
-      let q : hi - lo ≡ length (those (word 0) id (records 12 n xs)) = load-count 12 n id lo hi xs [] (take ((hi - lo) * 12) (drop (lo * 12) xs)) read-fits e refl in
-      by-gap lo hi (length (those (λ (p : PeerRecord). p .id) id (peersIn n xs))) (q ∙ peers-length) ∙ sym (any-counted (λ (p : PeerRecord). eqb (p .id) id) (peersIn n xs))
-    where
-      by-gap : (lo hi m : ℕ) → hi - lo ≡ m → ltb lo hi ≡ ltb 0 m
-      by-gap lo hi m e = split (ltb lo hi)
-          (λ h. h ∙ sym (lt-ltb 0 m (omega (arith, ltb-true lo hi h))))
-          (λ h. h ∙ sym (le-ltb 0 m (omega (arith, ltb-false lo hi h))))
 
   -- read into twelve words
   module _ (m : ℕ) (ws : List ℕ) (f : Front 12 m (those (word 0) id (records 12 n xs)) ws) where

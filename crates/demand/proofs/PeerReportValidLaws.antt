@@ -24,7 +24,7 @@ use Rattle.demand.specs.PeerCalls.{Widths, fitsWidths}
 use Rattle.demand.proofs.PeerOrderLaws.{all-only}
 use Rattle.demand.proofs.PeerContestLaws.{Contesteds}
 use Rattle.demand.proofs.PeerContestedLaws.{peers-contested}
-use Rattle.demand.proofs.PeerReportLaws.{any-counted}
+use Rattle.demand.proofs.PeerRangeLaws.{any-counted}
 use Rattle.demand.proofs.PeerKeyLaws.{put-keeps, put-length, Keys, peers-keys, key-valid}
 use Rattle.demand.proofs.PeerKeptLaws.{ValidState, valid-says, valid-intro, contested-kept, report-kept, taken-valid}
 use Rattle.demand.proofs.PeerValidLaws.{all-take}

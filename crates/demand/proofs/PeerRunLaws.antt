@@ -5,14 +5,14 @@ use mathlib.Core.List.{List, [], _∷_, append-nil}
 use Prim.Native.Nat.{ℕ, zero, suc, _+_, _-_, _*_, _/_, _%_, _≤_, _<_}
 use native.Mathlib.Nat.{div-add-mod', add-mul, zero-mul, suc-mul, mul-le-mul-right, mul-div-left, mul-mod-left}
 use native.Mathlib.Omega.{arith}
-use borrow.Author.Tests.{lt-ltb, le-leb, eqb-true, eq-eqb}
+use borrow.Author.Tests.{ltb-true, ltb-false, lt-ltb, le-ltb, le-leb, eqb-true, eq-eqb}
 use lib.Dec.{ltb, leb, eqb}
 use lib.ListN.{length, take, drop, getD, length-drop}
-use lib.Seq.{slice, take-nil, drop-nil, take-take, length-take-le}
+use lib.Seq.{slice, length-slice, take-nil, drop-nil, take-take, length-take-le}
 use Rattle.records.specs.declared.Found.the-variants.{At, Gap, Unfit}
 use Rattle.records.specs.declared.Span.the-variants.{Between, NoSpan}
 use Rattle.records.specs.Records.{records, table, fits, keyed, lowerBound, find, findIn, rangeOf, rangeIn, splice, insertAt, overwriteAt, spliceable, spliced, insertable, inserted, overwritable, overwritten, removable}
-use Rattle.records.proofs.TestLaws.{and-intro}
+use Rattle.records.proofs.TestLaws.{split, and-intro}
 use Rattle.records.proofs.RecordLaws.{fits-pos, fits-le, fits-intro, sub-mul, length-records, take-records, drop-records}
 use Rattle.records.proofs.SpliceLaws.{splice-intro}
 use Rattle.records.proofs.OrderLaws.{keyed-is, keyAt}
@@ -20,10 +20,10 @@ use Rattle.records.proofs.SearchLaws.{find-fit}
 use Rattle.records.proofs.PlaceLaws.{find-cases, at-says, gap-place}
 use Rattle.records.proofs.EditLaws.{length-splice, length-insert, length-overwrite}
 use Rattle.records.proofs.TableLaws.{Wide, wide-records, records-spliced, records-inserted, records-overwritten}
-use Rattle.demand.specs.PeerLists.{those, replaced}
+use Rattle.demand.specs.PeerLists.{any, those, replaced}
 use Rattle.demand.specs.PeerRuns.{word, replacedRun, Replaceable, Tabled, Front, Run}
 use Rattle.demand.proofs.PeerListLaws.{all-index}
-use Rattle.demand.proofs.PeerRangeLaws.{those-range, replaced-splice, range-ordered, first-cut, replaced-at, replaced-gap, second-shape, second-order, firstWord, secondWord}
+use Rattle.demand.proofs.PeerRangeLaws.{those-range, replaced-splice, range-ordered, first-cut, replaced-at, replaced-gap, second-shape, second-order, any-number, firstWord, secondWord}
 
 -- what holds of the words holds of the same words
 pub front-as : {w n : ℕ} {rs : List (List ℕ)} {ys zs : List ℕ} → ys ≡ zs → Front w n rs zs → Front w n rs ys
@@ -82,6 +82,16 @@ module _ (w n a lo hi : ℕ) (new xs : List ℕ) (p : Replaceable w n a new xs) 
   run-those =
       those-range (p .depth) w a (records w n xs) (p .some-words) width wide (p .ascends)
       ∙ sym (λ k. slice (low k) (high k) (records w n xs))
+
+  pub run-any : ltb lo hi ≡ any (λ (r : List ℕ). eqb (word 0 r) a) (records w n xs)
+  run-any =
+      let l : length (those (word 0) a (records w n xs)) ≡ hi - lo = ap length run-those ∙ length-slice lo hi (records w n xs) (omega (arith, run-within, length-records w n xs)) in
+      by-gap (length (those (word 0) a (records w n xs))) (sym l) ∙ sym (any-number (word 0) a (records w n xs))
+    where
+      by-gap : (m : ℕ) → hi - lo ≡ m → ltb lo hi ≡ ltb 0 m
+      by-gap m e = split (ltb lo hi)
+          (λ f. f ∙ sym (lt-ltb 0 m (omega (arith, ltb-true lo hi f))))
+          (λ f. f ∙ sym (le-ltb 0 m (omega (arith, ltb-false lo hi f))))
 
   pub run-count : n - (hi - lo) + length new / w ≡ length (replacedRun w n a new xs)
   run-count =

@@ -22,7 +22,7 @@ use Rattle.demand.specs.PeerChanges as changes
 use Rattle.demand.specs.PeerRuns.{word, keysIn, contestedIn, peersIn, Replaceable, Front, KeyRun, orNew, verdictWith, pastAfter, Reported, Read}
 use Rattle.demand.proofs.PeerOrderLaws.{all-imply, length-replaced}
 use Rattle.demand.proofs.PeerRunLaws.{records-take}
-use Rattle.demand.proofs.PeerReportLaws.{any-counted}
+use Rattle.demand.proofs.PeerRangeLaws.{any-counted}
 use Rattle.demand.proofs.PeerKeyLaws.{Keys, keys-typed, keys-in, keys-run, peers-keys, those-keys}
 use Rattle.demand.proofs.PeerKeptLaws.{taken-known}
 use Rattle.demand.proofs.PeerTakeLaws.{OldPeer, few-of-peer, snapshot-is, past-is}

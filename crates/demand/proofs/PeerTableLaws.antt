@@ -23,8 +23,10 @@ use Rattle.demand.specs.PeerLists.{any, those, replaced}
 use Rattle.demand.specs.PeerState.{Holds}
 use Rattle.demand.specs.PeerScan.{firstWord}
 use Rattle.demand.specs.PeerSteps.{inOrder}
+use Rattle.demand.specs.PeerRuns.{replacedRun, Replaceable, Tabled}
+use Rattle.demand.proofs.PeerOrderLaws.{length-replaced}
 use Rattle.demand.proofs.PeerRowLaws.{find-says, never-unfit}
-use Rattle.demand.proofs.PeerRangeLaws.{range-ordered, those-range, replaced-splice, those-at, those-gap, replaced-at, replaced-gap, first-shape, word-before, any-map, any-same, any-those, any-number}
+use Rattle.demand.proofs.PeerRangeLaws.{replaced-splice, those-at, those-gap, replaced-at, replaced-gap, first-shape, word-before, any-map, any-same, any-those}
 
 -- ---- records in order
 
@@ -79,98 +81,35 @@ holds-table w n rs xs p h l =
 -- ---- the records of one number taken out
 
 module _ (w d n a : ℕ) (xs : List ℕ) (h : 1 ≤ d) (o : InOrder w d n xs) where
-  abbrev rs : List (List ℕ)
-  rs = records w n xs
-
-  abbrev lo : ℕ
-  lo = lowerBound 1 (a ∷ []) (records w n xs)
-
-  abbrev hi : ℕ
-  hi = lowerBound 1 ((a + 1) ∷ []) (records w n xs)
-
-  ordered : lo ≤ hi
-  ordered = range-ordered d w a (records w n xs) h (o .width) (o .wide) (o .order)
-
-  inside : hi ≤ n
-  inside = omega (arith, range-within d a (records w n xs) h (o .order), length-records w n xs)
-
-  fitting : spliceable (length xs) w n lo hi 0 ≡ true
-  fitting =
-      let k : n - (hi - lo) ≤ n = omega arith in
-      splice-intro (length xs) w n lo hi 0 (record {
-        width = o .width;
-        within = o .words;
-        order = ordered;
-        last = inside;
-        whole = zero-mod w;
-        room = omega (arith, mul-le-mul-right w k, o .words);
-      })
-
-  shorter : length (splice lo hi [] rs) ≡ n - (hi - lo)
-  shorter =
+  fewer : length (replaced firstWord a [] (records w n xs)) ≤ n
+  fewer =
       let z : length {A = List ℕ} [] ≡ 0 = refl in
-      length-splice lo hi [] (records w n xs) (omega (arith, length-records w n xs, ordered, inside)) ∙ omega (arith, length-records w n xs, ordered, inside)
+      omega (arith, z, length-replaced firstWord a [] (records w n xs), length-records w n xs)
 
-  taken-out : Holds w (n * w) (n - (hi - lo)) (replaced firstWord a [] (records w n xs)) xs (spliced w n lo hi [] xs)
-  unfolding spliced records
-  taken-out =
-      let ss : List (List ℕ) = splice lo hi [] (records w n xs) in
-      let e : spliced w n lo hi [] xs ≡ table ss xs = ap (λ (b : Bool). cond b (table (splice lo hi (records w (0 / w) []) (records w n xs)) xs) xs) fitting ∙ ap (λ (m : ℕ). table (splice lo hi (records w m []) (records w n xs)) xs) (zero-div w) in
-      let t : Holds w (n * w) (length ss) ss xs (table ss xs) = holds-table w n ss xs (wide-splice w lo hi [] (records w n xs) tt (o .wide)) (omega (arith, shorter)) (o .words) in
-      let u : Holds w (n * w) (n - (hi - lo)) ss xs (table ss xs) = subst (λ (m : ℕ). Holds w (n * w) m ss xs (table ss xs)) shorter t in
-      let v : Holds w (n * w) (n - (hi - lo)) ss xs (spliced w n lo hi [] xs) = subst (λ (ys : List ℕ). Holds w (n * w) (n - (hi - lo)) ss xs ys) (sym e) u in
-      subst (λ (l : List (List ℕ)). Holds w (n * w) (n - (hi - lo)) l xs (spliced w n lo hi [] xs)) (sym (replaced-splice d w a (records w n xs) h (o .width) (o .wide) (o .order) [])) v
+  nothing-new : replacedRun w n a [] xs ≡ replaced firstWord a [] (records w n xs)
+  unfolding records
+  nothing-new = ap (λ (k : ℕ). replaced firstWord a (records w k []) (records w n xs)) (zero-div w)
 
-  range-here : rangeIn w n a xs ≡ Between lo hi
-  unfolding rangeIn rangeOf
-  range-here = ap (λ (b : Bool). cond b (Between (lowerBound 1 (a ∷ []) (records w n xs)) (lowerBound 1 ((a + 1) ∷ []) (records w n xs))) NoSpan) (o .keys .fit)
+  pub in-order-run : Replaceable w n a [] xs
+  in-order-run = record {
+    fit = o .keys .fit;
+    depth = d;
+    some-words = h;
+    ascends = o .order;
+    whole = zero-mod w;
+    room =
+        let l : length (replacedRun w n a [] xs) ≤ n = omega (arith, ap length nothing-new, fewer) in
+        omega (arith, mul-le-mul-right w l, o .words);
+  }
 
-  -- what `range` answers
-  pub span-is : (i j : ℕ) → Between i j ≡ rangeIn w n a xs → (i ≡ lo) × (j ≡ hi)
-  span-is i j e =
-      let q : Between i j ≡ Between lo hi = e ∙ range-here in
-      (cc, cc)
-
-  pub no-span : {P : Type 0} → NoSpan ≡ rangeIn w n a xs → P
-  no-span e =
-      let q : NoSpan ≡ Between lo hi = e ∙ range-here in
-      let z : _≡_ {A = ℕ} 0 1 = cc in
-      absurd (omega arith)
-
-  pub span-bounds : (i j : ℕ) → Between i j ≡ rangeIn w n a xs → (i ≤ j) × (j ≤ n)
-  span-bounds i j e =
-      let q = span-is i j e in
-      (omega (arith, q, ordered), omega (arith, q, inside))
-
-  pub span-out : (i j : ℕ) → Between i j ≡ rangeIn w n a xs → Holds w (n * w) (n - (j - i)) (replaced firstWord a [] (records w n xs)) xs (spliced w n i j [] xs)
-  span-out i j e =
-      let q = span-is i j e in
-      subst (λ (m : ℕ). Holds w (n * w) (n - (j - m)) (replaced firstWord a [] (records w n xs)) xs (spliced w n m j [] xs)) (sym (q .0))
-      (subst (λ (m : ℕ). Holds w (n * w) (n - (m - lo)) (replaced firstWord a [] (records w n xs)) xs (spliced w n lo m [] xs)) (sym (q .1)) taken-out)
-
-  -- is there one in the range?
-  pub span-any : (i j : ℕ) → Between i j ≡ rangeIn w n a xs → ltb i j ≡ any (λ r. eqb (firstWord r) a) (records w n xs)
-  span-any i j e =
-      let q = span-is i j e in
-      let l : length (those firstWord a (records w n xs)) ≡ hi - lo = ap length (those-range d w a (records w n xs) h (o .width) (o .wide) (o .order)) ∙ length-slice lo hi (records w n xs) (omega (arith, inside, length-records w n xs)) in
-      any-test i j (length (those firstWord a (records w n xs))) (omega (arith, q, l)) ∙ sym (any-number firstWord a (records w n xs))
-    where
-      any-test : (x y m : ℕ) → m ≡ y - x → ltb x y ≡ ltb 0 m
-      any-test x y m k = split (ltb x y)
-          (λ f. f ∙ sym (lt-ltb 0 m (omega (arith, ltb-true x y f))))
-          (λ f. f ∙ sym (le-ltb 0 m (omega (arith, ltb-false x y f))))
-
--- by one word or by two
-pub either-order : {P : Type 0} (w n : ℕ) (xs : List ℕ) → (inOrder w 1 n xs || inOrder w 2 n xs) ≡ true → ((d : ℕ) → 1 ≤ d → InOrder w d n xs → P) → P
-either-order w n xs e f = split (inOrder w 1 n xs)
-    (λ p. f 1 (omega arith) (in-order-says w 1 n xs p))
-    (λ p. f 2 (omega arith) (in-order-says w 2 n xs (sym (ap (λ (b : Bool). b || inOrder w 2 n xs) p) ∙ e)))
-
-pub by-one : (w n : ℕ) (xs : List ℕ) → inOrder w 1 n xs ≡ true → (inOrder w 1 n xs || inOrder w 2 n xs) ≡ true
-by-one w n xs e = ap (λ (b : Bool). b || inOrder w 2 n xs) e
-
-pub by-two : (w n : ℕ) (xs : List ℕ) → inOrder w 2 n xs ≡ true → (inOrder w 1 n xs || inOrder w 2 n xs) ≡ true
-by-two w n xs e = split (inOrder w 1 n xs) (by-one w n xs) (λ f. (λ k. f k || e k))
+  pub run-out : (m : ℕ) (ys : List ℕ) → Tabled m (replacedRun w n a [] xs) xs ys → Holds w (n * w) m (replaced firstWord a [] (records w n xs)) xs ys
+  run-out m ys t =
+      let rs : List (List ℕ) = replaced firstWord a [] (records w n xs) in
+      let e : m ≡ length rs = t .count ∙ ap length nothing-new in
+      let cut : rs ≡ splice _ _ [] (records w n xs) = replaced-splice d w a (records w n xs) h (o .width) (o .wide) (o .order) [] in
+      let wide : Wide w rs = subst (Wide w) (sym cut) (wide-splice w _ _ [] (records w n xs) tt (o .wide)) in
+      subst (λ (zs : List ℕ). Holds w (n * w) m rs xs zs) (sym (t .words ∙ ap (λ (l : List (List ℕ)). table l xs) nothing-new))
+      (subst (λ (k : ℕ). Holds w (n * w) k rs xs (table rs xs)) (sym e) (holds-table w n rs xs wide fewer (o .words)))
 
 -- ---- the one record with a number, by `find`
 

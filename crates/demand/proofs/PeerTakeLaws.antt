@@ -26,7 +26,8 @@ use Rattle.demand.proofs.PeerOrderLaws.{all-only, all-imply, length-rep
 use Rattle.demand.proofs.PeerRangeLaws.{replaced-words}
 use Rattle.demand.proofs.PeerContestLaws.{Contesteds, Sayable, merge-keeps, without-keeps}
 use Rattle.demand.proofs.PeerContestedLaws.{peers-contested}
-use Rattle.demand.proofs.PeerReportLaws.{any-counted, PeerFacts, snapshot-none, snapshot-some, no-peer-valid}
+use Rattle.demand.proofs.PeerRangeLaws.{any-counted}
+use Rattle.demand.proofs.PeerReportLaws.{PeerFacts, snapshot-none, snapshot-some, no-peer-valid}
 use Rattle.demand.proofs.PeerKeyLaws.{Keys, keys-typed, with-keys}
 use Rattle.demand.proofs.PeerKeptLaws.{or-right, ValidState, few-keys, few-contested, contested-kept, report-kept, taken-valid, only-nothing}
 use Rattle.demand.proofs.PeerApplyLaws.{Tables, known-table, peers-fit, keys-fit, contested-fit, keys-asc, contested-asc, holds-of, holds-same, wide-map, peer-long, key-long, contested-long}

@@ -1,5 +1,9 @@
 // The steps of a departure and of expiry: records taken out, kept by a test, or changed, in one
 // lent table.
+use crate::peer_demand::CONTESTED_WORDS;
+use crate::peer_demand::PEER_WORDS;
+use crate::peer_demand::SNAPSHOT_KEY_WORDS;
+use crate::peer_runs;
 ghost use mathlib.Core.Path.{_≡_};
 ghost use mathlib.Core.Bool.{true, cond, _||_};
 ghost use mathlib.Core.List.{[], map};
@@ -14,25 +18,6 @@ ghost use Rattle.demand.specs.PeerState.{hasSnapshot, isTaken, exact, Ho
 ghost use Rattle.demand.specs.PeerChanges.{isFresh, later, hold, agePeer};
 ghost use Rattle.demand.specs.PeerScan.{firstWord};
 ghost use Rattle.demand.specs.PeerSteps.{inOrder, staysContested, isStale, staysPeer};
-
-// Takes out the records whose first word is `first`, and tells how many are left.
-pub(crate) fn without(t: &mut [u64], w: usize, n: usize, first: u64) -> usize
-    requires { ⌜ (inOrder w 1 n (now t) || inOrder w 2 n (now t)) ≡ true ⌝ }
-    ensures { λ r. ⌜
-        Holds w (n * w) r (replaced firstWord first [] (records w n (now (t .entry)))) (now (t .entry))
-        (now (t .exit))
-        ⌝ }
-{
-    let none: [u64; 0] = [];
-    let span = records::range(t, w, n, first);
-    match span {
-        records::Span::Between(lo, hi) => {
-            records::splice(t, w, n, lo, hi, &none);
-            n - (hi - lo)
-        }
-        records::Span::NoSpan => n,
-    }
-}
 
 // Copies record `from` over record `to`, which is not after it.
 fn move_record(t: &mut [u64], w: usize, from: usize, to: usize)
@@ -87,23 +72,11 @@ fn has_snapshot(peers: &[u64], n: usize, id: u64) -> bool
     requires { ⌜ inOrder 12 1 n (now peers) ≡ true ⌝ }
     ensures { λ r. ⌜ r ≡ hasSnapshot (map peerOf (records 12 n (now (peers .entry)))) id ⌝ }
 {
-    let found = records::find(peers, crate::peer_demand::PEER_WORDS, 1, n, id, 0);
+    let found = records::find(peers, PEER_WORDS, 1, n, id, 0);
     match found {
-        records::Found::At(i) => peers[i * crate::peer_demand::PEER_WORDS + 3] != 0,
+        records::Found::At(i) => peers[i * PEER_WORDS + 3] != 0,
         records::Found::Gap(_) => false,
         records::Found::Unfit => false,
-    }
-}
-
-// Whether a peer has a contested key.
-fn has_contested(contested: &[u64], c: usize, id: u64) -> bool
-    requires { ⌜ inOrder 6 2 c (now contested) ≡ true ⌝ }
-    ensures { λ r. ⌜ r ≡ any (λ x. eqb (contestedOf x .peer) id) (records 6 c (now (contested .entry))) ⌝ }
-{
-    let span = records::range(contested, crate::peer_demand::CONTESTED_WORDS, c, id);
-    match span {
-        records::Span::Between(lo, hi) => lo < hi,
-        records::Span::NoSpan => false,
     }
 }
 
@@ -119,10 +92,10 @@ fn stays_contested(
     requires { ⌜ inOrder 12 1 n (now peers) ≡ true ⌝ }
     ensures { λ r. ⌜ r ≡ staysContested reading «max_age» (map peerOf (records 12 n (now (peers .entry)))) id «heard_at» ⌝ }
 {
-    let found = records::find(peers, crate::peer_demand::PEER_WORDS, 1, n, id, 0);
+    let found = records::find(peers, PEER_WORDS, 1, n, id, 0);
     match found {
         records::Found::At(i) => {
-            let at = i * crate::peer_demand::PEER_WORDS;
+            let at = i * PEER_WORDS;
             if peers[at + 1] != 0 {
                 return reading < peers[at + 2];
             }
@@ -154,11 +127,11 @@ pub(crate) fn retain_contested(
     let mut kept = 0;
     let mut i = 0;
     while i < c {
-        let at = i * crate::peer_demand::CONTESTED_WORDS;
+        let at = i * CONTESTED_WORDS;
         let stays = stays_contested(peers, n, contested[at], contested[at + 5], reading, max_age);
         kept = keep_record(
             contested,
-            crate::peer_demand::CONTESTED_WORDS,
+            CONTESTED_WORDS,
             i,
             kept,
             stays,
@@ -195,7 +168,7 @@ fn age_peer(peers: &mut [u64], n: usize, i: usize, reading: u64, max_age: u64)
         (records 12 n (now (peers .entry)))) (now (peers .entry)) (now (peers .exit))
         ⌝ }
 {
-    let at = i * crate::peer_demand::PEER_WORDS;
+    let at = i * PEER_WORDS;
     if is_stale(
         peers[at + 1],
         peers[at + 3],
@@ -204,7 +177,7 @@ fn age_peer(peers: &mut [u64], n: usize, i: usize, reading: u64, max_age: u64)
         max_age,
     ) {
         let bare: [u64; 12] = [peers[at], 0, 0, 0, 0, 0, 0, 0, 0, 0, 0, 0];
-        records::overwrite(peers, crate::peer_demand::PEER_WORDS, n, i, &bare);
+        records::overwrite(peers, PEER_WORDS, n, i, &bare);
     }
 }
 
@@ -246,7 +219,7 @@ fn stays_peer(
     if taken != 0 {
         return true;
     }
-    has_contested(contested, c, id)
+    peer_runs::has_run(contested, CONTESTED_WORDS, c, id)
 }
 
 // Keeps the peers that stay, and tells how many.
@@ -269,7 +242,7 @@ pub(crate) fn retain_peers(
     let mut kept = 0;
     let mut i = 0;
     while i < n {
-        let at = i * crate::peer_demand::PEER_WORDS;
+        let at = i * PEER_WORDS;
         let stays = stays_peer(
             contested,
             c,
@@ -279,7 +252,7 @@ pub(crate) fn retain_peers(
             peers[at + 3],
             reading,
         );
-        kept = keep_record(peers, crate::peer_demand::PEER_WORDS, i, kept, stays);
+        kept = keep_record(peers, PEER_WORDS, i, kept, stays);
         i += 1;
     }
     kept
@@ -303,11 +276,11 @@ pub(crate) fn retain_snapshot_keys(
     let mut kept = 0;
     let mut i = 0;
     while i < k {
-        let at = i * crate::peer_demand::SNAPSHOT_KEY_WORDS;
+        let at = i * SNAPSHOT_KEY_WORDS;
         let stays = has_snapshot(peers, n, snapshot_keys[at]);
         kept = keep_record(
             snapshot_keys,
-            crate::peer_demand::SNAPSHOT_KEY_WORDS,
+            SNAPSHOT_KEY_WORDS,
             i,
             kept,
             stays,
@@ -328,10 +301,10 @@ pub(crate) fn hold_peer(peers: &mut [u64], n: usize, id: u64, until: u64)
         (records 12 n (now (peers .entry)))) (now (peers .entry)) (now (peers .exit))
         ⌝ }
 {
-    let found = records::find(peers, crate::peer_demand::PEER_WORDS, 1, n, id, 0);
+    let found = records::find(peers, PEER_WORDS, 1, n, id, 0);
     match found {
         records::Found::At(i) => {
-            let at = i * crate::peer_demand::PEER_WORDS;
+            let at = i * PEER_WORDS;
             peers[at + 1] = 1;
             peers[at + 2] = until;
         }

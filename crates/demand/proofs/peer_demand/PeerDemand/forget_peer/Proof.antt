@@ -1,7 +1,8 @@
 -- `forget_peer` meets its contract: its records are taken out of each table.
+use native.Mathlib.Omega.{arith}
 use borrow.Author.Needs.{needs}
 use Rattle.demand.specs.PeerState.{tables}
-use Rattle.demand.proofs.PeerTableLaws.{by-one, by-two}
+use Rattle.demand.proofs.PeerTableLaws.{InOrder, in-order-says, in-order-run, run-out}
 use Rattle.demand.proofs.PeerStoreLaws.{Tables, tables-of, forgotten}
 use Rattle.demand.proofs.peer_demand.PeerDemand.forget_peer.Statement.{statement}
 use Rattle.demand.proofs.peer_demand.PeerDemand.forget_peer.Tie as tie
@@ -9,23 +10,42 @@ use Rattle.demand.proofs.peer_demand.PeerDemand.forget_peer.Tie as tie
 sound : (c : tie.Start) → Tables (c .args .self) (tables (c .args .peers .now) (c .args .snapshot-keys .now) (c .args .contested .now))
 sound c = tables-of (c .args .self) (tables (c .args .peers .now) (c .args .snapshot-keys .now) (c .args .contested .now)) (c .pre)
 
-abbrev first : tie.After-without → tie.Start
-first c = c .before .before .before .before .before
+-- each table is in order
+peers : (s : tie.Start) → InOrder 12 1 (s .args .self .peers) (s .args .peers .now)
+peers s = in-order-says 12 1 (s .args .self .peers) (s .args .peers .now) (sound s .peers .order)
 
-abbrev second : tie.After-without2 → tie.After-without
+keys : (s : tie.Start) → InOrder 4 2 (s .args .self .«snapshot_keys») (s .args .snapshot-keys .now)
+keys s = in-order-says 4 2 (s .args .self .«snapshot_keys») (s .args .snapshot-keys .now) (sound s .snapshotKeys .order)
+
+contested : (s : tie.Start) → InOrder 6 2 (s .args .self .contested) (s .args .contested .now)
+contested s = in-order-says 6 2 (s .args .self .contested) (s .args .contested .now) (sound s .contested .order)
+
+abbrev start : tie.After-none → tie.Start
+start c = c .before .before .before .before .before
+
+abbrev second : tie.After-none2 → tie.After-replace-run
 second c = c .before .before .before .before
 
-abbrev third : tie.After-without3 → tie.After-without2
+abbrev third : tie.After-none3 → tie.After-replace-run2
 third c = c .before .before .before .before
 
-without-requires : tie.Need-without-requires
-without-requires c κs = by-one 12 _ _ (sound (c .before .before .before .before) .peers .order)
+slice-aggregate-replace-run : tie.Need-slice-aggregate-replace-run
+slice-aggregate-replace-run c = search needs
 
-without-requires-2 : tie.Need-without-requires-2
-without-requires-2 c κs = by-two 4 _ _ (sound (first (c .before .before .before)) .snapshotKeys .order)
+replace-run-requires : tie.Need-replace-run-requires
+replace-run-requires c κs = let s = start c in in-order-run 12 1 _ (s .args .id) _ (omega arith) (peers s)
 
-without-requires-3 : tie.Need-without-requires-3
-without-requires-3 c κs = by-two 6 _ _ (sound (first (second (c .before .before .before))) .contested .order)
+slice-aggregate-replace-run-2 : tie.Need-slice-aggregate-replace-run-2
+slice-aggregate-replace-run-2 c = search needs
+
+replace-run-requires-2 : tie.Need-replace-run-requires-2
+replace-run-requires-2 c κs = let s = start (second c .before) in in-order-run 4 2 _ (s .args .id) _ (omega arith) (keys s)
+
+slice-aggregate-replace-run-3 : tie.Need-slice-aggregate-replace-run-3
+slice-aggregate-replace-run-3 c = search needs
+
+replace-run-requires-3 : tie.Need-replace-run-requires-3
+replace-run-requires-3 c κs = let s = start (second (third c .before) .before) in in-order-run 6 2 _ (s .args .id) _ (omega arith) (contested s)
 
 same-length : tie.Need-same-length
 same-length c = search needs
@@ -39,20 +59,26 @@ same-length-3 c = search needs
 returns : tie.Need-returns
 returns c =
     let w₃ = c .before .before in
-    let w₂ = third w₃ in
-    let w₁ = second w₂ in
-    let s = first w₁ in
+    let w₂ = third (w₃ .before) in
+    let w₁ = second (w₂ .before) in
+    let s = start (w₁ .before) in
     forgotten (s .args .self) (tables (s .args .peers .now) (s .args .snapshot-keys .now) (s .args .contested .now)) (s .args .id)
-    (w₁ .without .result) (w₂ .without2 .result) (w₃ .without3 .result) (w₁ .without .last .0) (w₂ .without2 .last .0) (w₃ .without3 .last .0)
-    (sound s) (w₁ .without .ensures) (w₂ .without2 .ensures) (w₃ .without3 .ensures)
+    (w₁ .replace-run .result) (w₂ .replace-run2 .result) (w₃ .replace-run3 .result) (w₁ .replace-run .last .0) (w₂ .replace-run2 .last .0) (w₃ .replace-run3 .last .0)
+    (sound s)
+    (run-out 12 1 _ (s .args .id) _ (omega arith) (peers s) _ _ (w₁ .replace-run .ensures))
+    (run-out 4 2 _ (s .args .id) _ (omega arith) (keys s) _ _ (w₂ .replace-run2 .ensures))
+    (run-out 6 2 _ (s .args .id) _ (omega arith) (contested s) _ _ (w₃ .replace-run3 .ensures))
 
 pub forget-peer-spec : {M : Type 1} → statement M
 forget-peer-spec =
     tie.close
     (tie.spec
-    without-requires
-    without-requires-2
-    without-requires-3
+    slice-aggregate-replace-run
+    replace-run-requires
+    slice-aggregate-replace-run-2
+    replace-run-requires-2
+    slice-aggregate-replace-run-3
+    replace-run-requires-3
     same-length
     same-length-2
     same-length-3
