@@ -1,18 +1,17 @@
 -- Closed points of the peers' definitions: 01's, and a run of one peer as peer_demand.rs has it.
-use Prim.Native.Nat.{ℕ, _^_, _-_}
+use Prim.Native.Nat.{ℕ, _-_}
 use mathlib.Core.Path.{_≡_, refl}
 use mathlib.Core.Bool.{Bool, true, false}
 use mathlib.Core.List.{List, [], _∷_}
 use mathlib.Core.Option.{Option, none, some}
-use lib.Ieee.{Float, binary32, binary64, ofBits, toBits, lt, add, ofFields, odd, size, span, climb, round, units, sum}
+use lib.Ieee.{binary32, binary64, ofBits, toBits, lt, add, ofFields, odd, size, span, climb, round, units, sum}
 use Rattle.records.specs.Records.{same, ascending, leads, before}
 use Rattle.demand.specs.declared.peer_demand.KeyDemand.{KeyDemand}
 use Rattle.demand.specs.declared.peer_demand.DemandReport.{DemandReport}
-use Rattle.demand.specs.declared.peer_demand.Heard.{Heard}
 use Rattle.demand.specs.PeerLists.{only, all, any, those, replaced}
-use Rattle.demand.specs.PeerRecords.{Snapshot, PeerRecord, SnapshotKey, ContestedKey, peerWords, snapshotKeyWords, contestedWords, peerOf, snapshotKeyOf, contestedOf}
+use Rattle.demand.specs.PeerRecords.{PeerRecord, SnapshotKey, ContestedKey, peerWords, snapshotKeyWords, contestedWords, peerOf}
 use Rattle.demand.specs.PeerState.{PeersState, isKnown, hasSnapshot, validPeer, validSnapshotKey, validContested, validPeers, validSnapshotKeys, validContesteds, valid}
-use Rattle.demand.specs.PeerChanges.{newer, implausible, implausibleJump, staleAfterRounds, exceeds, collected, mergeKeys, oldest, withoutOldests, trimmed, contest, sameKeys, Verdict, takes, contests, duplicates, verdict, takeReport, contestReport, apply, forget, holdPeer, leave, expireHolds, isHeldPeer, expireAge, expire}
+use Rattle.demand.specs.PeerChanges.{newer, implausible, implausibleJump, staleAfterRounds, exceeds, collected, mergeKeys, oldest, withoutOldests, trimmed, contest, sameKeys, takes, contests, verdict, takeReport, contestReport, apply, holdPeer, leave, expireHolds, isHeldPeer, expireAge, expire}
 use Rattle.demand.specs.PeerReaders.{heard, totalFrom, total, hotElsewhere, sumOver, peerLen, len}
 
 -- 01: newer(1, 65535) yes; (32768, 0) and (0, 32768) no

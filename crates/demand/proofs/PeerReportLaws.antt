@@ -3,16 +3,15 @@ use mathlib.Core.Path.{_≡_, refl, sym, ap, _∙_, subst}
 use mathlib.Core.Bool.{Bool, true, false, cond, not, _&&_, _||_}
 use mathlib.Core.List.{List, [], _∷_, _++_, map}
 use mathlib.Core.Option.{Option, none, some}
-use Prim.Native.Nat.{ℕ, zero, suc, _+_, _-_, _*_, _^_, _≤_, _<_, min, zero-le, suc-le-suc}
+use Prim.Native.Nat.{ℕ, zero, suc, _+_, _-_, _^_, _≤_, _<_, min}
 use native.Mathlib.Nat.{le-of-suc-le-suc, not-suc-le-zero}
 use native.Mathlib.Omega.{arith}
-use borrow.Author.Tests.{ltb-true, ltb-false, lt-ltb, le-ltb, leb-true, eq-eqb, ne-eqb}
+use borrow.Author.Tests.{ltb-true, lt-ltb, leb-true, eq-eqb, ne-eqb}
 use lib.Dec.{ltb, leb, eqb}
 use lib.ListN.{length, take, drop, getD, length-map}
 use lib.Seq.{take-all, getD-drop}
-use Rattle.records.specs.declared.Span.the-variants.{Between}
-use Rattle.records.specs.Records.{records, rangeIn}
-use Rattle.records.proofs.TestLaws.{split, both, and-intro}
+use Rattle.records.specs.Records.{records}
+use Rattle.records.proofs.TestLaws.{both, and-intro}
 use Rattle.records.proofs.RecordLaws.{fits-intro, length-records}
 use Rattle.records.proofs.PlaceLaws.{find-cases}
 use Rattle.records.proofs.OrderLaws.{keyAt}
@@ -20,12 +19,12 @@ use Rattle.records.proofs.TableLaws.{wide-records}
 use Rattle.demand.specs.declared.peer_demand.DemandReport.{DemandReport}
 use Rattle.demand.specs.declared.peer_demand.Verdict.{Verdict}
 use Rattle.demand.specs.declared.peer_demand.Verdict.the-variants as verdict
-use Rattle.demand.specs.PeerLists.{all, any, first, only, those}
+use Rattle.demand.specs.PeerLists.{all, any, first, those}
 use Rattle.demand.specs.PeerRecords.{Snapshot, PeerRecord, snapshotOf, timeWords, snapshotWords, pastWords, peerWords, peerOf}
 use Rattle.demand.specs.PeerState.{isWord, isKnown, peerWith, validSnapshot, validPast, validPeer}
 use Rattle.demand.specs.PeerChanges as changes
 use Rattle.demand.specs.PeerRuns.{word, peersIn, Replaceable, Front, Known, orNew, nextPast, verdictWith, pastAfter}
-use Rattle.demand.proofs.PeerRangeLaws.{any-map, only-yes, only-no, those-at, those-gap, first-shape, word-before, firstWord, those-words}
+use Rattle.demand.proofs.PeerRangeLaws.{any-map, those-at, those-gap, first-shape, word-before, firstWord, those-words}
 
 use Rattle.demand.proofs.PeerOrderLaws.{length-replaced}
 

@@ -1,11 +1,11 @@
 -- Question 1 of the peers' tables.
-use Prim.Native.Nat.{ℕ, _<_, _≤_}
+use Prim.Native.Nat.{_<_, _≤_}
 use mathlib.Core.Path.{_≡_, sym, _∙_, ap}
 use mathlib.Core.Bool.{Bool, true, false, cond, _&&_}
 use lib.Dec.{leb}
 use lib.ListN.{length}
 use borrow.Author.Tests.{le-leb, lt-leb}
-use Rattle.gcra.specs.Questions.{Answer, refused, given, firstNo, numbered}
+use Rattle.gcra.specs.Questions.{refused, given, firstNo, numbered}
 use Rattle.demand.specs.PeerState.{PeerTables, peersSize, snapshotKeysSize, contestedSize, haveRoom}
 use Rattle.demand.specs.PeerCalls.{newQuestions}
 

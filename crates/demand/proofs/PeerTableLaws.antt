@@ -1,23 +1,19 @@
 -- Laws of the peers' tables: what a valid one is, and what it holds after records were taken out.
 use mathlib.Core.Path.{_≡_, refl, sym, ap, _∙_, subst}
-use mathlib.Core.Bool.{Bool, true, false, cond, _&&_, _||_, or-false}
+use mathlib.Core.Bool.{Bool, true, false, _&&_, or-false}
 use mathlib.Core.List.{List, [], _∷_, map}
-use Prim.Native.Nat.{ℕ, suc, _+_, _-_, _*_, _/_, _≤_, _<_}
+use Prim.Native.Nat.{ℕ, suc, _+_, _-_, _*_, _≤_, _<_}
 use native.Mathlib.Nat.{zero-div, zero-mod, mul-le-mul-right}
 use native.Mathlib.Omega.{arith}
-use borrow.Author.Tests.{ltb-true, ltb-false, lt-ltb, le-ltb}
-use lib.Dec.{ltb, eqb}
+use lib.Dec.{eqb}
 use lib.ListN.{length, drop, getD, take-append-drop}
-use lib.Seq.{drop-drop, length-slice}
+use lib.Seq.{drop-drop}
 use Rattle.records.specs.declared.Found.the-variants.{At, Gap, Unfit}
-use Rattle.records.specs.declared.Span.the-variants.{Between, NoSpan}
-use Rattle.records.specs.Records.{records, flat, table, keyed, ascending, lowerBound, find, findIn, rangeOf, rangeIn, splice, spliceable, spliced}
-use Rattle.records.proofs.TestLaws.{split, both, and-intro}
+use Rattle.records.specs.Records.{records, flat, table, keyed, ascending, find, findIn, splice}
+use Rattle.records.proofs.TestLaws.{both, and-intro}
 use Rattle.records.proofs.RecordLaws.{fits-pos, fits-le, fits-intro, row, length-records}
-use Rattle.records.proofs.SpliceLaws.{splice-intro}
 use Rattle.records.proofs.OrderLaws.{Keyed, keyed-says, keyed-is}
-use Rattle.records.proofs.PlaceLaws.{range-within, at-says}
-use Rattle.records.proofs.EditLaws.{length-splice}
+use Rattle.records.proofs.PlaceLaws.{at-says}
 use Rattle.records.proofs.TableLaws.{Wide, wide-records, wide-splice, length-flat, records-table, drop-table, length-table}
 use Rattle.demand.specs.PeerLists.{any, those, replaced}
 use Rattle.demand.specs.PeerState.{Holds}

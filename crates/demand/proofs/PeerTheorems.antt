@@ -2,12 +2,10 @@
 -- that reads is lent what it cannot write.
 use Prim.Native.Nat.{ℕ, zero, suc, _<_, zero-le, suc-le-suc}
 use mathlib.Core.Path.{_≡_, refl, sym, ap, _∙_, subst}
-use mathlib.Core.Bool.{Bool, true, false, cond, _&&_, _||_}
+use mathlib.Core.Bool.{Bool, true, false, cond, _&&_}
 use mathlib.Core.List.{List, [], _∷_, map}
 use native.Mathlib.Omega.{arith}
-use borrow.Author.Tests.{le-leb}
-use lib.Dec.{ltb, leb}
-use lib.ListN.{length}
+use lib.Dec.{leb}
 use Rattle.records.specs.Records.{records, same, ascending}
 use Rattle.records.proofs.OrderLaws.{eq-same}
 use Rattle.records.proofs.TestLaws.{both, and-intro}
@@ -17,13 +15,12 @@ use Rattle.demand.specs.declared.peer_demand.PeerDemand.{PeerDemand}
 use Rattle.demand.specs.declared.peer_demand.PeersChanged.{PeersChanged}
 use Rattle.demand.specs.declared.peer_demand.PeersAnswer.{PeersAnswer}
 use Rattle.demand.specs.PeerLists.{all}
-use Rattle.demand.specs.PeerRecords.{PeerRecord, SnapshotKey, ContestedKey, peerWords, snapshotKeyWords, contestedWords, peerOf, snapshotKeyOf, contestedOf}
-use Rattle.demand.specs.PeerState.{PeersState, PeerTables, peersSize, snapshotKeysSize, contestedSize, validPeer, validSnapshotKey, validContested, valid, validPeers, validSnapshotKeys, validContesteds, haveRoom, stateOf, exact, areExact, isValid, Holds, Stores}
+use Rattle.demand.specs.PeerRecords.{PeerRecord, peerWords, snapshotKeyWords, contestedWords, peerOf, snapshotKeyOf, contestedOf}
+use Rattle.demand.specs.PeerState.{PeersState, PeerTables, peersSize, snapshotKeysSize, contestedSize, validPeer, validSnapshotKey, validContested, valid, validPeers, validSnapshotKeys, validContesteds, haveRoom, stateOf, exact, areExact, isValid, Stores}
 use Rattle.demand.specs.PeerChanges as changes
-use Rattle.demand.specs.PeerCalls.{Widths, fitsWidths, peersAnswer, newQuestions, peersQuestions, reportQuestions, Changes, IsNew, Applies, Forgets, Leaves, Expires}
+use Rattle.demand.specs.PeerCalls.{Widths, fitsWidths, peersAnswer, peersQuestions, reportQuestions, Changes, IsNew, Applies, Forgets, Leaves, Expires}
 use Rattle.demand.specs.PeerSteps.{Valid}
 use Rattle.demand.proofs.PeerWordLaws.{peer-of-words, snapshot-key-of-words, contested-of-words}
-use Rattle.demand.proofs.PeerValidLaws.{room-says}
 use Rattle.demand.proofs.PeerCallLaws.{asked-all}
 use Rattle.demand.proofs.PeerKeptLaws.{valid-says}
 use Rattle.demand.proofs.PeerTakeLaws.{past-few}

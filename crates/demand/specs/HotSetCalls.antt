@@ -1,7 +1,7 @@
 -- The promise of each public function of the hot set: 01's questions in their order, and then its value. Definitions only.
 use Prim.Native.Nat.{ℕ, _*_, min}
 use mathlib.Core.Path.{_≡_}
-use mathlib.Core.Bool.{Bool, false, cond, _&&_}
+use mathlib.Core.Bool.{Bool, false, _&&_}
 use mathlib.Core.List.{List, [], _∷_, map}
 use mathlib.Core.Option.{Option, none, some}
 use lib.Dec.{leb, eqb}
@@ -9,7 +9,7 @@ use lib.Ieee.{Float, binary64, ofBits}
 use lib.ListN.{length}
 use Rattle.float.specs.Magnitude.{magnitude}
 use Rattle.records.specs.Records.{records, table, fits}
-use Rattle.gcra.specs.Questions.{Question, _asks_, Answer, refused, given, answer, changed, firstNo}
+use Rattle.gcra.specs.Questions.{Question, _asks_, Answer, refused, given, answer, changed}
 use Rattle.demand.specs.HotSet.{words, entries, validEntries, validSize, valid, get, weakest, Outcome, evict, promote, belowThreshold, updateWith, isHot, sinceOf, primaryOf}
 use Rattle.demand.specs.declared.hot_set.HotSet.{HotSet}
 use Rattle.demand.specs.declared.hot_set.HotEntry.{HotEntry}

@@ -1,5 +1,5 @@
 -- The promise of each call on the peers: 01's questions in their order, its answer, and what the value and the tables hold afterwards. Definitions only.
-use Prim.Native.Nat.{ℕ, _<_, _*_, _^_}
+use Prim.Native.Nat.{ℕ, _<_, _^_}
 use mathlib.Core.Path.{_≡_}
 use mathlib.Core.Bool.{Bool, _&&_, _||_}
 use mathlib.Core.List.{List, [], _∷_}

@@ -1,10 +1,10 @@
 -- What reports, departures and time do to the peers' state (peer_demand.rs). Definitions only.
 use Prim.Native.Nat.{ℕ, zero, suc, _+_, _-_, _*_, _%_, _^_, min, max}
 use mathlib.Core.Bool.{Bool, true, false, cond, not, _&&_, _||_}
-use mathlib.Core.List.{List, [], _∷_, _++_, map}
+use mathlib.Core.List.{List, [], _∷_, map}
 use mathlib.Core.Option.{Option, none, some}
 use lib.Dec.{ltb, leb, eqb}
-use lib.Ieee.{Float, binary32, ofBits, toBits, lt}
+use lib.Ieee.{binary32, ofBits, toBits, lt}
 use lib.ListN.{take, length}
 use Rattle.records.specs.Records.{same}
 use Rattle.demand.specs.declared.peer_demand.KeyDemand.{KeyDemand}

@@ -1,6 +1,6 @@
 -- What the peers' state says of a key (peer_demand.rs: `heard`, `get`, `total`, `hot_elsewhere`, `len`). Definitions only.
 use Prim.Native.Nat.{ℕ, _+_}
-use mathlib.Core.Bool.{Bool, true, false, cond, not, _||_}
+use mathlib.Core.Bool.{Bool, false, cond, not, _||_}
 use mathlib.Core.List.{List, [], _∷_}
 use mathlib.Core.Option.{Option, none, some}
 use lib.Dec.{eqb}
@@ -10,7 +10,7 @@ use Rattle.demand.specs.declared.peer_demand.Heard.{Heard}
 use Rattle.demand.specs.PeerLists.{only, any, first, those}
 use Rattle.demand.specs.PeerRecords.{Snapshot, PeerRecord, SnapshotKey, ContestedKey}
 use Rattle.demand.specs.PeerState.{PeersState, peerWith, snapshotKeysOf, contestedKeysOf}
-use Rattle.demand.specs.PeerChanges.{exceeds, snapshotIn}
+use Rattle.demand.specs.PeerChanges.{snapshotIn}
 
 -- the snapshot's word on a key, and the contested one
 abbrev pub heardTaken : Option Snapshot → Option SnapshotKey → Option Heard

@@ -1,11 +1,11 @@
 -- The relative error of one rounding, in either format and with either sign: a fraction in the normal range is rounded to within one part in 2 ^ prec of itself.
 -- A float that is finite and above zero is `num` / `den` (`lib.Ieee.Positive`).
 use mathlib.Core.Path.{_≡_, refl, sym, ap, _∙_, subst}
-use Prim.Native.Nat.{ℕ, zero, suc, _+_, _-_, _*_, _/_, _%_, _^_, _≤_, _<_}
-use native.Mathlib.Nat.{le-trans, le-of-eq, lt-of-lt-of-le, lt-of-le-of-lt, mul-one, mul-comm, mul-assoc, mul-left-comm, mul-right-comm, mul-pos, mul-le-mul-left, mul-le-mul-right, le-of-mul-le-mul-right, le-div-iff-mul-le, pow-succ'}
+use Prim.Native.Nat.{ℕ, zero, suc, _+_, _-_, _*_, _/_, _^_, _≤_, _<_}
+use native.Mathlib.Nat.{le-trans, le-of-eq, lt-of-lt-of-le, lt-of-le-of-lt, mul-comm, mul-assoc, mul-left-comm, mul-right-comm, mul-pos, mul-le-mul-left, mul-le-mul-right, le-of-mul-le-mul-right, le-div-iff-mul-le, pow-succ'}
 use native.Mathlib.Omega.{arith}
 use mathlib.Core.Bool.{Bool, true, false, cond}
-use lib.IntN.{ℤ, pos, negsuc}
+use lib.IntN.{ℤ}
 use lib.Dec.{T, ltb, eqb, ltb→lt, eqb→eq, not-T, lit<, lit≤}
 use lib.Ieee.Bits.{cond-no}
 use lib.Pow.{pow-add, pow-pos}
@@ -14,7 +14,7 @@ use lib.Ieee.Digits.{size-reaches}
 use lib.Ieee.Exact.{HasValue}
 use lib.Ieee.Order.{drop, kept}
 use lib.Ieee.Scale.{grid, overflow, round-val, round-under, finite, normal-of-fraction}
-use lib.Ieee.Positive.{num, den, positive, den-pos, value→cross, positive-of-value, first-pos}
+use lib.Ieee.Positive.{num, den, positive, value→cross, positive-of-value, first-pos}
 use Rattle.float.proofs.Nearest.{closest-up, closest-down}
 use Rattle.float.proofs.Values.{neg-round, neg-neg}
 

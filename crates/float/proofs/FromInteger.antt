@@ -5,7 +5,7 @@ use Prim.Native.Nat.{ℕ, suc, _+_, _-_, _*_, _/_, _%_, _^_, _≤_, _<_, compare
 use native.Mathlib.Nat.{suc-add, le-trans, le-of-eq, le-antisymm, lt-of-lt-of-le, lt-of-le-of-lt, lt-of-not-le, not-le-of-lt, eq-or-lt-of-le, mul-one, one-mul, mul-assoc, mul-comm, mul-le-mul-right, div-one, mul-pos, le-div-iff-mul-le, pow-suc, pow-succ', mod-eq-of-lt, div-add-mod', div-mul-le-self}
 use native.Mathlib.Numerals.{add-one}
 use native.Mathlib.Omega.{arith}
-use mathlib.Core.Bool.{Bool, true, false, not, cond}
+use mathlib.Core.Bool.{Bool, false, not, cond}
 use lib.IntN.{pos}
 use lib.Dec.{T, leb, eqb, le→leb, lit<, eqb→eq, not-T}
 use lib.Arith.{lt→nleb}

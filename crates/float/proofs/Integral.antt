@@ -1,13 +1,13 @@
 -- The whole numbers next to a float: what `ceil` and `round` compute. x is N / D, with N = m * up e and D = down e.
 use mathlib.Core.Path.{_≡_, refl, sym, ap, _∙_, subst}
 use Prim.Native.Nat.{ℕ, zero, suc, _+_, _-_, _*_, _/_, _%_, _^_, _≤_, _<_, min}
-use native.Mathlib.Nat.{le-of-lt, le-trans, le-of-eq, lt-of-le-of-lt, lt-of-lt-of-le, mul-one, one-mul, mul-comm, mul-assoc, mul-right-comm, mul-pos, div-one, div-mul-le-self, div-add-mod', mod-lt, div-lt-iff-lt-mul, lt-of-mul-lt-mul-right, le-of-mul-le-mul-right, add-mul, mul-le-mul-right, mul-lt-mul-of-pos-right, pow-succ', div-div-eq-div-mul, add-div-right, zero-lt-suc, mul-left-comm}
+use native.Mathlib.Nat.{le-of-lt, le-trans, le-of-eq, lt-of-le-of-lt, lt-of-lt-of-le, mul-one, mul-comm, mul-assoc, mul-right-comm, mul-pos, div-one, div-add-mod', mod-lt, div-lt-iff-lt-mul, lt-of-mul-lt-mul-right, le-of-mul-le-mul-right, add-mul, mul-le-mul-right, mul-lt-mul-of-pos-right, pow-succ', div-div-eq-div-mul, add-div-right, zero-lt-suc}
 use native.Mathlib.Omega.{arith}
-use mathlib.Core.Bool.{Bool, true, false, not, cond, true≢false, false≢true}
+use mathlib.Core.Bool.{Bool, true, false, cond, true≢false, false≢true}
 use lib.IntN.{ℤ, pos, negsuc}
 use lib.Dec.{T, ltb, lt→ltb, le→leb, lit<, lit≤}
 use lib.Arith.{digits-div}
-use lib.Pow.{pow-add, pow-pos, pow-lt}
+use lib.Pow.{pow-add, pow-pos}
 use lib.Ieee.{Float, nan, inf, fin, binary64, up, down, round, neg, mul, lt, ofInt, inFloat, toUnsigned, fits}
 use lib.Ieee.Fits.{down-pos, up-pos, round-fits}
 use lib.Ieee.Exact.{HasValue, round-exact}

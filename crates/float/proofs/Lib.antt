@@ -4,6 +4,7 @@ pub mod Held
 pub mod Values
 pub mod Tests
 pub mod Patterns
+pub mod Magnitudes
 pub mod FromInteger
 pub mod ToInteger
 pub mod Integral

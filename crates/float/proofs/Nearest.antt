@@ -1,15 +1,15 @@
 -- The nearest whole number to a fraction, a tie to the even one: which of the two neighbours it is, and how far it lies from the fraction.
-use mathlib.Core.Path.{_≡_, refl, sym, ap, _∙_, subst}
+use mathlib.Core.Path.{_≡_, refl, sym, _∙_, subst}
 use mathlib.Core.Logic.{_⊎_, inl, inr}
 use Prim.Native.Nat.{ℕ, zero, suc, _+_, _*_, _/_, _%_, _≤_, _<_, compare, Ordering, Ordering·lt, Ordering·eq, Ordering·gt}
 use native.Mathlib.Nat.{div-add-mod', mod-lt, suc-mul, le-of-lt, le-of-eq}
 use native.Mathlib.Numerals.{add-one}
 use native.Mathlib.Omega.{arith}
 use mathlib.Core.Bool.{Bool, true, false, not}
-use lib.Dec.{T, isLe, isEq, leb, eqb, ltb}
+use lib.Dec.{T, isLe, isEq, leb, eqb}
 use lib.Ieee.{nearest}
 use lib.Ieee.Nearest.{closest}
-use borrow.Author.Tests.{leb-true, leb-false, eqb-true, eqb-false, le-leb, lt-leb, eq-eqb, ne-eqb}
+use borrow.Author.Tests.{leb-true, leb-false, eqb-true, le-leb, lt-leb, eq-eqb, ne-eqb}
 
 -- what each answer of the comparison makes of q
 under : (q : ℕ) (o : Ordering) → isLe o ≡ true → isEq o ≡ false → nearest q o ≡ q

@@ -1,16 +1,15 @@
 -- Bit patterns, of either format: the NaNs among them, the sign bit, and which patterns are finite with a clear sign bit.
-use mathlib.Core.Path.{_≡_, refl, sym, ap, _∙_, subst}
+use mathlib.Core.Path.{_≡_, refl, sym, ap, _∙_}
 use Prim.Native.Nat.{ℕ, zero, suc, _+_, _*_, _/_, _%_, _≤_, _<_, zero-le}
 use native.Mathlib.Nat.{mod-eq-of-lt, div-lt-iff-lt-mul, le-div-iff-mul-le, le-of-suc-le-suc, le-trans, le-of-lt, lt-of-lt-of-le, lt-of-le-of-lt, mul-comm, le-of-eq, mod-lt}
 use native.Mathlib.Omega.{arith}
 use mathlib.Core.Bool.{Bool, true, false, not, _&&_, cond}
-use lib.IntN.{ℤ}
 use lib.Dec.{T, leb, ltb, eqb}
 use lib.Pow.{pow-pos}
 use lib.Ieee.{Float, nan, inf, fin, Format, binary32, binary64, hid, ones, top, prec, low, odd, neg, ne, isNan, fits, ofFields, ofBits, toBits, nanBits}
 use lib.Ieee.Fits.{neg-fits}
 use lib.Ieee.Bits.{is-true, nanBits-is, nanBits-above, ofBits-toBits, toBits-lt}
-use borrow.Author.Tests.{ltb-true, ltb-false, leb-true, leb-false, lt-ltb, le-ltb, le-leb, lt-leb, eqb-true, eqb-false, eq-eqb, ne-eqb}
+use borrow.Author.Tests.{ltb-true, leb-true, leb-false, lt-ltb, le-ltb, le-leb, lt-leb, eqb-true, eqb-false}
 use Rattle.float.specs.Magnitude.{magnitude}
 use Rattle.float.specs.Order.{negative}
 use Rattle.float.proofs.Tests.{no, split, same-ltb, nan-test, nan-is}
@@ -29,7 +28,7 @@ pub no-nan-read : (f : Format) (b : ℕ) → b % top f ≤ ones f * hid f → T 
 no-nan-read f b h = no (nanBits-above f b ∙ le-ltb (ones f * hid f) (b % top f) h)
 
 -- ---- the sign bit of a float that the format holds
-infinity-clear : (f : Format) → ones f * hid f < top f
+pub infinity-clear : (f : Format) → ones f * hid f < top f
 infinity-clear binary32 = omega arith
 infinity-clear binary64 = omega arith
 

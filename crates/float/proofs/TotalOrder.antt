@@ -1,105 +1,22 @@
 -- totalOrder among the patterns of numbers is the order of the numbers: IEEE 754 §5.10 a) to c), for every pattern that is no NaN's.
 use mathlib.Core.Path.{_≡_, refl, sym, ap, _∙_, subst}
 use mathlib.Core.Logic.{_⊎_, inl, inr}
-use Prim.Native.Nat.{ℕ, zero, suc, _+_, _-_, _*_, _/_, _%_, _^_, _≤_, _<_}
-use native.Mathlib.Nat.{eq-or-lt-of-le, mul-assoc, mul-one, mul-comm, mul-right-comm, mul-pos, pow-succ', le-trans, le-of-eq, le-of-lt, lt-of-lt-of-le, mul-le-mul-left, mul-le-mul-right, mul-lt-mul-of-pos-right, lt-of-mul-lt-mul-right, le-of-mul-le-mul-right}
+use Prim.Native.Nat.{ℕ, zero, suc, _+_, _-_, _*_, _/_, _%_, _≤_, _<_}
+use native.Mathlib.Nat.{eq-or-lt-of-le}
 use native.Mathlib.Omega.{arith}
 use mathlib.Core.Bool.{Bool, true, false, not, _&&_, _||_, cond, true≢false}
 use lib.IntN.{ℤ}
-use lib.Pow.{pow-pos, pow-mono}
 use lib.Dec.{leb, ltb, eqb}
 use lib.Ieee.{Float, nan, inf, fin, binary64, up, down, odd, ofFields, ofBits, nanBits, neg, lt, eq}
-use lib.Ieee.Fits.{down-pos}
-use lib.Ieee.Bits.{is-false, nanBits-above}
-use lib.Arith.{lt→nleb}
-use lib.Ieee.Exact.{HasValue, odd-sign}
+use lib.Ieee.Bits.{nanBits-above}
+use lib.Ieee.Exact.{HasValue}
 use borrow.Author.Tests.{lt-ltb, le-ltb, ltb-true, ltb-false, le-leb, lt-leb, eq-eqb}
 use Rattle.float.specs.Order.{negative, place, totalLess}
 use Rattle.float.proofs.Tests.{split, same-ltb}
 use Rattle.float.proofs.Values.{neg-odd}
-use Rattle.float.proofs.FromInteger.{ofBits-is, of-fields}
+use Rattle.float.proofs.FromInteger.{ofBits-is}
+use Rattle.float.proofs.Magnitudes.{pattern-value, magnitudes-order}
 use Rattle.float.proofs.Order.{place-clear, place-set, total-less-clear}
-
--- ---- the value of a pattern with a clear sign bit grows with the pattern
--- the number that an exponent's field x and the digits t stand for, in units of 2 ^ -1074
-abbrev pub size64 : ℕ → ℕ → ℕ
-size64 zero t = t
-size64 (suc x) t = (4503599627370496 + t) * 2 ^ x
-
-at-zero : (t : ℕ) → ofFields binary64 false 0 t ≡ odd 53 false t 0 1074
-unfolding ofFields
-at-zero t = refl
-
-pub bits-val : (b : ℕ) → b < 9218868437227405312 → HasValue (ofBits binary64 b) false (size64 (b / 4503599627370496) (b % 4503599627370496)) (2 ^ 1074)
-bits-val b h = go (b / 4503599627370496) (b % 4503599627370496) (omega arith) (omega arith) (omega arith)
-  where
-    go : (x t : ℕ) → b ≡ x * 4503599627370496 + t → x < 2047 → t < 4503599627370496 → HasValue (ofBits binary64 b) false (size64 x t) (2 ^ 1074)
-    go zero t e X H =
-        let low-b : b < 9223372036854775808 = omega arith in
-        let f : b % 9223372036854775808 / 4503599627370496 ≡ 0 = omega arith in
-        let d : b % 4503599627370496 ≡ t = omega arith in
-        subst (λ (y : Float). HasValue y false t (2 ^ 1074))
-        (sym (ofBits-is b
-        ∙ ap (λ (s : Bool). ofFields binary64 s (b % 9223372036854775808 / 4503599627370496) (b % 4503599627370496)) (is-false (leb 9223372036854775808 b) (lt→nleb 9223372036854775808 b low-b))
-        ∙ ap (λ (y : ℕ). ofFields binary64 false y (b % 4503599627370496)) f
-        ∙ ap (λ (y : ℕ). ofFields binary64 false 0 y) d
-        ∙ at-zero t))
-        (subst (λ (y : ℕ). HasValue (odd 53 false t 0 1074) false y (2 ^ 1074)) (mul-one t) (odd-sign 53 false t 0 1074))
-    go (suc x) t e X H = subst (λ (y : Float). HasValue y false ((4503599627370496 + t) * 2 ^ x) (2 ^ 1074)) (sym (of-fields b x t X H e)) (odd-sign 53 false (4503599627370496 + t) x 1074)
-
-size64-lt : (x t y u : ℕ) → t < 4503599627370496 → u < 4503599627370496 → x * 4503599627370496 + t < y * 4503599627370496 + u → size64 x t < size64 y u
-size64-lt zero t zero u H K h = omega arith
-size64-lt zero t (suc y) u H K h =
-    let p : 4503599627370496 + u ≤ (4503599627370496 + u) * 2 ^ y = le-trans (le-of-eq (sym (mul-one (4503599627370496 + u)))) (mul-le-mul-left (4503599627370496 + u) (pow-pos y)) in
-    omega arith
-size64-lt (suc x) t zero u H K h = absurd (no x t u K h)
-  where
-    no : (a b d : ℕ) → d < 4503599627370496 → suc a * 4503599627370496 + b < 0 * 4503599627370496 + d → ⊥
-    no a b d g l = omega arith
-size64-lt (suc x) t (suc y) u H K h = elim (eq-or-lt-of-le (le x t y u H K h)) [
-  | inl e ↦ subst (λ (z : ℕ). (4503599627370496 + t) * 2 ^ x < (4503599627370496 + u) * 2 ^ z) e (mul-lt-mul-of-pos-right (same x t y u e h) (pow-pos x))
-  | inr l ↦
-      lt-of-lt-of-le (mul-lt-mul-of-pos-right (twice t H) (pow-pos x))
-      (le-trans (le-of-eq (mul-assoc 4503599627370496 2 (2 ^ x) ∙ ap (λ (z : ℕ). 4503599627370496 * z) (sym (pow-succ' 2 x))))
-      (le-trans (mul-le-mul-left 4503599627370496 (pow-mono l)) (mul-le-mul-right (2 ^ y) (once u))))
-]
-  where
-    le : (x t y u : ℕ) → t < 4503599627370496 → u < 4503599627370496 → suc x * 4503599627370496 + t < suc y * 4503599627370496 + u → x ≤ y
-    le x t y u H K h = omega arith
-
-    same : (x t y u : ℕ) → x ≡ y → suc x * 4503599627370496 + t < suc y * 4503599627370496 + u → 4503599627370496 + t < 4503599627370496 + u
-    same x t y u e h = omega arith
-
-    twice : (t : ℕ) → t < 4503599627370496 → 4503599627370496 + t < 4503599627370496 * 2
-    twice t h = omega arith
-
-    once : (u : ℕ) → 4503599627370496 ≤ 4503599627370496 + u
-    once u = omega arith
-
-abbrev pub val : ℕ → ℕ
-val b = size64 (b / 4503599627370496) (b % 4503599627370496)
-
-val-lt : (b c : ℕ) → b < c → val b < val c
-val-lt b c h = size64-lt (b / 4503599627370496) (b % 4503599627370496) (c / 4503599627370496) (c % 4503599627370496) (omega arith) (omega arith) (omega arith)
-
-val-le : (b c : ℕ) → b ≤ c → val b ≤ val c
-val-le b c h = elim (eq-or-lt-of-le h) [ inl e ↦ le-of-eq (ap val e) | inr l ↦ le-of-lt (val-lt b c l) ]
-
--- two floats that are a / c and b / c
-lt-values : (x y : Float) (a b c : ℕ) → 0 < c → HasValue x false a c → HasValue y false b c → ((a < b → lt x y ≡ true) × (b ≤ a → lt x y ≡ false))
-unfolding lt
-lt-values nan y a b c C v w = absurd v
-lt-values (inf s) y a b c C v w = absurd v
-lt-values (fin true m e) y a b c C v w = absurd (true≢false (v .0))
-lt-values (fin false m e) nan a b c C v w = absurd w
-lt-values (fin false m e) (inf s) a b c C v w = absurd w
-lt-values (fin false m e) (fin true n d) a b c C v w = absurd (true≢false (w .0))
-lt-values (fin false m e) (fin false n d) a b c C v w =
-    let l : m * up e * down d * c ≡ a * (down e * down d) = mul-right-comm (m * up e) (down d) c ∙ ap (λ (z : ℕ). z * down d) (v .1) ∙ mul-assoc a (down e) (down d) in
-    let r : n * up d * down e * c ≡ b * (down e * down d) = mul-right-comm (n * up d) (down e) c ∙ ap (λ (z : ℕ). z * down e) (w .1) ∙ mul-assoc b (down d) (down e) ∙ ap (λ (z : ℕ). b * z) (mul-comm (down d) (down e)) in (
-      λ h. lt-ltb (m * up e * down d) (n * up d * down e) (lt-of-mul-lt-mul-right c (subst (λ (z : ℕ). z < n * up d * down e * c) (sym l) (subst (λ (z : ℕ). a * (down e * down d) < z) (sym r) (mul-lt-mul-of-pos-right h (mul-pos (down-pos e) (down-pos d)))))),
-      λ h. le-ltb (m * up e * down d) (n * up d * down e) (le-of-mul-le-mul-right (subst (λ (z : ℕ). z ≤ m * up e * down d * c) (sym r) (subst (λ (z : ℕ). b * (down e * down d) ≤ z) (sym l) (mul-le-mul-right (down e * down d) h))) C),
-    )
 
 -- ---- patterns up to the infinity's, which is 0x7ff0_0000_0000_0000
 infinity-is : ofBits binary64 9218868437227405312 ≡ inf false
@@ -121,11 +38,11 @@ pub numbers-order : (p q : ℕ) → p ≤ 9218868437227405312 → q ≤ 92188684
 numbers-order p q P Q = elim (eq-or-lt-of-le P) [
   | inl i ↦ elim (eq-or-lt-of-le Q) [
     | inl j ↦ top p i q j ∙ infinity-level ∙ sym (le-ltb p q (omega arith))
-    | inr k ↦ ap (λ (z : Float). lt z (ofBits binary64 q)) (ap (ofBits binary64) i ∙ infinity-is) ∙ value-below (ofBits binary64 q) _ _ (bits-val q k) .1 ∙ sym (le-ltb p q (omega arith))
+    | inr k ↦ ap (λ (z : Float). lt z (ofBits binary64 q)) (ap (ofBits binary64) i ∙ infinity-is) ∙ value-below (ofBits binary64 q) _ _ (pattern-value binary64 q k) .1 ∙ sym (le-ltb p q (omega arith))
   ]
   | inr h ↦ elim (eq-or-lt-of-le Q) [
-    | inl j ↦ ap (λ (z : Float). lt (ofBits binary64 p) z) (ap (ofBits binary64) j ∙ infinity-is) ∙ value-below (ofBits binary64 p) _ _ (bits-val p h) .0 ∙ sym (lt-ltb p q (omega arith))
-    | inr k ↦ both h k
+    | inl j ↦ ap (λ (z : Float). lt (ofBits binary64 p) z) (ap (ofBits binary64) j ∙ infinity-is) ∙ value-below (ofBits binary64 p) _ _ (pattern-value binary64 p h) .0 ∙ sym (lt-ltb p q (omega arith))
+    | inr k ↦ magnitudes-order binary64 p q h k
   ]
 ]
   where
@@ -133,11 +50,6 @@ numbers-order p q P Q = elim (eq-or-lt-of-le P) [
     top p i q j =
         ap (λ (z : Float). lt z (ofBits binary64 q)) (ap (ofBits binary64) i ∙ infinity-is)
         ∙ ap (λ (z : Float). lt (inf false) z) (ap (ofBits binary64) j ∙ infinity-is)
-
-    both : p < 9218868437227405312 → q < 9218868437227405312 → lt (ofBits binary64 p) (ofBits binary64 q) ≡ ltb p q
-    both h k =
-        let l = lt-values (ofBits binary64 p) (ofBits binary64 q) (val p) (val q) (2 ^ 1074) (pow-pos 1074) (bits-val p h) (bits-val q k) in
-        split (ltb p q) (λ e. l .0 (val-lt p q (ltb-true p q e)) ∙ sym e) (λ e. l .1 (val-le q p (ltb-false p q e)) ∙ sym e)
 
 -- ---- with the sign bit set a pattern stands for the negated number
 neg-cond : (b c : Bool) (x y : Float) → neg x ≡ y → cond b (cond c (inf true) nan) y ≡ neg (cond b (cond c (inf false) nan) x)
@@ -182,7 +94,7 @@ value-clear (fin false m e) a c v = whole m e
 clear-bits : (p : ℕ) → p ≤ 9218868437227405312 → Clear (ofBits binary64 p)
 clear-bits p P = elim (eq-or-lt-of-le P) [
   | inl i ↦ subst Clear (sym (ap (ofBits binary64) i ∙ infinity-is)) infinite
-  | inr h ↦ value-clear (ofBits binary64 p) _ _ (bits-val p h)
+  | inr h ↦ value-clear (ofBits binary64 p) _ _ (pattern-value binary64 p h)
 ]
 
 -- what totalOrder says of two numbers: x is below y, or they are -0 and +0

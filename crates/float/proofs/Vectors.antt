@@ -1,6 +1,6 @@
 -- Closed cases that hold the definitions of `specs/` to IEEE 754: each float is by its bits, and each row is computed.
 use mathlib.Core.Path.{_≡_, refl}
-use mathlib.Core.Bool.{Bool, true, false}
+use mathlib.Core.Bool.{Bool, true}
 use Prim.Native.Nat.{ℕ}
 use mathlib.Core.List.{List, [], _∷_, map}
 use lib.Ieee.{Float, binary64, ofBits, toBits}

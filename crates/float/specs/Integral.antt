@@ -1,5 +1,5 @@
 -- IEEE 754's roundToIntegral operations on binary64, over the values of `lib.Ieee`: `fin s m e` is m * 2 ^ e, that is m * up e / down e, with the sign s.
-use Prim.Native.Nat.{ℕ, _+_, _-_, _*_, _/_}
+use Prim.Native.Nat.{_+_, _-_, _*_, _/_}
 use mathlib.Core.Bool.{cond}
 use lib.Ieee.{Float, nan, inf, fin, binary64, up, down, round}
 

@@ -1,7 +1,7 @@
 -- `float::below` meets its contract.
-use mathlib.Core.Path.{refl, sym, ap, _∙_}
-use mathlib.Core.Bool.{Bool, true, false}
-use lib.Ieee.{lt, eq}
+use mathlib.Core.Path.{refl, _∙_}
+use mathlib.Core.Bool.{true, false}
+use lib.Ieee.{eq}
 use borrow.Author.Needs.{needs}
 use Rattle.float.proofs.Order.{below-is}
 use Rattle.float.proofs.below.Statement.{statement}

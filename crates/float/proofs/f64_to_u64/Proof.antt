@@ -1,6 +1,4 @@
 -- `float::f64_to_u64` meets its contract.
-use mathlib.Core.Path.{sym, subst}
-use lib.Dec.{T}
 use lib.Ieee.{ofBits, neg}
 use borrow.Author.Needs.{needs}
 use Rattle.float.proofs.Tests.{yes}

@@ -1,7 +1,7 @@
 -- `float::nearest_shifted` meets its contract. The rest of n by 2 ^ k is compared with half of 2 ^ k, as `closest` compares twice the rest with 2 ^ k.
 --
 use mathlib.Core.Path.{_≡_, sym}
-use Prim.Native.Nat.{ℕ, _+_, _-_, _*_, _/_, _%_, _^_, _≤_, _<_}
+use Prim.Native.Nat.{ℕ, _-_, _*_, _/_, _%_, _^_, _<_}
 use native.Mathlib.Omega.{arith}
 use borrow.Author.Needs.{needs}
 use Rattle.float.proofs.Nearest.{nearest-lt, nearest-gt, nearest-eq}

@@ -1,11 +1,10 @@
 -- `float::u64_to_f64` meets its contract. With z leading zeros, n has 64 - z digits: at most 53, and the cast is exact, or 53 + k, and k of them go.
 --
-use mathlib.Core.Path.{_≡_, refl, sym, ap, _∙_}
-use Prim.Native.Nat.{ℕ, suc, _+_, _-_, _*_, _/_, _%_, _^_, _≤_, _<_}
+use mathlib.Core.Path.{_≡_, ap, _∙_}
+use Prim.Native.Nat.{ℕ, suc, _+_, _-_, _*_, _%_, _^_, _≤_, _<_}
 use mathlib.Core.Logic.{inl, inr}
 use native.Mathlib.Nat.{eq-zero-or-pos}
 use native.Mathlib.Omega.{arith}
-use lib.Pow.{pow-pos}
 use lib.Count.{leadingZeros, leading-top, leading-of-zero}
 use lib.Ieee.Nearest.{closest}
 use borrow.Author.Needs.{needs}

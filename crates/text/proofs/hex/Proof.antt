@@ -1,7 +1,5 @@
 -- `text::hex` meets its contract.
 use mathlib.Core.Path.{_∙_}
-use Prim.Native.Nat.{ℕ}
-use lib.Dec.{eqb}
 use lib.ListN.{length}
 use borrow.Author.Needs.{needs}
 use borrow.Author.Tests.{eq-eqb, ne-eqb}
