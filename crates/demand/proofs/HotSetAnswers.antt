@@ -1,7 +1,7 @@
--- A call's answer by the first of its questions that is answered 'no', and what a hot set that passes them is.
+-- The questions of a call on the hot set, and what a hot set that passes them is.
 use Prim.Native.Nat.{ℕ, _*_, _≤_, _<_}
 use native.Mathlib.Omega.{arith}
-use mathlib.Core.Path.{_≡_, refl, sym, ap, _∙_}
+use mathlib.Core.Path.{_≡_, sym, ap, _∙_}
 use mathlib.Core.Bool.{Bool, true, false, cond, _&&_}
 use mathlib.Core.List.{List, [], _∷_}
 use mathlib.Core.Option.{Option}
@@ -13,53 +13,17 @@ use Rattle.float.specs.Magnitude.{magnitude}
 use Rattle.records.specs.Records.{records, fits}
 use Rattle.records.proofs.TestLaws.{split, both}
 use Rattle.records.proofs.RecordLaws.{fits-intro}
-use Rattle.gcra.specs.Questions.{Question, _asks_, refused, given, answer, passes, changed, firstNo}
+use Rattle.gcra.specs.Questions.{Question, _asks_, given, answer, passes, firstNo}
+use Rattle.gcra.proofs.Answers.{Numbered, answer-passed}
 use Rattle.demand.specs.HotSet.{Held, validEntries, validSize, valid}
 use Rattle.demand.specs.HotSetCalls.{room, askSet, askUpdate, slot}
 use Rattle.demand.specs.declared.hot_set.HotEntry.{HotEntry}
 use Rattle.demand.specs.declared.hot_set.Slot.{Slot}
 use Rattle.demand.specs.declared.hot_set.HotSet.{HotSet}
 
--- ---- any questions
-module _ {A : Type 0} (a : A) where
-  pub answer-passed : (qs : List Question) → passes qs ≡ true → given a ≡ answer qs a
-  unfolding answer passes
-  answer-passed [] e = refl
-  answer-passed (q ∷ qs) e = let b = both (q .passed) _ e in rw (b .0) (answer-passed qs (b .1))
-
-  pub answer-no : (qs : List Question) (n : ℕ) → n ≡ firstNo qs → (n ≡ 0 → ⊥) → refused n ≡ answer qs a
-  unfolding answer firstNo
-  answer-no [] n e h = absurd (h e)
-  answer-no (q ∷ qs) n e h = split (q .passed)
-      (λ p. rw p (answer-no qs n (rw p at e) h))
-      (λ p. let k : n ≡ q .number = rw p at e in rw (p, k))
-
-  pub kept-no : (b : A) (qs : List Question) (n : ℕ) → n ≡ firstNo qs → (n ≡ 0 → ⊥) → b ≡ changed qs b a
-  unfolding passes firstNo
-  kept-no b [] n e h = absurd (h e)
-  kept-no b (q ∷ qs) n e h = split (q .passed)
-      (λ p. rw p (kept-no b qs n (rw p at e) h))
-      (λ p. rw p)
-
-  pub changed-passed : (b : A) (qs : List Question) → passes qs ≡ true → a ≡ changed qs b a
-  unfolding passes
-  changed-passed b qs e = sym (ap (λ (t : Bool). cond t a b) e)
-
 -- an answer that is read off a slot
 pub answer-slot : {A : Type 0} (f : Option HotEntry → A) (qs : List Question) (o : Slot) (x z : Option HotEntry) → passes qs ≡ true → slot o ≡ x → slot o ≡ z → given (f z) ≡ answer qs (f x)
 answer-slot f qs o x z p e q = ap (λ (y : Option HotEntry). given (f y)) (sym q ∙ e) ∙ answer-passed (f x) qs p
-
--- no question has the number 0
-abbrev pub Numbered : List Question → Type 0
-Numbered [] = Unit
-Numbered (q ∷ qs) = (0 < q .number) × Numbered qs
-
-pub passed-none : (qs : List Question) (n : ℕ) → Numbered qs → n ≡ firstNo qs → n ≡ 0 → passes qs ≡ true
-unfolding passes firstNo
-passed-none [] n w e z = refl
-passed-none (q ∷ qs) n w e z = split (q .passed)
-    (λ p. rw p (passed-none qs n (w .1) (rw p at e) z))
-    (λ p. let k : n ≡ q .number = rw p at e in absurd (omega (arith, w .0)))
 
 -- ---- two questions
 module _ (n m : ℕ) (a b : Bool) where

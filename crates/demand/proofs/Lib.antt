@@ -11,7 +11,6 @@ pub mod Alternating
 pub mod Reciprocal
 pub mod Near
 pub mod Literals
-pub mod Answers
 pub mod Alpha
 pub mod Averages
 pub mod Ranges

@@ -4,7 +4,7 @@ use mathlib.Core.Path.{_≡_}
 use mathlib.Core.Bool.{true}
 use borrow.Author.Tests.{ltb-true}
 use lib.Dec.{ltb}
-use lib.Ieee.{binary32, ofBits, lt}
+use lib.Ieee.{binary32}
 use Rattle.float.proofs.Magnitudes.{magnitudes-order}
 use Rattle.demand.specs.PeerState.{isDemand}
 use Rattle.demand.specs.PeerChanges.{exceeds}

@@ -17,7 +17,8 @@ use Rattle.records.proofs.TestLaws.{split, both}
 use Rattle.records.proofs.RecordLaws.{length-records}
 use Rattle.records.proofs.PlaceLaws.{find-at, at-says}
 use Rattle.demand.specs.declared.peer_demand.PeerDemand.{PeerDemand}
-use Rattle.gcra.specs.Questions.{refused, given, firstNo, numbered}
+use Rattle.gcra.specs.Questions.{given, answer, firstNo}
+use Rattle.gcra.proofs.Answers.{answer-passed, passed-none}
 use Rattle.demand.specs.PeerLists.{only, all, any, first, present, those}
 use Rattle.demand.specs.PeerRecords.{PeerRecord, SnapshotKey, ContestedKey, snapshotOf, peerOf, snapshotKeyOf, contestedOf}
 use Rattle.demand.specs.PeerState.{PeersState, PeerTables, maxPeers, maxDemandKeys, maxContested, peerWith, haveRoom, stateOf, isValid, isWord}
@@ -31,15 +32,12 @@ use Rattle.demand.proofs.PeerRangeLaws.{secondWord}
 use Rattle.demand.proofs.PeerFindLaws.{Long, key-1}
 use Rattle.demand.proofs.PeerValidLaws.{all-words, record-length, room-says, peers-ready, keys-ready, scanned-is-valid}
 use Rattle.demand.proofs.PeerRowLaws.{word-at, first-at}
+use Rattle.demand.proofs.PeerCallLaws.{peers-numbered}
 use Rattle.demand.proofs.PeerHeardLaws.{peer-of-id, word-found, word-missing, any-epoch, hasWords, picked-words, table-found, table-missing}
 
 -- ---- answers by the number of the first 'no'
-pub answer-no : {A : Type 0} (n m : ℕ) (v : A) → n ≡ m → (n ≡ 0 → ⊥) → refused n ≡ numbered m v
-answer-no zero m v e h = absurd (h refl)
-answer-no (suc n) m v e h = ap (λ (k : ℕ). numbered k v) e
-
-pub answer-yes : {A : Type 0} (n m : ℕ) (u v : A) → n ≡ m → n ≡ 0 → u ≡ v → given u ≡ numbered m v
-answer-yes n m u v e h q = ap given q ∙ ap (λ (k : ℕ). numbered k v) (sym h ∙ e)
+pub answer-yes : {A : Type 0} (p : PeerDemand) (t : PeerTables) (n : ℕ) (u v : A) → n ≡ firstNo (peersQuestions p t) → n ≡ 0 → u ≡ v → given u ≡ answer (peersQuestions p t) v
+answer-yes p t n u v e h q = ap given q ∙ answer-passed v (peersQuestions p t) (passed-none (peersQuestions p t) n (peers-numbered p t) e h)
 
 -- ---- what questions 1 and 2 give to the readers
 module _ (p : PeerDemand) (t : PeerTables) where

@@ -1,11 +1,12 @@
 -- Question 1 of the peers' tables.
 use Prim.Native.Nat.{_<_, _≤_}
 use mathlib.Core.Path.{_≡_, sym, _∙_, ap}
-use mathlib.Core.Bool.{Bool, true, false, cond, _&&_}
+use mathlib.Core.Bool.{Bool, true, false, _&&_}
 use lib.Dec.{leb}
 use lib.ListN.{length}
 use borrow.Author.Tests.{le-leb, lt-leb}
-use Rattle.gcra.specs.Questions.{refused, given, firstNo, numbered}
+use Rattle.gcra.specs.Questions.{refused, given, answer}
+use Rattle.gcra.proofs.Answers.{alone-no, alone-yes}
 use Rattle.demand.specs.PeerState.{PeerTables, peersSize, snapshotKeysSize, contestedSize, haveRoom}
 use Rattle.demand.specs.PeerCalls.{newQuestions}
 
@@ -40,10 +41,8 @@ long-contested t h k =
     (le-leb snapshotKeysSize (length (t .snapshotKeys)) k))
 
 -- the answer to question 1 alone
-pub no-room : {A : Type 0} (t : PeerTables) (v : A) → haveRoom t ≡ false → refused 1 ≡ numbered (firstNo (newQuestions t)) v
-unfolding firstNo
-no-room t v h = sym (ap (λ (b : Bool). numbered (cond b 0 1) v) h)
+pub no-room : {A : Type 0} (t : PeerTables) (v : A) → haveRoom t ≡ false → refused 1 ≡ answer (newQuestions t) v
+no-room t v h = alone-no 1 v h
 
-pub some-room : {A : Type 0} (t : PeerTables) (v : A) → haveRoom t ≡ true → given v ≡ numbered (firstNo (newQuestions t)) v
-unfolding firstNo
-some-room t v h = sym (ap (λ (b : Bool). numbered (cond b 0 1) v) h)
+pub some-room : {A : Type 0} (t : PeerTables) (v : A) → haveRoom t ≡ true → given v ≡ answer (newQuestions t) v
+some-room t v h = alone-yes 1 v h

@@ -1,15 +1,16 @@
 -- What every call on the peers keeps: a value and tables that pass questions 1 and 2 pass them again after it, refused or not. A call
 -- that reads is lent what it cannot write.
-use Prim.Native.Nat.{ℕ, zero, suc, _<_, zero-le, suc-le-suc}
+use Prim.Native.Nat.{ℕ}
 use mathlib.Core.Path.{_≡_, refl, sym, ap, _∙_, subst}
-use mathlib.Core.Bool.{Bool, true, false, cond, _&&_}
+use mathlib.Core.Bool.{Bool, true, _&&_}
 use mathlib.Core.List.{List, [], _∷_, map}
 use native.Mathlib.Omega.{arith}
 use lib.Dec.{leb}
 use Rattle.records.specs.Records.{records, same, ascending}
 use Rattle.records.proofs.OrderLaws.{eq-same}
-use Rattle.records.proofs.TestLaws.{both, and-intro}
-use Rattle.gcra.specs.Questions.{Question, firstNo, numbered, given, refused}
+use Rattle.records.proofs.TestLaws.{split, both, and-intro}
+use Rattle.gcra.specs.Questions.{Question, passes, given, refused}
+use Rattle.gcra.proofs.Answers.{alone-no, alone-yes, none-passed}
 use Rattle.demand.specs.declared.peer_demand.DemandReport.{DemandReport}
 use Rattle.demand.specs.declared.peer_demand.PeerDemand.{PeerDemand}
 use Rattle.demand.specs.declared.peer_demand.PeersChanged.{PeersChanged}
@@ -21,7 +22,6 @@ use Rattle.demand.specs.PeerChanges as changes
 use Rattle.demand.specs.PeerCalls.{Widths, fitsWidths, peersAnswer, peersQuestions, reportQuestions, Changes, IsNew, Applies, Forgets, Leaves, Expires}
 use Rattle.demand.specs.PeerSteps.{Valid}
 use Rattle.demand.proofs.PeerWordLaws.{peer-of-words, snapshot-key-of-words, contested-of-words}
-use Rattle.demand.proofs.PeerCallLaws.{asked-all}
 use Rattle.demand.proofs.PeerKeptLaws.{valid-says}
 use Rattle.demand.proofs.PeerTakeLaws.{past-few}
 use Rattle.demand.proofs.PeerApplyLaws.{passed-says}
@@ -76,46 +76,47 @@ module _ (s : PeersState) (p : PeerDemand) (t t′ : PeerTables) (h : Stores s p
   }
 
 -- questions 1 and 2 passed, as one fact and as two
-pub valid-passes : (p : PeerDemand) (t : PeerTables) → Valid p t → firstNo (peersQuestions p t) ≡ 0
-unfolding firstNo
-valid-passes p t v = (λ i. cond (v .room i) (cond (v .state i) 0 2) 1)
+pub valid-passes : (p : PeerDemand) (t : PeerTables) → Valid p t → passes (peersQuestions p t) ≡ true
+unfolding passes
+valid-passes p t v = and-intro (haveRoom t) _ (v .room) (and-intro (isValid p t) true (v .state) refl)
 
-pub passes-valid : (p : PeerDemand) (t : PeerTables) → firstNo (peersQuestions p t) ≡ 0 → Valid p t
-passes-valid p t e = asked-all p t (firstNo (peersQuestions p t)) refl e
+pub passes-valid : (p : PeerDemand) (t : PeerTables) → passes (peersQuestions p t) ≡ true → Valid p t
+unfolding passes
+passes-valid p t e =
+    let a = both (haveRoom t) _ e in
+    record { room = a .0; state = both (isValid p t) true (a .1) .0 }
 
 valid-now : (p : PeerDemand) (t : PeerTables) → Valid p t → valid (stateOf p t) ≡ true
 unfolding isValid
 valid-now p t v = both (areExact p t) (valid (stateOf p t)) (v .state) .1
 
 -- ---- every call that changes the state
-module _ (qs : List Question) (change : PeersState → PeersState) (p : PeerDemand) (t : PeerTables) (r : PeersChanged) (t′ : PeerTables) (c : Changes qs change p t r t′) (before : firstNo (peersQuestions p t) ≡ 0) where
-  changed-again : (firstNo qs ≡ 0 → valid (change (stateOf p t)) ≡ true) → firstNo (peersQuestions (r .peers) t′) ≡ 0
-  changed-again keeps = by (firstNo qs) refl
-    where
-      by : (n : ℕ) → firstNo qs ≡ n → firstNo (peersQuestions (r .peers) t′) ≡ 0
-      by zero e = valid-passes (r .peers) t′ (stored-valid (change (stateOf p t)) (r .peers) t t′ (c .stored e) (keeps e) (passes-valid p t before .room))
-      by (suc n) e =
-          let u = c .kept (subst (λ (m : ℕ). 0 < m) (sym e) (suc-le-suc zero-le)) in
-          (λ i. firstNo (peersQuestions (u .value i) (record { peers = u .peers i; snapshotKeys = u .snapshotKeys i; contested = u .contested i }))) ∙ before
+module _ (qs : List Question) (change : PeersState → PeersState) (p : PeerDemand) (t : PeerTables) (r : PeersChanged) (t′ : PeerTables) (c : Changes qs change p t r t′) (before : passes (peersQuestions p t) ≡ true) where
+  changed-again : (passes qs ≡ true → valid (change (stateOf p t)) ≡ true) → passes (peersQuestions (r .peers) t′) ≡ true
+  changed-again keeps = split (passes qs)
+      (λ e. valid-passes (r .peers) t′ (stored-valid (change (stateOf p t)) (r .peers) t t′ (c .stored e) (keeps e) (passes-valid p t before .room)))
+      (λ e.
+      let u = c .kept e in
+      (λ i. passes (peersQuestions (u .value i) (record { peers = u .peers i; snapshotKeys = u .snapshotKeys i; contested = u .contested i }))) ∙ before)
 
-module _ (p : PeerDemand) (t t′ : PeerTables) (r : PeersChanged) (before : firstNo (peersQuestions p t) ≡ 0) where
+module _ (p : PeerDemand) (t t′ : PeerTables) (r : PeersChanged) (before : passes (peersQuestions p t) ≡ true) where
   was-valid : valid (stateOf p t) ≡ true
   was-valid = valid-now p t (passes-valid p t before)
 
-  pub applied-again : (id at : ℕ) (report : DemandReport) → Widths id at report → all fitsWidths (report .keys) ≡ true → Applies p t id report at r t′ → firstNo (peersQuestions (r .peers) t′) ≡ 0
+  pub applied-again : (id at : ℕ) (report : DemandReport) → Widths id at report → all fitsWidths (report .keys) ≡ true → Applies p t id report at r t′ → passes (peersQuestions (r .peers) t′) ≡ true
   applied-again id at report ws fit c =
       changed-again (reportQuestions p t id report) (changes.apply changes.implausibleJump id report at) p t r t′ c before
       (λ e.
-      let d = passed-says p t id report (record { questions = e }) in
+      let d = passed-says p t id report (record { questions = none-passed (reportQuestions p t id report) e }) in
       apply-valid changes.implausibleJump id at report (stateOf p t) ws fit (d .count) (d .demands) (d .place) was-valid)
 
-  pub forgotten-again : (id : ℕ) → Forgets p t id r t′ → firstNo (peersQuestions (r .peers) t′) ≡ 0
+  pub forgotten-again : (id : ℕ) → Forgets p t id r t′ → passes (peersQuestions (r .peers) t′) ≡ true
   forgotten-again id c = changed-again (peersQuestions p t) (changes.forget id) p t r t′ c before (λ e. forget-valid id (stateOf p t) was-valid)
 
-  pub left-again : (id at hold : ℕ) → Leaves p t id at hold r t′ → firstNo (peersQuestions (r .peers) t′) ≡ 0
+  pub left-again : (id at hold : ℕ) → Leaves p t id at hold r t′ → passes (peersQuestions (r .peers) t′) ≡ true
   left-again id at hold c = changed-again (peersQuestions p t) (changes.leave id at hold) p t r t′ c before (λ e. leave-valid id at hold (stateOf p t) was-valid)
 
-  pub expired-again : (at maxAge : ℕ) → Expires p t at maxAge r t′ → firstNo (peersQuestions (r .peers) t′) ≡ 0
+  pub expired-again : (at maxAge : ℕ) → Expires p t at maxAge r t′ → passes (peersQuestions (r .peers) t′) ≡ true
   expired-again at maxAge c = changed-again (peersQuestions p t) (changes.expire at maxAge) p t r t′ c before (λ e. expire-valid at maxAge (stateOf p t) was-valid)
 
 -- ---- and what `new` gives passes them
@@ -129,13 +130,10 @@ none-valid t = refl
 no-value : {A : Type 0} (n : ℕ) (x : A) → refused n ≡ given x → ⊥
 no-value n x e = let z : _≡_ {A = ℕ} 0 1 = cc in omega arith
 
-pub new-passes : (t : PeerTables) (r : PeersAnswer) (p : PeerDemand) → IsNew t r → peersAnswer r ≡ given p → firstNo (peersQuestions p t) ≡ 0
-unfolding firstNo
-new-passes t r p c e = by (haveRoom t) refl
-  where
-    by : (b : Bool) → haveRoom t ≡ b → firstNo (peersQuestions p t) ≡ 0
-    by false h = absurd (no-value 1 p ((λ i. numbered (cond (sym h i) 0 1) none) ∙ sym c ∙ e))
-    by true h =
-        let z : given none ≡ given p = (λ i. numbered (cond (sym h i) 0 1) none) ∙ sym c ∙ e in
-        let q : none ≡ p = cc in
-        subst (λ (x : PeerDemand). firstNo (peersQuestions x t) ≡ 0) q (valid-passes none t (record { room = h; state = none-valid t }))
+pub new-passes : (t : PeerTables) (r : PeersAnswer) (p : PeerDemand) → IsNew t r → peersAnswer r ≡ given p → passes (peersQuestions p t) ≡ true
+new-passes t r p c e = split (haveRoom t)
+    (λ h.
+    let z : given none ≡ given p = alone-yes 1 none h ∙ sym c ∙ e in
+    let q : none ≡ p = cc in
+    subst (λ (x : PeerDemand). passes (peersQuestions x t) ≡ true) q (valid-passes none t (record { room = h; state = none-valid t })))
+    (λ h. absurd (no-value 1 p (alone-no 1 none h ∙ sym c ∙ e)))

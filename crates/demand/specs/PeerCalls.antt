@@ -1,7 +1,7 @@
 -- The promise of each call on the peers: 01's questions in their order, its answer, and what the value and the tables hold afterwards. Definitions only.
 use Prim.Native.Nat.{ℕ, _<_, _^_}
 use mathlib.Core.Path.{_≡_}
-use mathlib.Core.Bool.{Bool, _&&_, _||_}
+use mathlib.Core.Bool.{Bool, true, false, _&&_, _||_}
 use mathlib.Core.List.{List, [], _∷_}
 use mathlib.Core.Option.{Option, none, some}
 use lib.Dec.{ltb, leb, eqb}
@@ -27,7 +27,7 @@ use Rattle.demand.specs.declared.peer_demand.FlagAnswer.{FlagAnswer}
 use Rattle.demand.specs.declared.peer_demand.FlagAnswer.the-variants as flag-answer
 use Rattle.demand.specs.declared.peer_demand.LenAnswer.{LenAnswer}
 use Rattle.demand.specs.declared.peer_demand.LenAnswer.the-variants as len-answer
-use Rattle.gcra.specs.Questions.{Question, _asks_, Answer, refused, given, firstNo, numbered}
+use Rattle.gcra.specs.Questions.{Question, _asks_, Answer, refused, given, answer, passes}
 use Rattle.demand.specs.PeerLists.{all}
 use Rattle.demand.specs.PeerState.{PeersState, PeerTables, maxPeers, maxDemandKeys, isWord, isKnown, haveRoom, stateOf, isValid, Stores}
 use Rattle.demand.specs.PeerChanges as changes
@@ -112,9 +112,9 @@ pub record Unchanged (p p′ : PeerDemand) (t t′ : PeerTables) : Type 0 where
 
 -- the answer; a 'no' changes nothing; else the value and the tables hold the state changed
 pub record Changes (qs : List Question) (change : PeersState → PeersState) (p : PeerDemand) (t : PeerTables) (r : PeersChanged) (t′ : PeerTables) : Type 0 where
-  pub answered : changeAnswer (r .answer) ≡ numbered (firstNo qs) tt
-  pub kept : 0 < firstNo qs → Unchanged p (r .peers) t t′
-  pub stored : firstNo qs ≡ 0 → Stores (change (stateOf p t)) (r .peers) t t′
+  pub answered : changeAnswer (r .answer) ≡ answer qs tt
+  pub kept : passes qs ≡ false → Unchanged p (r .peers) t t′
+  pub stored : passes qs ≡ true → Stores (change (stateOf p t)) (r .peers) t t′
 
 abbrev pub Applies : PeerDemand → PeerTables → ℕ → DemandReport → ℕ → PeersChanged → PeerTables → Type 0
 Applies p t id report at r t′ =
@@ -132,22 +132,22 @@ Expires p t at maxAge r t′ = Changes (peersQuestions p t) (changes.expire at m
 -- ---- calls that read, which are lent what they cannot write
 
 abbrev pub IsNew : PeerTables → PeersAnswer → Type 0
-IsNew t r = peersAnswer r ≡ numbered (firstNo (newQuestions t)) (record { peers = 0; «snapshot_keys» = 0; contested = 0 })
+IsNew t r = peersAnswer r ≡ answer (newQuestions t) (record { peers = 0; «snapshot_keys» = 0; contested = 0 })
 
 abbrev pub Gets : PeerDemand → PeerTables → ℕ → ℕ → HeardAnswer → Type 0
-Gets p t id key r = heardAnswer r ≡ numbered (firstNo (peersQuestions p t)) (readers.heard id key (stateOf p t))
+Gets p t id key r = heardAnswer r ≡ answer (peersQuestions p t) (readers.heard id key (stateOf p t))
 
 abbrev pub Totals : PeerDemand → PeerTables → ℕ → TotalAnswer → Type 0
-Totals p t key r = totalAnswer r ≡ numbered (firstNo (peersQuestions p t)) (readers.total key (stateOf p t))
+Totals p t key r = totalAnswer r ≡ answer (peersQuestions p t) (readers.total key (stateOf p t))
 
 abbrev pub TellsHotElsewhere : PeerDemand → PeerTables → ℕ → FlagAnswer → Type 0
-TellsHotElsewhere p t key r = flagAnswer r ≡ numbered (firstNo (peersQuestions p t)) (readers.hotElsewhere key (stateOf p t))
+TellsHotElsewhere p t key r = flagAnswer r ≡ answer (peersQuestions p t) (readers.hotElsewhere key (stateOf p t))
 
 abbrev pub Counts : PeerDemand → PeerTables → LenAnswer → Type 0
-Counts p t r = lenAnswer r ≡ numbered (firstNo (peersQuestions p t)) (readers.len (stateOf p t))
+Counts p t r = lenAnswer r ≡ answer (peersQuestions p t) (readers.len (stateOf p t))
 
 abbrev pub TellsEmpty : PeerDemand → PeerTables → FlagAnswer → Type 0
-TellsEmpty p t r = flagAnswer r ≡ numbered (firstNo (peersQuestions p t)) (eqb (readers.len (stateOf p t)) 0)
+TellsEmpty p t r = flagAnswer r ≡ answer (peersQuestions p t) (eqb (readers.len (stateOf p t)) 0)
 
 abbrev pub StaleRounds : ℕ → RoundsAnswer → Type 0
-StaleRounds n r = roundsAnswer r ≡ numbered (firstNo (clusterQuestions n)) (changes.staleAfterRounds n)
+StaleRounds n r = roundsAnswer r ≡ answer (clusterQuestions n) (changes.staleAfterRounds n)

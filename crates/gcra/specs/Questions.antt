@@ -1,5 +1,5 @@
 -- A call's questions, in their order, and its answer (01, 'A check comes in'). Definitions only.
-use Prim.Native.Nat.{ℕ, zero, suc}
+use Prim.Native.Nat.{ℕ}
 use mathlib.Core.Bool.{Bool, true, cond, _&&_}
 use mathlib.Core.List.{List, [], _∷_}
 
@@ -34,8 +34,3 @@ changed qs before after = cond (passes qs) after before
 unfoldable pub firstNo : List Question → ℕ
 firstNo [] = 0
 firstNo (q ∷ qs) = cond (q .passed) (firstNo qs) (q .number)
-
--- the answer of a call whose first 'no' has this number: its value where there is none
-abbrev pub numbered : {A : Type 0} → ℕ → A → Answer A
-numbered zero a = given a
-numbered (suc n) a = refused (suc n)

@@ -1,5 +1,6 @@
 -- `allocation::share` meets its contract.
-use Rattle.demand.proofs.Answers.{no, yes, value, failed, passed}
+use Rattle.gcra.proofs.Cases.{told-no, told-yes}
+use Rattle.gcra.proofs.Answers.{no, yes, value}
 use borrow.Author.Needs.{needs}
 use Rattle.demand.proofs.allocation.share.Statement.{statement}
 use Rattle.demand.proofs.allocation.share.Tie as tie
@@ -8,21 +9,21 @@ is-rate-requires : tie.Need-is-rate-requires
 is-rate-requires c κs = search needs
 
 returns : tie.Need-returns
-returns c = no 3 _ _ (failed (c .before .is-rate .ensures) (c .if1 .taken))
+returns c = no 3 _ _ (told-no (c .before .is-rate .ensures) (c .if1 .taken))
 
 is-floor-factor-requires : tie.Need-is-floor-factor-requires
 is-floor-factor-requires c κs = search needs
 
 returns-2 : tie.Need-returns-2
-returns-2 c = yes 3 _ _ (passed (c .before .before .before .is-rate .ensures) (c .before .before .if1 .left)) (no 5 _ _ (failed (c .before .is-floor-factor .ensures) (c .if2 .taken)))
+returns-2 c = yes 3 _ _ (told-yes (c .before .before .before .is-rate .ensures) (c .before .before .if1 .left)) (no 5 _ _ (told-no (c .before .is-floor-factor .ensures) (c .if2 .taken)))
 
 is-cluster-size-requires : tie.Need-is-cluster-size-requires
 is-cluster-size-requires c κs = search needs
 
 returns-3 : tie.Need-returns-3
 returns-3 c =
-    yes 3 _ _ (passed (c .before .before .before .before .before .is-rate .ensures) (c .before .before .before .before .if1 .left))
-    (yes 5 _ _ (passed (c .before .before .before .is-floor-factor .ensures) (c .before .before .if2 .left)) (no 7 _ _ (failed (c .before .is-cluster-size .ensures) (c .if3 .taken))))
+    yes 3 _ _ (told-yes (c .before .before .before .before .before .is-rate .ensures) (c .before .before .before .before .if1 .left))
+    (yes 5 _ _ (told-yes (c .before .before .before .is-floor-factor .ensures) (c .before .before .if2 .left)) (no 7 _ _ (told-no (c .before .is-cluster-size .ensures) (c .if3 .taken))))
 
 shared-requires : tie.Need-shared-requires
 shared-requires c κs = search needs
@@ -30,9 +31,9 @@ shared-requires c κs = search needs
 returns-4 : tie.Need-returns-4
 returns-4 c =
     let b = c .before in
-    yes 3 _ _ (passed (b .before .before .before .before .before .is-rate .ensures) (b .before .before .before .before .if1 .left))
-    (yes 5 _ _ (passed (b .before .before .before .is-floor-factor .ensures) (b .before .before .if2 .left))
-    (yes 7 _ _ (passed (b .before .is-cluster-size .ensures) (b .if3 .left)) (value (c .shared .ensures))))
+    yes 3 _ _ (told-yes (b .before .before .before .before .before .is-rate .ensures) (b .before .before .before .before .if1 .left))
+    (yes 5 _ _ (told-yes (b .before .before .before .is-floor-factor .ensures) (b .before .before .if2 .left))
+    (yes 7 _ _ (told-yes (b .before .is-cluster-size .ensures) (b .if3 .left)) (value (c .shared .ensures))))
 
 pub share-spec : {M : Type 1} → statement M
 share-spec =

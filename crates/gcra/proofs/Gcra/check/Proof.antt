@@ -2,7 +2,7 @@
 use borrow.Author.Needs.{needs}
 use Rattle.gcra.specs.Meter.{checked}
 use Rattle.gcra.proofs.Cases.{told-no, told-yes}
-use Rattle.gcra.proofs.Answers.{alone-no, alone-yes, kept-no, kept-yes}
+use Rattle.gcra.proofs.Answers.{alone-no, alone-yes, alone-kept, alone-changed}
 use Rattle.gcra.proofs.Gcra.check.Statement.{statement}
 use Rattle.gcra.proofs.Gcra.check.Tie as tie
 
@@ -12,7 +12,7 @@ is-valid-requires c κs = search needs
 returns : tie.Need-returns
 returns c =
     let n = told-no (c .before .is-valid .ensures) (c .if1 .taken) in
-    record { decided = alone-no 2 _ n; left = kept-no 2 _ _ n }
+    record { decided = alone-no 2 _ n; left = alone-kept 2 _ _ n }
 
 checked-requires : tie.Need-checked-requires
 checked-requires c κs = search needs
@@ -21,7 +21,7 @@ returns-2 : tie.Need-returns-2
 unfolding checked
 returns-2 c =
     let y = told-yes (c .before .before .is-valid .ensures) (c .before .if1 .left) in
-    rw (c .checked .ensures) record { decided = alone-yes 2 _ y; left = kept-yes 2 _ _ y }
+    rw (c .checked .ensures) record { decided = alone-yes 2 _ y; left = alone-changed 2 _ _ y }
 
 pub check-spec : {M : Type 1} → statement M
 check-spec = tie.close (tie.spec is-valid-requires returns checked-requires returns-2)

@@ -10,19 +10,19 @@ use Rattle.gcra.specs.Packed.{unitNanos, validQuota}
 use Rattle.gcra.specs.Rate.{setQuota}
 use Rattle.gcra.specs.Calls.{GcraSets}
 use Rattle.gcra.proofs.Cases.{told-no, told-yes, and-true}
-use Rattle.gcra.proofs.Answers.{alone-no, alone-yes, kept-no, kept-yes}
+use Rattle.gcra.proofs.Answers.{alone-no, alone-yes, alone-kept, alone-changed}
 use Rattle.gcra.proofs.Gcra.set_quota.Statement.{statement}
 use Rattle.gcra.proofs.Gcra.set_quota.Tie as tie
 
 module _ (g : Gcra) (q : Quota) (now : ℕ) where
   refuses : (validQuota unitNanos (g .quota) && validQuota unitNanos q) ≡ false → GcraSets g q now (record { answer = No 2; gcra = g })
-  refuses n = record { set = alone-no 2 tt n; left = kept-no 2 g (setQuota g q now) n }
+  refuses n = record { set = alone-no 2 tt n; left = alone-kept 2 g (setQuota g q now) n }
 
   refuses-new : validQuota unitNanos q ≡ false → GcraSets g q now (record { answer = No 2; gcra = g })
   refuses-new n = refuses (rw n (and-false (validQuota unitNanos (g .quota))))
 
   sets : {h : Gcra} → (validQuota unitNanos (g .quota) && validQuota unitNanos q) ≡ true → h ≡ setQuota g q now → GcraSets g q now (record { answer = Done; gcra = h })
-  sets y e = record { set = alone-yes 2 tt y; left = e ∙ kept-yes 2 g (setQuota g q now) y }
+  sets y e = record { set = alone-yes 2 tt y; left = e ∙ alone-changed 2 g (setQuota g q now) y }
 
 is-valid-requires : tie.Need-is-valid-requires
 is-valid-requires c κs = search needs

@@ -1,6 +1,7 @@
 -- `Demand::has_pending` meets its contract.
 use mathlib.Core.Path.{refl}
-use Rattle.demand.proofs.Answers.{no, yes, value, failed, passed}
+use Rattle.gcra.proofs.Cases.{told-no, told-yes}
+use Rattle.gcra.proofs.Answers.{no, yes, value}
 use borrow.Author.Needs.{needs}
 use Rattle.demand.proofs.demand.Demand.has_pending.Statement.{statement}
 use Rattle.demand.proofs.demand.Demand.has_pending.Tie as tie
@@ -9,10 +10,10 @@ is-valid-requires : tie.Need-is-valid-requires
 is-valid-requires c κs = search needs
 
 returns : tie.Need-returns
-returns c = no 2 _ _ (failed (c .before .is-valid .ensures) (c .if1 .taken))
+returns c = no 2 _ _ (told-no (c .before .is-valid .ensures) (c .if1 .taken))
 
 returns-2 : tie.Need-returns-2
-returns-2 c = yes 2 _ _ (passed (c .before .before .is-valid .ensures) (c .before .if1 .left)) (value refl)
+returns-2 c = yes 2 _ _ (told-yes (c .before .before .is-valid .ensures) (c .before .if1 .left)) (value refl)
 
 pub has-pending-spec : {M : Type 1} → statement M
 has-pending-spec = tie.close (tie.spec is-valid-requires returns returns-2)

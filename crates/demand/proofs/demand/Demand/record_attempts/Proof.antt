@@ -5,7 +5,8 @@ use Prim.Native.Nat.{ℕ, _+_, _-_, _^_, _<_, _≤_}
 use native.Mathlib.Omega.{arith}
 use lib.Dec.{ltb}
 use borrow.Author.Tests.{lt-ltb, le-ltb}
-use Rattle.demand.proofs.Answers.{no, yes, value, failed, passed}
+use Rattle.gcra.proofs.Cases.{told-no, told-yes}
+use Rattle.gcra.proofs.Answers.{no, yes, value}
 use borrow.Author.Needs.{needs}
 use Rattle.demand.proofs.demand.Demand.record_attempts.Statement.{statement}
 use Rattle.demand.proofs.demand.Demand.record_attempts.Tie as tie
@@ -20,19 +21,19 @@ is-valid-requires : tie.Need-is-valid-requires
 is-valid-requires c κs = search needs
 
 returns : tie.Need-returns
-returns c = no 2 _ _ (failed (c .before .is-valid .ensures) (c .if1 .taken))
+returns c = no 2 _ _ (told-no (c .before .is-valid .ensures) (c .if1 .taken))
 
 sub-if2 : tie.Need-sub-if2
 sub-if2 c = search needs
 
 returns-2 : tie.Need-returns-2
-returns-2 c = yes 2 _ _ (passed (c .before .before .before .is-valid .ensures) (c .before .before .if1 .left)) (no 9 _ _ (over _ _ (c .if2 .taken)))
+returns-2 c = yes 2 _ _ (told-yes (c .before .before .before .is-valid .ensures) (c .before .before .if1 .left)) (no 9 _ _ (over _ _ (c .if2 .taken)))
 
 add-t6 : tie.Need-add-t6
 add-t6 c = search needs
 
 returns-3 : tie.Need-returns-3
-returns-3 c = yes 2 _ _ (passed (c .before .before .before .before .is-valid .ensures) (c .before .before .before .if1 .left)) (yes 9 _ _ (within _ _ (c .before .before .struct-known .given .1 .0 .fits) (c .before .if2 .left)) (value refl))
+returns-3 c = yes 2 _ _ (told-yes (c .before .before .before .before .is-valid .ensures) (c .before .before .before .if1 .left)) (yes 9 _ _ (within _ _ (c .before .before .struct-known .given .1 .0 .fits) (c .before .if2 .left)) (value refl))
 
 pub record-attempts-spec : {M : Type 1} → statement M
 record-attempts-spec =

@@ -1,5 +1,6 @@
 -- `Demand::unbiased_rate` meets its contract.
-use Rattle.demand.proofs.Answers.{no, yes, value, failed, passed}
+use Rattle.gcra.proofs.Cases.{told-no, told-yes}
+use Rattle.gcra.proofs.Answers.{no, yes, value}
 use borrow.Author.Needs.{needs}
 use Rattle.demand.proofs.demand.Demand.unbiased_rate.Statement.{statement}
 use Rattle.demand.proofs.demand.Demand.unbiased_rate.Tie as tie
@@ -8,13 +9,13 @@ is-valid-requires : tie.Need-is-valid-requires
 is-valid-requires c κs = search needs
 
 returns : tie.Need-returns
-returns c = no 2 _ _ (failed (c .before .is-valid .ensures) (c .if1 .taken))
+returns c = no 2 _ _ (told-no (c .before .is-valid .ensures) (c .if1 .taken))
 
 unbiased-requires : tie.Need-unbiased-requires
 unbiased-requires c κs = search needs
 
 returns-2 : tie.Need-returns-2
-returns-2 c = yes 2 _ _ (passed (c .before .before .is-valid .ensures) (c .before .if1 .left)) (value (c .unbiased .ensures))
+returns-2 c = yes 2 _ _ (told-yes (c .before .before .is-valid .ensures) (c .before .if1 .left)) (value (c .unbiased .ensures))
 
 pub unbiased-rate-spec : {M : Type 1} → statement M
 unbiased-rate-spec = tie.close (tie.spec is-valid-requires returns unbiased-requires returns-2)

@@ -1,7 +1,8 @@
 use mathlib.Core.Path.{sym, _∙_}
 use borrow.Author.Tests.{not-true, not-false}
 use borrow.Author.Needs.{needs}
-use Rattle.demand.proofs.HotSetAnswers.{passed-none, numbered-set, update-set-no, update-demand-no, update-none}
+use Rattle.gcra.proofs.Answers.{passed-none}
+use Rattle.demand.proofs.HotSetAnswers.{numbered-set, update-set-no, update-demand-no, update-none}
 use Rattle.demand.proofs.hot_set.HotSet.ask_update.Statement.{statement}
 use Rattle.demand.proofs.hot_set.HotSet.ask_update.Tie as tie
 

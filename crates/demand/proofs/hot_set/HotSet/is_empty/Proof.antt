@@ -1,6 +1,7 @@
 use borrow.Author.Needs.{needs}
 use lib.Ieee.{nan}
-use Rattle.demand.proofs.HotSetAnswers.{answer-no, answer-passed, passed-none, numbered-set}
+use Rattle.gcra.proofs.Answers.{answer-no, answer-passed, passed-none}
+use Rattle.demand.proofs.HotSetAnswers.{numbered-set}
 use Rattle.demand.proofs.hot_set.HotSet.is_empty.Statement.{statement}
 use Rattle.demand.proofs.hot_set.HotSet.is_empty.Tie as tie
 

@@ -4,7 +4,7 @@ use Rattle.demand.specs.PeerState.{PeerTables, tables}
 use Rattle.demand.specs.PeerChanges as changes
 use Rattle.demand.specs.PeerCalls.{peersQuestions}
 use Rattle.demand.specs.PeerSteps.{Valid}
-use Rattle.demand.proofs.PeerCallLaws.{changes-not, changes-done, asked-all}
+use Rattle.demand.proofs.PeerCallLaws.{changes-not, changes-done, asked-all, peers-numbered}
 use Rattle.demand.proofs.peer_demand.PeerDemand.expire.Statement.{statement}
 use Rattle.demand.proofs.peer_demand.PeerDemand.expire.Tie as tie
 
@@ -52,7 +52,7 @@ returns-2 c =
     let e = f .before .before .before .before in
     let a = e .before in
     let s = start a in
-    changes-done (peersQuestions (s .args .self) (lent s)) (changes.expire (s .args .reading) (s .args .max-age)) (s .args .self) (lent s) (a .ask .result) _ _ (a .ask .ensures) (e .if1 .left) (f .expire-all .ensures)
+    changes-done (peersQuestions (s .args .self) (lent s)) (changes.expire (s .args .reading) (s .args .max-age)) (s .args .self) (lent s) (a .ask .result) _ _ (peers-numbered (s .args .self) (lent s)) (a .ask .ensures) (e .if1 .left) (f .expire-all .ensures)
 
 pub expire-spec : {M : Type 1} → statement M
 expire-spec =

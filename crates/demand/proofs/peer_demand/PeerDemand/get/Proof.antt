@@ -1,8 +1,9 @@
 -- `get` meets its contract.
 use mathlib.Core.Path.{sym, ap, _∙_}
+use Rattle.gcra.proofs.Answers.{answer-no}
 use Rattle.demand.specs.PeerState.{tables}
 use Rattle.demand.specs.PeerHeard.{saidOf, StateReady}
-use Rattle.demand.proofs.PeerReaderLaws.{asked-ready, answer-no, answer-yes}
+use Rattle.demand.proofs.PeerReaderLaws.{asked-ready, answer-yes}
 use borrow.Author.Needs.{needs}
 use Rattle.demand.proofs.peer_demand.PeerDemand.get.Statement.{statement}
 use Rattle.demand.proofs.peer_demand.PeerDemand.get.Tie as tie
@@ -21,7 +22,7 @@ ask-requires : tie.Need-ask-requires
 ask-requires c κs = search needs
 
 returns : tie.Need-returns
-returns c = answer-no (c .before .ask .result) _ _ (c .before .ask .ensures) (c .if1 .taken)
+returns c = answer-no _ _ (c .before .ask .result) (c .before .ask .ensures) (c .if1 .taken)
 
 heard-by-requires : tie.Need-heard-by-requires
 heard-by-requires c κs = ready c
@@ -35,12 +36,12 @@ enum-known-h c = search needs
 returns-2 : tie.Need-returns-2
 returns-2 c =
     let e = c .before .before .before in
-    answer-yes (e .before .ask .result) _ _ _ (e .before .ask .ensures) (e .if1 .left) (sym (ap saidOf (c .enum-told .given .1)) ∙ c .before .before .heard-by .ensures)
+    answer-yes _ _ (e .before .ask .result) _ _ (e .before .ask .ensures) (e .if1 .left) (sym (ap saidOf (c .enum-told .given .1)) ∙ c .before .before .heard-by .ensures)
 
 returns-3 : tie.Need-returns-3
 returns-3 c =
     let e = c .before .before .before .before in
-    answer-yes (e .before .ask .result) _ _ _ (e .before .ask .ensures) (e .if1 .left) (sym (ap saidOf (c .before .h .given .1)) ∙ c .before .before .before .heard-by .ensures)
+    answer-yes _ _ (e .before .ask .result) _ _ (e .before .ask .ensures) (e .if1 .left) (sym (ap saidOf (c .before .h .given .1)) ∙ c .before .before .before .heard-by .ensures)
 
 pub get-spec : {M : Type 1} → statement M
 get-spec =

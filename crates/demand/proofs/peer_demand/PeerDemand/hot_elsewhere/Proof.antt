@@ -1,7 +1,8 @@
 -- `hot_elsewhere` meets its contract.
+use Rattle.gcra.proofs.Answers.{answer-no}
 use Rattle.demand.specs.PeerState.{tables}
 use Rattle.demand.specs.PeerHeard.{StateReady}
-use Rattle.demand.proofs.PeerReaderLaws.{asked-ready, answer-no, answer-yes}
+use Rattle.demand.proofs.PeerReaderLaws.{asked-ready, answer-yes}
 use borrow.Author.Needs.{needs}
 use Rattle.demand.proofs.peer_demand.PeerDemand.hot_elsewhere.Statement.{statement}
 use Rattle.demand.proofs.peer_demand.PeerDemand.hot_elsewhere.Tie as tie
@@ -20,7 +21,7 @@ ask-requires : tie.Need-ask-requires
 ask-requires c κs = search needs
 
 returns : tie.Need-returns
-returns c = answer-no (c .before .ask .result) _ _ (c .before .ask .ensures) (c .if1 .taken)
+returns c = answer-no _ _ (c .before .ask .result) (c .before .ask .ensures) (c .if1 .taken)
 
 is-primary-of-any-requires : tie.Need-is-primary-of-any-requires
 is-primary-of-any-requires c κs = ready c
@@ -28,7 +29,7 @@ is-primary-of-any-requires c κs = ready c
 returns-2 : tie.Need-returns-2
 returns-2 c =
     let e = c .before in
-    answer-yes (e .before .ask .result) _ _ _ (e .before .ask .ensures) (e .if1 .left) (c .is-primary-of-any .ensures)
+    answer-yes _ _ (e .before .ask .result) _ _ (e .before .ask .ensures) (e .if1 .left) (c .is-primary-of-any .ensures)
 
 pub hot-elsewhere-spec : {M : Type 1} → statement M
 hot-elsewhere-spec = tie.close (tie.spec ask-requires returns is-primary-of-any-requires returns-2)

@@ -13,7 +13,7 @@ use Rattle.demand.specs.PeerState.{PeerTables, PeersState, tables, state
 use Rattle.demand.specs.PeerChanges as changes
 use Rattle.demand.specs.PeerCalls.{peersQuestions}
 use Rattle.demand.specs.PeerSteps.{Valid}
-use Rattle.demand.proofs.PeerCallLaws.{changes-not, changes-done, asked-all}
+use Rattle.demand.proofs.PeerCallLaws.{changes-not, changes-done, asked-all, peers-numbered}
 use Rattle.demand.proofs.peer_demand.PeerDemand.leave.Statement.{statement}
 use Rattle.demand.proofs.peer_demand.PeerDemand.leave.Tie as tie
 
@@ -73,7 +73,7 @@ returns-2 c =
     let s = start a in
     let p = s .args .self in
     let until : ℕ = changes.later (s .args .reading) (s .args .hold) in
-    changes-done (peersQuestions p (lent s)) (changes.leave (s .args .peer .0) (s .args .reading) (s .args .hold)) p (lent s) (a .ask .result) _ _ (a .ask .ensures) (e .if1 .left)
+    changes-done (peersQuestions p (lent s)) (changes.leave (s .args .peer .0) (s .args .reading) (s .args .hold)) p (lent s) (a .ask .result) _ _ (peers-numbered p (lent s)) (a .ask .ensures) (e .if1 .left)
     (subst (λ (x : PeersState). Stores x p (lent s) (tables (h .hold-peer .last .0) (s .args .snapshot-keys .now) (s .args .contested .now)))
     (sym (leaves-held (s .args .peer .0) (s .args .reading) (s .args .hold) (stateOf p (lent s)) (d .if2 .taken)))
     (held-peer-stores p (lent s) (s .args .peer .0) until (h .hold-peer .last .0) (tables-at e)
@@ -100,7 +100,7 @@ returns-3 c =
     let a = e .before in
     let s = start a in
     let p = s .args .self in
-    changes-done (peersQuestions p (lent s)) (changes.leave (s .args .peer .0) (s .args .reading) (s .args .hold)) p (lent s) (a .ask .result) _ _ (a .ask .ensures) (e .if1 .left)
+    changes-done (peersQuestions p (lent s)) (changes.leave (s .args .peer .0) (s .args .reading) (s .args .hold)) p (lent s) (a .ask .result) _ _ (peers-numbered p (lent s)) (a .ask .ensures) (e .if1 .left)
     (subst (λ (x : PeersState). Stores x (f .forget-peer .result) (lent s) (tables (f .forget-peer .last .1 .0) (f .forget-peer .last .1 .1 .0) (f .forget-peer .last .1 .1 .1 .0)))
     (sym (leaves-now (s .args .peer .0) (s .args .reading) (s .args .hold) (stateOf p (lent s)) (d .if2 .left)))
     (f .forget-peer .ensures))

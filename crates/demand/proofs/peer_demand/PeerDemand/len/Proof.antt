@@ -1,9 +1,10 @@
 -- `len` meets its contract.
 use mathlib.Core.Path.{_∙_}
+use Rattle.gcra.proofs.Answers.{answer-no}
 use Rattle.demand.specs.PeerState.{tables}
 use Rattle.demand.specs.PeerHeard.{StateReady}
 use Rattle.demand.proofs.PeerLenLaws.{asked-counted}
-use Rattle.demand.proofs.PeerReaderLaws.{asked-ready, answer-no, answer-yes}
+use Rattle.demand.proofs.PeerReaderLaws.{asked-ready, answer-yes}
 use borrow.Author.Needs.{needs}
 use Rattle.demand.proofs.peer_demand.PeerDemand.len.Statement.{statement}
 use Rattle.demand.proofs.peer_demand.PeerDemand.len.Tie as tie
@@ -22,7 +23,7 @@ ask-requires : tie.Need-ask-requires
 ask-requires c κs = search needs
 
 returns : tie.Need-returns
-returns c = answer-no (c .before .ask .result) _ _ (c .before .ask .ensures) (c .if1 .taken)
+returns c = answer-no _ _ (c .before .ask .result) (c .before .ask .ensures) (c .if1 .taken)
 
 count-keys-requires : tie.Need-count-keys-requires
 count-keys-requires c κs = ready c
@@ -32,7 +33,7 @@ returns-2 c =
     let e = c .before in
     let s = e .before .before .before .before .before .args in
     let all-keys = c .count-keys .ensures ∙ asked-counted (s .self) (tables (s .peers .now) (s .snapshot-keys .now) (s .contested .now)) (e .before .ask .result) (e .before .ask .ensures) (e .if1 .left) in
-    answer-yes (e .before .ask .result) _ _ _ (e .before .ask .ensures) (e .if1 .left) all-keys
+    answer-yes _ _ (e .before .ask .result) _ _ (e .before .ask .ensures) (e .if1 .left) all-keys
 
 pub len-spec : {M : Type 1} → statement M
 len-spec = tie.close (tie.spec ask-requires returns count-keys-requires returns-2)

@@ -1,7 +1,8 @@
 -- `total` meets its contract.
+use Rattle.gcra.proofs.Answers.{answer-no}
 use Rattle.demand.specs.PeerState.{tables}
 use Rattle.demand.specs.PeerHeard.{StateReady}
-use Rattle.demand.proofs.PeerReaderLaws.{asked-ready, answer-no, answer-yes}
+use Rattle.demand.proofs.PeerReaderLaws.{asked-ready, answer-yes}
 use borrow.Author.Needs.{needs}
 use Rattle.demand.proofs.peer_demand.PeerDemand.total.Statement.{statement}
 use Rattle.demand.proofs.peer_demand.PeerDemand.total.Tie as tie
@@ -20,7 +21,7 @@ ask-requires : tie.Need-ask-requires
 ask-requires c κs = search needs
 
 returns : tie.Need-returns
-returns c = answer-no (c .before .ask .result) _ _ (c .before .ask .ensures) (c .if1 .taken)
+returns c = answer-no _ _ (c .before .ask .result) (c .before .ask .ensures) (c .if1 .taken)
 
 sum-heard-requires : tie.Need-sum-heard-requires
 sum-heard-requires c κs = ready c
@@ -28,7 +29,7 @@ sum-heard-requires c κs = ready c
 returns-2 : tie.Need-returns-2
 returns-2 c =
     let e = c .before in
-    answer-yes (e .before .ask .result) _ _ _ (e .before .ask .ensures) (e .if1 .left) (c .sum-heard .ensures)
+    answer-yes _ _ (e .before .ask .result) _ _ (e .before .ask .ensures) (e .if1 .left) (c .sum-heard .ensures)
 
 pub total-spec : {M : Type 1} → statement M
 total-spec = tie.close (tie.spec ask-requires returns sum-heard-requires returns-2)
