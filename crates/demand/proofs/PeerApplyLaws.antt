@@ -17,26 +17,22 @@ use Rattle.float.specs.Magnitude.{magnitude}
 use Rattle.demand.specs.declared.peer_demand.KeyDemand.{KeyDemand}
 use Rattle.demand.specs.declared.peer_demand.DemandReport.{DemandReport}
 use Rattle.demand.specs.declared.peer_demand.PeerDemand.{PeerDemand}
-use Rattle.gcra.specs.Questions.{firstNo}
+use Rattle.gcra.specs.Questions.{passes, firstNo}
+use Rattle.gcra.proofs.Answers.{passed-none}
 use Rattle.demand.specs.PeerLists.{all}
 use Rattle.demand.specs.PeerRecords.{Snapshot, PeerRecord, SnapshotKey, ContestedKey, timeWords, snapshotWords, pastWords, peerWords, snapshotKeyWords, contestedWords, peerOf, snapshotKeyOf, contestedOf}
 use Rattle.demand.specs.PeerState.{PeerTables, isKnown, haveRoom, stateOf, exact, areExact, isValid, valid, Holds}
 use Rattle.demand.specs.PeerChanges as changes
 use Rattle.demand.specs.PeerCalls.{peersQuestions, reportQuestions}
 use Rattle.demand.specs.PeerRuns.{keysIn, contestedIn, peersIn, Tabled, Passed, Known}
+use Rattle.demand.specs.PeerSteps.{Valid}
+use Rattle.demand.proofs.PeerCallLaws.{asked-all, report-numbered}
 use Rattle.demand.proofs.PeerWordLaws.{words-of-exact}
 use Rattle.demand.proofs.PeerValidLaws.{Roomy, room-says}
 use Rattle.demand.proofs.PeerTableLaws.{drop-more}
 use Rattle.demand.proofs.PeerKeptLaws.{ValidState, valid-says, few-keys, few-contested}
 
 -- ---- the questions
-
-step : (b : Bool) (x n : ℕ) → cond b x (suc n) ≡ 0 → (b ≡ true) × (x ≡ 0)
-step true x n e = (refl, e)
-step false x n e = absurd (no-suc n e)
-  where
-    no-suc : (n : ℕ) → suc n ≡ 0 → ⊥
-    no-suc n e = omega arith
 
 pub record Sound (p : PeerDemand) (t : PeerTables) (id : ℕ) (r : DemandReport) : Type 0 where
   pub room : haveRoom t ≡ true
@@ -46,14 +42,20 @@ pub record Sound (p : PeerDemand) (t : PeerTables) (id : ℕ) (r : DemandReport)
   pub place : (isKnown (stateOf p t .peers) id || ltb (length (stateOf p t .peers)) 32) ≡ true
 
 pub passed-says : (p : PeerDemand) (t : PeerTables) (id : ℕ) (r : DemandReport) → Passed p t id r → Sound p t id r
-unfolding firstNo
+unfolding passes
 passed-says p t id r e =
-    let a = step (haveRoom t) _ 0 (e .questions) in
-    let b = step (isValid p t) _ 1 (a .1) in
-    let c = step (leb (r .count) 64) _ 9 (b .1) in
-    let d = step (all (λ (k : KeyDemand). magnitude (k .demand)) (changes.listed r)) _ 10 (c .1) in
-    let f = step (isKnown (stateOf p t .peers) id || ltb (length (stateOf p t .peers)) 32) _ 11 (d .1) in
-    record { room = a .0; state = b .0; count = leb-true (r .count) 64 (c .0); demands = d .0; place = f .0 }
+    let q = passed-none (reportQuestions p t id r) 0 (report-numbered p t id r) (sym (e .questions)) refl in
+    let a = both (haveRoom t) _ q in
+    let b = both (isValid p t) _ (a .1) in
+    let c = both (leb (r .count) 64) _ (b .1) in
+    let d = both (all (λ (k : KeyDemand). magnitude (k .demand)) (changes.listed r)) _ (c .1) in
+    record {
+      room = a .0;
+      state = b .0;
+      count = leb-true (r .count) 64 (c .0);
+      demands = d .0;
+      place = both (isKnown (stateOf p t .peers) id || ltb (length (stateOf p t .peers)) 32) true (d .1) .0;
+    }
 
 module _ (p : PeerDemand) (t : PeerTables) (id : ℕ) (r : DemandReport) where
   pub report-no : (n : ℕ) → n ≡ firstNo (peersQuestions p t) → (n ≡ 0 → ⊥) → n ≡ firstNo (reportQuestions p t id r)
@@ -66,15 +68,12 @@ module _ (p : PeerDemand) (t : PeerTables) (id : ℕ) (r : DemandReport) where
 
   -- questions 1 and 2 passed: the others decide
   module _ (n : ℕ) (e : n ≡ firstNo (peersQuestions p t)) (z : n ≡ 0) where
-    pub asked : (haveRoom t ≡ true) × (isValid p t ≡ true)
-    unfolding firstNo
-    asked =
-        let a = step (haveRoom t) (cond (isValid p t) 0 2) 0 (sym e ∙ z) in
-        (a .0, step (isValid p t) 0 1 (a .1) .0)
+    pub asked : Valid p t
+    asked = asked-all p t n e z
 
     pub report-asks : firstNo (reportQuestions p t id r) ≡ cond (leb (r .count) 64) (cond (all (λ (k : KeyDemand). magnitude (k .demand)) (changes.listed r)) (cond (isKnown (stateOf p t .peers) id || ltb (length (stateOf p t .peers)) 32) 0 12) 11) 10
     unfolding firstNo
-    report-asks = (λ i. cond (asked .0 i) (cond (asked .1 i) (cond (leb (r .count) 64) (cond (all (λ (k : KeyDemand). magnitude (k .demand)) (changes.listed r)) (cond (isKnown (stateOf p t .peers) id || ltb (length (stateOf p t .peers)) 32) 0 12) 11) 10) 2) 1)
+    report-asks = (λ i. cond (asked .room i) (cond (asked .state i) (cond (leb (r .count) 64) (cond (all (λ (k : KeyDemand). magnitude (k .demand)) (changes.listed r)) (cond (isKnown (stateOf p t .peers) id || ltb (length (stateOf p t .peers)) 32) 0 12) 11) 10) 2) 1)
 
     pub report-ten : 64 < r .count → 10 ≡ firstNo (reportQuestions p t id r)
     report-ten h = sym (report-asks ∙ ap (λ (b : Bool). cond b (cond (all (λ (k : KeyDemand). magnitude (k .demand)) (changes.listed r)) (cond (isKnown (stateOf p t .peers) id || ltb (length (stateOf p t .peers)) 32) 0 12) 11) 10) (lt-leb (r .count) 64 h))

@@ -1,14 +1,14 @@
 -- Laws: a call's answer by the number of its first 'no'.
 use Prim.Native.Nat.{ℕ}
-use mathlib.Core.Path.{_≡_, refl, sym, ap, _∙_}
-use mathlib.Core.Bool.{Bool, cond, true≢false}
+use mathlib.Core.Path.{_≡_, refl, sym, _∙_}
+use mathlib.Core.Bool.{true, true≢false}
 use mathlib.Core.List.{List}
 use native.Mathlib.Omega.{arith}
-use Rattle.records.proofs.TestLaws.{split}
+use Rattle.records.proofs.TestLaws.{both, and-intro}
 use Rattle.demand.specs.declared.peer_demand.DemandReport.{DemandReport}
 use Rattle.demand.specs.declared.peer_demand.PeerDemand.{PeerDemand}
 use Rattle.demand.specs.declared.peer_demand.ChangeAnswer.the-variants as change-answer
-use Rattle.gcra.specs.Questions.{Question, firstNo}
+use Rattle.gcra.specs.Questions.{Question, passes, firstNo}
 use Rattle.gcra.proofs.Answers.{Numbered, answer-no, answer-passed, not-passed, passed-none}
 use Rattle.demand.specs.PeerState.{PeersState, PeerTables, haveRoom, stateOf, isValid, Stores}
 use Rattle.demand.specs.PeerCalls.{peersQuestions, reportQuestions, Changes}
@@ -37,13 +37,17 @@ peers-numbered p t = (omega arith, (omega arith, tt))
 pub report-numbered : (p : PeerDemand) (t : PeerTables) (id : ℕ) (r : DemandReport) → Numbered (reportQuestions p t id r)
 report-numbered p t id r = (omega arith, (omega arith, (omega arith, (omega arith, (omega arith, tt)))))
 
--- where no question is answered 'no', the state is valid
+-- questions 1 and 2 passed, as one fact and as two
+pub valid-passes : (p : PeerDemand) (t : PeerTables) → Valid p t → passes (peersQuestions p t) ≡ true
+unfolding passes
+valid-passes p t v = and-intro (haveRoom t) _ (v .room) (and-intro (isValid p t) true (v .state) refl)
+
+pub passes-valid : (p : PeerDemand) (t : PeerTables) → passes (peersQuestions p t) ≡ true → Valid p t
+unfolding passes
+passes-valid p t e =
+    let a = both (haveRoom t) _ e in
+    record { room = a .0; state = both (isValid p t) true (a .1) .0 }
+
+-- the same by the number of the first 'no'
 pub asked-all : (p : PeerDemand) (t : PeerTables) (n : ℕ) → n ≡ firstNo (peersQuestions p t) → n ≡ 0 → Valid p t
-unfolding firstNo
-asked-all p t n e h =
-    let q : _≡_ {A = ℕ} (cond (haveRoom t) (cond (isValid p t) 0 2) 1) 0 = sym e ∙ h in
-    split (haveRoom t)
-    (λ a. split (isValid p t)
-    (λ b. record { room = a; state = b })
-    (λ b. let z : _≡_ {A = ℕ} 2 0 = sym ((λ k. cond (a k) (cond (b k) 0 2) 1)) ∙ q in absurd (omega arith)))
-    (λ a. let z : _≡_ {A = ℕ} 1 0 = sym (ap (λ (b : Bool). cond b (cond (isValid p t) 0 2) 1) a) ∙ q in absurd (omega arith))
+asked-all p t n e h = passes-valid p t (passed-none (peersQuestions p t) n (peers-numbered p t) e h)

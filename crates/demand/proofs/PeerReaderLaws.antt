@@ -13,7 +13,7 @@ use lib.ListN.{length, drop, getD, length-map, drop-of-length-le}
 use lib.Seq.{drop-cons}
 use Rattle.records.specs.declared.Found.the-variants.{At, Gap}
 use Rattle.records.specs.Records.{records, ascending, find}
-use Rattle.records.proofs.TestLaws.{split, both}
+use Rattle.records.proofs.TestLaws.{both}
 use Rattle.records.proofs.RecordLaws.{length-records}
 use Rattle.records.proofs.PlaceLaws.{find-at, at-says}
 use Rattle.demand.specs.declared.peer_demand.PeerDemand.{PeerDemand}
@@ -21,7 +21,7 @@ use Rattle.gcra.specs.Questions.{given, answer, firstNo}
 use Rattle.gcra.proofs.Answers.{answer-passed, passed-none}
 use Rattle.demand.specs.PeerLists.{only, all, any, first, present, those}
 use Rattle.demand.specs.PeerRecords.{PeerRecord, SnapshotKey, ContestedKey, snapshotOf, peerOf, snapshotKeyOf, contestedOf}
-use Rattle.demand.specs.PeerState.{PeersState, PeerTables, maxPeers, maxDemandKeys, maxContested, peerWith, haveRoom, stateOf, isValid, isWord}
+use Rattle.demand.specs.PeerState.{PeersState, PeerTables, maxPeers, maxDemandKeys, maxContested, peerWith, stateOf, isWord}
 use Rattle.demand.specs.PeerScan.{firstWord, isTime, isSnapshot, isPeer, arePeerWords, areKeyWords, arePeers, areKeys, isScanned, PeersReady}
 use Rattle.demand.specs.PeerChanges.{snapshotIn}
 use Rattle.demand.specs.PeerReaders.{heardTaken, heardContested, snapshotKeyAt, contestedAt, join, heard, addHeard, totalFrom, total, isPrimary, hotElsewhere}
@@ -32,7 +32,7 @@ use Rattle.demand.proofs.PeerRangeLaws.{secondWord}
 use Rattle.demand.proofs.PeerFindLaws.{Long, key-1}
 use Rattle.demand.proofs.PeerValidLaws.{all-words, record-length, room-says, peers-ready, keys-ready, scanned-is-valid}
 use Rattle.demand.proofs.PeerRowLaws.{word-at, first-at}
-use Rattle.demand.proofs.PeerCallLaws.{peers-numbered}
+use Rattle.demand.proofs.PeerCallLaws.{peers-numbered, asked-all}
 use Rattle.demand.proofs.PeerHeardLaws.{peer-of-id, word-found, word-missing, any-epoch, hasWords, picked-words, table-found, table-missing}
 
 -- ---- answers by the number of the first 'no'
@@ -41,14 +41,6 @@ answer-yes p t n u v e h q = ap given q ∙ answer-passed v (peersQuestions p t)
 
 -- ---- what questions 1 and 2 give to the readers
 module _ (p : PeerDemand) (t : PeerTables) where
-  pub passed-questions : firstNo (peersQuestions p t) ≡ 0 → (haveRoom t ≡ true) × (isValid p t ≡ true)
-  unfolding firstNo
-  passed-questions e = split (haveRoom t)
-      (λ a. split (isValid p t)
-      (λ b. (a, b))
-      (λ b. let z : 2 ≡ 0 = sym (λ k. cond (a k) (cond (b k) 0 2) 1) ∙ e in absurd (omega (arith, z))))
-      (λ a. let z : 1 ≡ 0 = sym (ap (λ (x : Bool). cond x (cond (isValid p t) 0 2) 1) a) ∙ e in absurd (omega (arith, z)))
-
   key-table : (w bound least n : ℕ) (ps : List (List ℕ)) (xs : List ℕ) → 4 ≤ w → maxPeers * bound * w ≤ length xs → areKeys w least bound ps (records w n xs) ≡ true → KeyTable w n xs
   unfolding areKeys
   key-table w bound least n ps xs wide room e =
@@ -62,10 +54,10 @@ module _ (p : PeerDemand) (t : PeerTables) where
   pub state-ready : firstNo (peersQuestions p t) ≡ 0 → all isWord (t .peers) ≡ true → all isWord (t .snapshotKeys) ≡ true → all isWord (t .contested) ≡ true → StateReady p t
   unfolding isScanned arePeers
   state-ready e wp wk wc =
-      let q = passed-questions e in
-      let r = room-says t (q .0) in
+      let q = asked-all p t 0 (sym e) refl in
+      let r = room-says t (q .room) in
       let ps : List (List ℕ) = records 12 (p .peers) (t .peers) in
-      let s : isScanned p t ≡ true = scanned-is-valid p t (q .0) wp wk wc ∙ q .1 in
+      let s : isScanned p t ≡ true = scanned-is-valid p t (q .room) wp wk wc ∙ q .state in
       let a = both (arePeers ps) _ s in
       let b = both (areKeys 4 1 maxDemandKeys ps (records 4 (p .«snapshot_keys») (t .snapshotKeys))) _ (a .1) in
       let c = both (leb (length ps) maxPeers) _ (a .0) in

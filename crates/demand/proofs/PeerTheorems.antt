@@ -22,6 +22,7 @@ use Rattle.demand.specs.PeerChanges as changes
 use Rattle.demand.specs.PeerCalls.{Widths, fitsWidths, peersAnswer, peersQuestions, reportQuestions, Changes, IsNew, Applies, Forgets, Leaves, Expires}
 use Rattle.demand.specs.PeerSteps.{Valid}
 use Rattle.demand.proofs.PeerWordLaws.{peer-of-words, snapshot-key-of-words, contested-of-words}
+use Rattle.demand.proofs.PeerCallLaws.{valid-passes, passes-valid}
 use Rattle.demand.proofs.PeerKeptLaws.{valid-says}
 use Rattle.demand.proofs.PeerTakeLaws.{past-few}
 use Rattle.demand.proofs.PeerApplyLaws.{passed-says}
@@ -74,17 +75,6 @@ module _ (s : PeersState) (p : PeerDemand) (t t′ : PeerTables) (h : Stores s p
     room = (λ i. leb peersSize (h .peers .as-long i) && (leb snapshotKeysSize (h .snapshotKeys .as-long i) && leb contestedSize (h .contested .as-long i))) ∙ room;
     state = and-intro (areExact p t′) (valid (stateOf p t′)) stored-exact (ap valid read-back ∙ e);
   }
-
--- questions 1 and 2 passed, as one fact and as two
-pub valid-passes : (p : PeerDemand) (t : PeerTables) → Valid p t → passes (peersQuestions p t) ≡ true
-unfolding passes
-valid-passes p t v = and-intro (haveRoom t) _ (v .room) (and-intro (isValid p t) true (v .state) refl)
-
-pub passes-valid : (p : PeerDemand) (t : PeerTables) → passes (peersQuestions p t) ≡ true → Valid p t
-unfolding passes
-passes-valid p t e =
-    let a = both (haveRoom t) _ e in
-    record { room = a .0; state = both (isValid p t) true (a .1) .0 }
 
 valid-now : (p : PeerDemand) (t : PeerTables) → Valid p t → valid (stateOf p t) ≡ true
 unfolding isValid
