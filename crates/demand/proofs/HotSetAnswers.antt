@@ -2,7 +2,7 @@
 use Prim.Native.Nat.{ℕ, _*_, _≤_, _<_}
 use native.Mathlib.Omega.{arith}
 use mathlib.Core.Path.{_≡_, sym, ap, _∙_}
-use mathlib.Core.Bool.{Bool, true, false, cond, _&&_}
+use mathlib.Core.Bool.{true, false, _&&_}
 use mathlib.Core.List.{List, [], _∷_}
 use mathlib.Core.Option.{Option}
 use borrow.Author.Tests.{leb-true, le-leb, lt-leb}
@@ -11,9 +11,9 @@ use lib.Ieee.{Float}
 use lib.ListN.{length}
 use Rattle.float.specs.Magnitude.{magnitude}
 use Rattle.records.specs.Records.{records, fits}
-use Rattle.records.proofs.TestLaws.{split, both}
+use Rattle.records.proofs.TestLaws.{both}
 use Rattle.records.proofs.RecordLaws.{fits-intro}
-use Rattle.gcra.specs.Questions.{Question, _asks_, given, answer, passes, firstNo}
+use Rattle.gcra.specs.Questions.{Question, _asks_, given, answer, passes}
 use Rattle.gcra.proofs.Answers.{Numbered, answer-passed}
 use Rattle.demand.specs.HotSet.{Held, validEntries, validSize, valid}
 use Rattle.demand.specs.HotSetCalls.{room, askSet, askUpdate, slot}
@@ -25,20 +25,6 @@ use Rattle.demand.specs.declared.hot_set.HotSet.{HotSet}
 pub answer-slot : {A : Type 0} (f : Option HotEntry → A) (qs : List Question) (o : Slot) (x z : Option HotEntry) → passes qs ≡ true → slot o ≡ x → slot o ≡ z → given (f z) ≡ answer qs (f x)
 answer-slot f qs o x z p e q = ap (λ (y : Option HotEntry). given (f y)) (sym q ∙ e) ∙ answer-passed (f x) qs p
 
--- ---- two questions
-module _ (n m : ℕ) (a b : Bool) where
-  pub first-no : a ≡ false → n ≡ firstNo ((n asks a) ∷ (m asks b) ∷ [])
-  unfolding firstNo
-  first-no e = rw e
-
-  pub second-no : a ≡ true → b ≡ false → m ≡ firstNo ((n asks a) ∷ (m asks b) ∷ [])
-  unfolding firstNo
-  second-no e f = rw (e, f)
-
-  pub neither-no : a ≡ true → b ≡ true → 0 ≡ firstNo ((n asks a) ∷ (m asks b) ∷ [])
-  unfolding firstNo
-  neither-no e f = rw (e, f)
-
 -- ---- the questions of an update
 module _ (s : HotSet) (xs : List ℕ) (d : Float) where
   pub numbered-set : Numbered (askSet s xs)
@@ -47,26 +33,9 @@ module _ (s : HotSet) (xs : List ℕ) (d : Float) where
   pub numbered-update : Numbered (askUpdate s xs d)
   numbered-update = (omega arith, (omega arith, (omega arith, tt)))
 
-  pub update-set-no : (n : ℕ) → n ≡ firstNo (askSet s xs) → (n ≡ 0 → ⊥) → n ≡ firstNo (askUpdate s xs d)
-  unfolding firstNo
-  update-set-no n e h = split (leb (room (s .«max_size»)) (length xs))
-      (λ p. split (valid s (records 6 (s .len) xs))
-      (λ q. absurd (h (rw (p, q) at e)))
-      (λ q. let k : n ≡ 2 = rw (p, q) at e in rw (p, q) k))
-      (λ p. let k : n ≡ 1 = rw p at e in rw p k)
-
-  last-question : (b : Bool) → passes (askSet s xs) ≡ true → magnitude d ≡ b → cond b 0 11 ≡ firstNo (askUpdate s xs d)
-  unfolding passes firstNo
-  last-question b e f =
-      let p = both (leb (room (s .«max_size»)) (length xs)) _ e in
-      let q = both (valid s (records 6 (s .len) xs)) _ (p .1) in
-      rw (p .0, q .0, f)
-
-  pub update-demand-no : passes (askSet s xs) ≡ true → magnitude d ≡ false → 11 ≡ firstNo (askUpdate s xs d)
-  update-demand-no e f = last-question false e f
-
-  pub update-none : passes (askSet s xs) ≡ true → magnitude d ≡ true → 0 ≡ firstNo (askUpdate s xs d)
-  update-none e f = last-question true e f
+  -- the demand is asked about last
+  abbrev pub asks-demand : List Question
+  asks-demand = (11 asks magnitude d) ∷ []
 
   pub update-passed-set : passes (askUpdate s xs d) ≡ true → passes (askSet s xs) ≡ true
   unfolding passes

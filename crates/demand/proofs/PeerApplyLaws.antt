@@ -1,36 +1,31 @@
 -- Laws: what a report that passed its questions finds in the tables, and what they hold after it.
 use mathlib.Core.Path.{_≡_, refl, sym, ap, _∙_}
-use mathlib.Core.Bool.{Bool, true, false, cond, _||_}
+use mathlib.Core.Bool.{Bool, true, false, _||_, or-false}
 use mathlib.Core.List.{List, [], _∷_, _++_, map}
 use mathlib.Core.Option.{Option, none, some}
 use Prim.Native.Nat.{ℕ, suc, _+_, _-_, _*_, _≤_, _<_}
 use native.Mathlib.Omega.{arith}
 use borrow.Author.Tests.{lt-ltb, le-ltb, leb-true, le-leb, lt-leb}
-use lib.Dec.{ltb, leb}
+use lib.Dec.{leb}
 use lib.ListN.{length, take, drop, length-append, length-map}
 use lib.Seq.{length-take-le}
 use Rattle.records.specs.Records.{records, flat, table, ascending}
-use Rattle.records.proofs.TestLaws.{split, both}
+use Rattle.records.proofs.TestLaws.{both}
 use Rattle.records.proofs.RecordLaws.{length-records}
 use Rattle.records.proofs.TableLaws.{Wide, length-flat, records-table, drop-table, length-table}
-use Rattle.float.specs.Magnitude.{magnitude}
-use Rattle.demand.specs.declared.peer_demand.KeyDemand.{KeyDemand}
 use Rattle.demand.specs.declared.peer_demand.DemandReport.{DemandReport}
 use Rattle.demand.specs.declared.peer_demand.PeerDemand.{PeerDemand}
-use Rattle.gcra.specs.Questions.{passes, firstNo}
-use Rattle.gcra.proofs.Answers.{passed-none}
-use Rattle.demand.specs.PeerLists.{all}
+use Rattle.gcra.specs.Questions.{Question, _asks_, passes, firstNo}
+use Rattle.gcra.proofs.Answers.{passed-none, first-no, first-yes, first-none, first-more, first-rest}
 use Rattle.demand.specs.PeerRecords.{Snapshot, PeerRecord, SnapshotKey, ContestedKey, timeWords, snapshotWords, pastWords, peerWords, snapshotKeyWords, contestedWords, peerOf, snapshotKeyOf, contestedOf}
 use Rattle.demand.specs.PeerState.{PeerTables, isKnown, haveRoom, stateOf, exact, areExact, isValid, valid, Holds}
-use Rattle.demand.specs.PeerChanges as changes
-use Rattle.demand.specs.PeerCalls.{peersQuestions, reportQuestions}
+use Rattle.demand.specs.PeerCalls.{hasDemands, hasPlace, peersQuestions, reportQuestions}
 use Rattle.demand.specs.PeerRuns.{keysIn, contestedIn, peersIn, Tabled, Passed, Known}
-use Rattle.demand.specs.PeerSteps.{Valid}
-use Rattle.demand.proofs.PeerCallLaws.{asked-all, report-numbered}
+use Rattle.demand.proofs.PeerCallLaws.{peers-numbered, report-numbered}
 use Rattle.demand.proofs.PeerWordLaws.{words-of-exact}
 use Rattle.demand.proofs.PeerValidLaws.{Roomy, room-says}
 use Rattle.demand.proofs.PeerTableLaws.{drop-more}
-use Rattle.demand.proofs.PeerKeptLaws.{ValidState, valid-says, few-keys, few-contested}
+use Rattle.demand.proofs.PeerKeptLaws.{or-right, ValidState, valid-says, few-keys, few-contested}
 
 -- ---- the questions
 
@@ -38,8 +33,8 @@ pub record Sound (p : PeerDemand) (t : PeerTables) (id : ℕ) (r : DemandReport)
   pub room : haveRoom t ≡ true
   pub state : isValid p t ≡ true
   pub count : r .count ≤ 64
-  pub demands : all (λ (k : KeyDemand). magnitude (k .demand)) (changes.listed r) ≡ true
-  pub place : (isKnown (stateOf p t .peers) id || ltb (length (stateOf p t .peers)) 32) ≡ true
+  pub demands : hasDemands r ≡ true
+  pub place : hasPlace id (stateOf p t .peers) ≡ true
 
 pub passed-says : (p : PeerDemand) (t : PeerTables) (id : ℕ) (r : DemandReport) → Passed p t id r → Sound p t id r
 unfolding passes
@@ -48,61 +43,53 @@ passed-says p t id r e =
     let a = both (haveRoom t) _ q in
     let b = both (isValid p t) _ (a .1) in
     let c = both (leb (r .count) 64) _ (b .1) in
-    let d = both (all (λ (k : KeyDemand). magnitude (k .demand)) (changes.listed r)) _ (c .1) in
+    let d = both (hasDemands r) _ (c .1) in
     record {
       room = a .0;
       state = b .0;
       count = leb-true (r .count) 64 (c .0);
       demands = d .0;
-      place = both (isKnown (stateOf p t .peers) id || ltb (length (stateOf p t .peers)) 32) true (d .1) .0;
+      place = both (hasPlace id (stateOf p t .peers)) true (d .1) .0;
     }
 
 module _ (p : PeerDemand) (t : PeerTables) (id : ℕ) (r : DemandReport) where
+  -- what is asked of the report alone
+  abbrev asks-report : List Question
+  asks-report = (10 asks leb (r .count) 64) ∷ (11 asks hasDemands r) ∷ (12 asks hasPlace id (stateOf p t .peers)) ∷ []
+
   pub report-no : (n : ℕ) → n ≡ firstNo (peersQuestions p t) → (n ≡ 0 → ⊥) → n ≡ firstNo (reportQuestions p t id r)
-  unfolding firstNo
-  report-no n e h = split (haveRoom t)
-      (λ a. split (isValid p t)
-      (λ b. absurd (h (e ∙ (λ i. cond (a i) (cond (b i) 0 2) 1))))
-      (λ b. e ∙ (λ i. cond (a i) (cond (b i) 0 2) 1) ∙ sym (λ i. cond (a i) (cond (b i) (cond (leb (r .count) 64) (cond (all (λ (k : KeyDemand). magnitude (k .demand)) (changes.listed r)) (cond (isKnown (stateOf p t .peers) id || ltb (length (stateOf p t .peers)) 32) 0 12) 11) 10) 2) 1)))
-      (λ a. e ∙ ap (λ (b : Bool). cond b (cond (isValid p t) 0 2) 1) a ∙ sym (ap (λ (b : Bool). cond b (cond (isValid p t) (cond (leb (r .count) 64) (cond (all (λ (k : KeyDemand). magnitude (k .demand)) (changes.listed r)) (cond (isKnown (stateOf p t .peers) id || ltb (length (stateOf p t .peers)) 32) 0 12) 11) 10) 2) 1) a))
+  report-no n e h = first-more (peersQuestions p t) asks-report n e h
 
   -- questions 1 and 2 passed: the others decide
   module _ (n : ℕ) (e : n ≡ firstNo (peersQuestions p t)) (z : n ≡ 0) where
-    pub asked : Valid p t
-    asked = asked-all p t n e z
-
-    pub report-asks : firstNo (reportQuestions p t id r) ≡ cond (leb (r .count) 64) (cond (all (λ (k : KeyDemand). magnitude (k .demand)) (changes.listed r)) (cond (isKnown (stateOf p t .peers) id || ltb (length (stateOf p t .peers)) 32) 0 12) 11) 10
-    unfolding firstNo
-    report-asks = (λ i. cond (asked .room i) (cond (asked .state i) (cond (leb (r .count) 64) (cond (all (λ (k : KeyDemand). magnitude (k .demand)) (changes.listed r)) (cond (isKnown (stateOf p t .peers) id || ltb (length (stateOf p t .peers)) 32) 0 12) 11) 10) 2) 1)
+    rest : firstNo asks-report ≡ firstNo (reportQuestions p t id r)
+    rest = first-rest (peersQuestions p t) asks-report (passed-none (peersQuestions p t) n (peers-numbered p t) e z)
 
     pub report-ten : 64 < r .count → 10 ≡ firstNo (reportQuestions p t id r)
-    report-ten h = sym (report-asks ∙ ap (λ (b : Bool). cond b (cond (all (λ (k : KeyDemand). magnitude (k .demand)) (changes.listed r)) (cond (isKnown (stateOf p t .peers) id || ltb (length (stateOf p t .peers)) 32) 0 12) 11) 10) (lt-leb (r .count) 64 h))
+    report-ten h = first-no 10 _ (lt-leb (r .count) 64 h) ∙ rest
 
-    pub report-rest : r .count ≤ 64 → (b c : Bool) → b ≡ all (λ (k : KeyDemand). magnitude (k .demand)) (changes.listed r) → c ≡ (isKnown (stateOf p t .peers) id || ltb (length (stateOf p t .peers)) 32) → cond b (cond c 0 12) 11 ≡ firstNo (reportQuestions p t id r)
-    report-rest h b c eb ec = sym (report-asks ∙ ap (λ (x : Bool). cond x (cond (all (λ (k : KeyDemand). magnitude (k .demand)) (changes.listed r)) (cond (isKnown (stateOf p t .peers) id || ltb (length (stateOf p t .peers)) 32) 0 12) 11) 10) (le-leb (r .count) 64 h) ∙ sym (λ i. cond (eb i) (cond (ec i) 0 12) 11))
+    pub report-eleven : r .count ≤ 64 → hasDemands r ≡ false → 11 ≡ firstNo (reportQuestions p t id r)
+    report-eleven h d = first-yes 10 _ (le-leb (r .count) 64 h) (first-no 11 _ d) ∙ rest
 
-    pub report-eleven : r .count ≤ 64 → (b : Bool) → b ≡ all (λ (k : KeyDemand). magnitude (k .demand)) (changes.listed r) → b ≡ false → 11 ≡ firstNo (reportQuestions p t id r)
-    report-eleven h b eb f = sym (ap (λ (x : Bool). cond x (cond (isKnown (stateOf p t .peers) id || ltb (length (stateOf p t .peers)) 32) 0 12) 11) f) ∙ report-rest h b _ eb refl
+    pub report-twelve : r .count ≤ 64 → hasDemands r ≡ true → hasPlace id (stateOf p t .peers) ≡ false → 12 ≡ firstNo (reportQuestions p t id r)
+    report-twelve h d f = first-yes 10 _ (le-leb (r .count) 64 h) (first-yes 11 _ d (first-no 12 _ f)) ∙ rest
 
-    pub report-place : r .count ≤ 64 → (b : Bool) → b ≡ all (λ (k : KeyDemand). magnitude (k .demand)) (changes.listed r) → b ≡ true → (c : Bool) → c ≡ (isKnown (stateOf p t .peers) id || ltb (length (stateOf p t .peers)) 32) → cond c 0 12 ≡ firstNo (reportQuestions p t id r)
-    report-place h b eb f c ec = sym (ap (λ (x : Bool). cond x (cond c 0 12) 11) f) ∙ report-rest h b c eb ec
-
-  or-true : (a : Bool) → (a || true) ≡ true
-  or-true true = refl
-  or-true false = refl
+    pub report-none : r .count ≤ 64 → hasDemands r ≡ true → hasPlace id (stateOf p t .peers) ≡ true → 0 ≡ firstNo (reportQuestions p t id r)
+    report-none h d f = first-yes 10 _ (le-leb (r .count) 64 h) (first-yes 11 _ d (first-yes 12 _ f first-none)) ∙ rest
 
   -- places free; none free, and the peer known or not
-  pub place-free : p .peers < 32 → true ≡ (isKnown (stateOf p t .peers) id || ltb (length (stateOf p t .peers)) 32)
-  unfolding stateOf
-  place-free h = sym (ap (λ (b : Bool). isKnown (peersIn (p .peers) (t .peers)) id || b) (lt-ltb (length (peersIn (p .peers) (t .peers))) 32 (omega (arith, length-map (records 12 (p .peers) (t .peers)) peerOf, length-records 12 (p .peers) (t .peers)))) ∙ or-true (isKnown (peersIn (p .peers) (t .peers)) id))
+  as-many : length (peersIn (p .peers) (t .peers)) ≡ p .peers
+  as-many = length-map (records 12 (p .peers) (t .peers)) peerOf ∙ length-records 12 (p .peers) (t .peers)
 
-  or-false : (a : Bool) → (a || false) ≡ a
-  or-false true = refl
-  or-false false = refl
-
-  pub place-full : 32 ≤ p .peers → (b : Bool) → b ≡ isKnown (peersIn (p .peers) (t .peers)) id → b ≡ (isKnown (stateOf p t .peers) id || ltb (length (stateOf p t .peers)) 32)
+  pub place-free : p .peers < 32 → hasPlace id (stateOf p t .peers) ≡ true
   unfolding stateOf
-  place-full h b e = e ∙ sym (ap (λ (x : Bool). isKnown (peersIn (p .peers) (t .peers)) id || x) (le-ltb (length (peersIn (p .peers) (t .peers))) 32 (omega (arith, length-map (records 12 (p .peers) (t .peers)) peerOf, length-records 12 (p .peers) (t .peers)))) ∙ or-false (isKnown (peersIn (p .peers) (t .peers)) id))
+  place-free h = or-right (isKnown (peersIn (p .peers) (t .peers)) id) _ (lt-ltb (length (peersIn (p .peers) (t .peers))) 32 (omega (arith, h, as-many)))
+
+  pub place-full : 32 ≤ p .peers → hasPlace id (stateOf p t .peers) ≡ isKnown (peersIn (p .peers) (t .peers)) id
+  unfolding stateOf
+  place-full h =
+      ap (λ (x : Bool). isKnown (peersIn (p .peers) (t .peers)) id || x) (le-ltb (length (peersIn (p .peers) (t .peers))) 32 (omega (arith, h, as-many)))
+      ∙ or-false (isKnown (peersIn (p .peers) (t .peers)) id)
 
 -- ---- the tables of a valid state
 pub record Tables (p : PeerDemand) (t : PeerTables) : Type 0 where

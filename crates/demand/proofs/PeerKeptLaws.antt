@@ -16,6 +16,7 @@ use Rattle.demand.specs.PeerRecords.{PeerRecord, SnapshotKey, ContestedK
 use Rattle.demand.specs.PeerState.{PeersState, isWord, isTaken, isKnown, hasSnapshot, validPast, validPeer, validSnapshotKey, validContested, validPeers, validSnapshotKeys, validContesteds, valid}
 use Rattle.demand.specs.declared.peer_demand.DemandReport.{DemandReport}
 use Rattle.demand.specs.PeerChanges as changes
+use Rattle.demand.specs.PeerCalls.{hasPlace}
 use Rattle.demand.specs.PeerRuns.{word}
 use Rattle.demand.proofs.PeerContestLaws.{Contesteds}
 use Rattle.demand.proofs.PeerKeyLaws.{Keys}
@@ -189,7 +190,7 @@ module _ (id : ℕ) (tp : PeerRecord) (ti : tp .id ≡ id) (ps : List PeerRecord
   unfolding hasSnapshot
   taken-still m h e = any-kept (λ (p : PeerRecord). eqb (p .id) m && isTaken p) (λ (p : PeerRecord). p .id) id (tp ∷ []) ps (λ x z q. is-id m h x (both (eqb (x .id) m) (isTaken x) z .0) q) e
 
-  pub peers-few : (isKnown ps id || ltb (length ps) 32) ≡ true → length ps ≤ 32 → length after ≤ 32
+  pub peers-few : hasPlace id ps ≡ true → length ps ≤ 32 → length after ≤ 32
   unfolding isKnown those
   peers-few e l =
       let one : length (tp ∷ []) ≡ 1 = refl in
@@ -411,7 +412,7 @@ module _ (id : ℕ) (s : PeersState) (v : ValidState s) (nc : List ContestedKey)
     contested-few = keys-few contestedWords (λ (c : ContestedKey). c .peer) peer-word id 256 nc (s .contested) (gc .shared) lc (s .peers) (v .contested-few);
   }
 
-  module _ (tp : PeerRecord) (ti : tp .id ≡ id) (tt′ : isTaken tp ≡ true) (tv : validPeer tp ≡ true) (room : (isKnown (s .peers) id || ltb (length (s .peers)) 32) ≡ true) (nk : List SnapshotKey) (gk : Keys id nk) (lk : length nk ≤ 64) where
+  module _ (tp : PeerRecord) (ti : tp .id ≡ id) (tt′ : isTaken tp ≡ true) (tv : validPeer tp ≡ true) (room : hasPlace id (s .peers) ≡ true) (nk : List SnapshotKey) (gk : Keys id nk) (lk : length nk ≤ 64) where
     id-word : (p : PeerRecord) → word 0 (peerWords p) ≡ p .id
     unfolding peerWords
     id-word p = refl

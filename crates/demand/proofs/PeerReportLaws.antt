@@ -25,7 +25,6 @@ use Rattle.demand.specs.PeerState.{isWord, isKnown, peerWith, validSnaps
 use Rattle.demand.specs.PeerChanges as changes
 use Rattle.demand.specs.PeerRuns.{word, peersIn, Replaceable, Front, Known, orNew, nextPast, verdictWith, pastAfter}
 use Rattle.demand.proofs.PeerRangeLaws.{any-map, those-at, those-gap, first-shape, word-before, firstWord, those-words}
-
 use Rattle.demand.proofs.PeerOrderLaws.{length-replaced}
 
 -- ---- a peer among the known ones

@@ -1,6 +1,6 @@
 -- A report that passes its questions leaves the peers' state valid.
 use mathlib.Core.Path.{_≡_, refl, sym, ap, _∙_, subst}
-use mathlib.Core.Bool.{Bool, true, false, cond, _&&_, _||_}
+use mathlib.Core.Bool.{Bool, true, false, cond, _&&_}
 use mathlib.Core.List.{List, [], _∷_, _++_}
 use mathlib.Core.Option.{Option, none, some}
 use Prim.Native.Nat.{ℕ, suc, _+_, _-_, _^_, _≤_, _<_, zero-le, suc-le-suc}
@@ -20,7 +20,7 @@ use Rattle.demand.specs.PeerLists.{all, first, those}
 use Rattle.demand.specs.PeerRecords.{Snapshot, PeerRecord, SnapshotKey, ContestedKey, timeWords, snapshotWords, pastWords, peerWords}
 use Rattle.demand.specs.PeerState.{PeersState, isWord, peerWith, isKnown, snapshotKeysOf, contestedKeysOf, valid, validSnapshot, validPast, validPeer, validSnapshotKey}
 use Rattle.demand.specs.PeerChanges as changes
-use Rattle.demand.specs.PeerCalls.{Widths, fitsWidths}
+use Rattle.demand.specs.PeerCalls.{hasDemands, hasPlace, Widths, fitsWidths}
 use Rattle.demand.proofs.PeerOrderLaws.{all-only}
 use Rattle.demand.proofs.PeerContestLaws.{Contesteds}
 use Rattle.demand.proofs.PeerContestedLaws.{peers-contested}
@@ -101,7 +101,7 @@ unfolding isKnown those
 known-some id ps p qs e = any-counted (λ (q : PeerRecord). eqb (q .id) id) ps ∙ ap (λ (l : List PeerRecord). ltb 0 (length l)) e ∙ lt-ltb 0 (suc (length qs)) (suc-le-suc zero-le)
 
 -- ---- the state after it
-module _ (id at : ℕ) (r : DemandReport) (s : PeersState) (v : ValidState s) (ws : Widths id at r) (count : r .count ≤ 64) (keys : all (λ (d : KeyDemand). validSnapshotKey (changes.keyOf id d)) (changes.listed r) ≡ true) (place : (isKnown (s .peers) id || ltb (length (s .peers)) 32) ≡ true) where
+module _ (id at : ℕ) (r : DemandReport) (s : PeersState) (v : ValidState s) (ws : Widths id at r) (count : r .count ≤ 64) (keys : all (λ (d : KeyDemand). validSnapshotKey (changes.keyOf id d)) (changes.listed r) ≡ true) (place : hasPlace id (s .peers) ≡ true) where
   new-keys : Keys id (changes.reportKeys id r)
   new-keys = collected-keys id (changes.listed r) [] keys (no-keys-yet id)
 
@@ -192,8 +192,8 @@ pub apply-valid :
     → Widths id at r
     → all fitsWidths (r .keys) ≡ true
     → r .count ≤ 64
-    → all (λ (d : KeyDemand). magnitude (d .demand)) (changes.listed r) ≡ true
-    → (isKnown (s .peers) id || ltb (length (s .peers)) 32) ≡ true
+    → hasDemands r ≡ true
+    → hasPlace id (s .peers) ≡ true
     → valid s ≡ true
     → valid (changes.apply jump id r at s) ≡ true
 unfolding changes.apply

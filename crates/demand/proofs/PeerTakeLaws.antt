@@ -18,7 +18,7 @@ use Rattle.demand.specs.PeerLists.{all, any, first, only, those, replace
 use Rattle.demand.specs.PeerRecords.{Snapshot, PeerRecord, SnapshotKey, ContestedKey, timeWords, snapshotWords, pastWords, peerWords, snapshotKeyWords, contestedWords, peerOf, snapshotKeyOf}
 use Rattle.demand.specs.PeerState.{PeersState, PeerTables, isWord, peerWith, isKnown, snapshotKeysOf, contestedKeysOf, peersSize, snapshotKeysSize, contestedSize, stateOf, exact, valid, validSnapshot, validPast, validPeer, validSnapshotKey, Holds, Stores}
 use Rattle.demand.specs.PeerChanges as changes
-use Rattle.demand.specs.PeerCalls.{Widths}
+use Rattle.demand.specs.PeerCalls.{hasPlace, Widths}
 use Rattle.demand.specs.PeerRuns.{word, keysIn, contestedIn, peersIn, replacedRun, Replaceable, Tabled, KeyRun, contestedAfter, Contestable, orNew, nextPast, pastAfter, Reported, Read}
 use Rattle.demand.proofs.PeerWordLaws.{peer-of-words}
 use Rattle.demand.proofs.PeerValidLaws.{all-take}
@@ -247,7 +247,7 @@ module _ (p : PeerDemand) (t : PeerTables) (id at : ℕ) (r : DemandReport) (o :
   }
 
   -- ---- taken
-  module _ (keys held old : List ℕ) (rd : Read p t id r keys held old) (place : (isKnown (s .peers) id || ltb (length (s .peers)) 32) ≡ true) where
+  module _ (keys held old : List ℕ) (rd : Read p t id r keys held old) (place : hasPlace id (s .peers) ≡ true) where
     pub op : OldPeer id (s .peers) old
     op = old-of old (rd .peer)
 

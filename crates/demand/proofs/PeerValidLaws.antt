@@ -1,7 +1,7 @@
 -- Question 2 of the whole tables is their scan, where they have room.
 use Prim.Native.Nat.{ℕ, zero, suc, _-_, _*_, _^_, _≤_, _<_}
 use mathlib.Core.Path.{_≡_, refl, sym, ap, _∙_}
-use mathlib.Core.Bool.{Bool, true, false, cond, _&&_, and-true, and-assoc}
+use mathlib.Core.Bool.{Bool, true, false, _&&_, and-true, and-assoc}
 use mathlib.Core.List.{List, [], _∷_, map}
 use native.Mathlib.Nat.{mul-le-mul-right}
 use native.Mathlib.Omega.{arith}
@@ -17,8 +17,6 @@ use Rattle.demand.specs.PeerLists.{all, any, present, those}
 use Rattle.demand.specs.PeerRecords.{PeerRecord, SnapshotKey, ContestedKey, snapshotOf, peerWords, snapshotKeyWords, contestedWords, peerOf, snapshotKeyOf, contestedOf}
 use Rattle.demand.specs.PeerState.{PeerTables, maxPeers, maxDemandKeys, maxContested, snapshotKeysOf, contestedKeysOf, isTaken, isKnown, hasSnapshot, isWord, validPeer, validSnapshotKey, validContested, validPeers, validSnapshotKeys, validContesteds, valid, haveRoom, peersSize, snapshotKeysSize, contestedSize, stateOf, exact, areExact, isValid}
 use Rattle.demand.specs.PeerScan.{firstWord, arePeerWords, areKeyWords, isNamed, areNamed, areWithin, arePeers, areKeys, isScanned, PeersReady, KeysReady}
-use Rattle.gcra.specs.Questions.{firstNo}
-use Rattle.demand.specs.PeerCalls.{peersQuestions}
 use Rattle.demand.proofs.PeerListLaws.{all-map, any-map, all-at, all-both, length-those}
 use Rattle.demand.proofs.PeerWordLaws.{words-of-exact}
 use Rattle.demand.proofs.PeerScanLaws.{PassIs, peer-words-pass, key-words-pass, contested-words-pass}
@@ -187,17 +185,3 @@ peers-ready p xs room e =
 
 pub keys-ready : (w n bound : ℕ) (xs : List ℕ) → 4 ≤ w → bound * w ≤ length xs → n ≤ bound → KeysReady w n xs
 keys-ready w n bound xs wide room few = record { wide = wide; fit = omega (arith, mul-le-mul-right w few) }
-
--- ---- the first 'no' of questions 1 and 2
-module _ (p : PeerDemand) (t : PeerTables) where
-  pub asked-room : haveRoom t ≡ false → 1 ≡ firstNo (peersQuestions p t)
-  unfolding firstNo
-  asked-room e = sym (ap (λ (b : Bool). cond b (cond (isValid p t) 0 2) 1) e)
-
-  pub asked-valid : haveRoom t ≡ true → isValid p t ≡ false → 2 ≡ firstNo (peersQuestions p t)
-  unfolding firstNo
-  asked-valid e f = sym (λ k. cond (e k) (cond (f k) 0 2) 1)
-
-  pub asked-all : haveRoom t ≡ true → isValid p t ≡ true → 0 ≡ firstNo (peersQuestions p t)
-  unfolding firstNo
-  asked-all e f = sym (λ k. cond (e k) (cond (f k) 0 2) 1)

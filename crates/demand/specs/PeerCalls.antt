@@ -29,6 +29,7 @@ use Rattle.demand.specs.declared.peer_demand.LenAnswer.{LenAnswer}
 use Rattle.demand.specs.declared.peer_demand.LenAnswer.the-variants as len-answer
 use Rattle.gcra.specs.Questions.{Question, _asks_, Answer, refused, given, answer, passes}
 use Rattle.demand.specs.PeerLists.{all}
+use Rattle.demand.specs.PeerRecords.{PeerRecord}
 use Rattle.demand.specs.PeerState.{PeersState, PeerTables, maxPeers, maxDemandKeys, isWord, isKnown, haveRoom, stateOf, isValid, Stores}
 use Rattle.demand.specs.PeerChanges as changes
 use Rattle.demand.specs.PeerReaders as readers
@@ -78,14 +79,21 @@ newQuestions t = (1 asks haveRoom t) ∷ []
 abbrev pub peersQuestions : PeerDemand → PeerTables → List Question
 peersQuestions p t = (1 asks haveRoom t) ∷ (2 asks isValid p t) ∷ []
 
--- has the report at most 64 keys? is each demand finite with a clear sign bit? is the peer known, or are fewer than 32 known?
+-- is each demand that a report lists finite with a clear sign bit? is the peer known, or are fewer than 32 known?
+abbrev pub hasDemands : DemandReport → Bool
+hasDemands r = all (λ (k : KeyDemand). magnitude (k .demand)) (changes.listed r)
+
+abbrev pub hasPlace : ℕ → List PeerRecord → Bool
+hasPlace id ps = isKnown ps id || ltb (length ps) maxPeers
+
+-- has the report at most 64 keys? and these two
 abbrev pub reportQuestions : PeerDemand → PeerTables → ℕ → DemandReport → List Question
 reportQuestions p t id r =
     (1 asks haveRoom t)
     ∷ (2 asks isValid p t)
     ∷ (10 asks leb (r .count) maxDemandKeys)
-    ∷ (11 asks all (λ (k : KeyDemand). magnitude (k .demand)) (changes.listed r))
-    ∷ (12 asks isKnown (stateOf p t .peers) id || ltb (length (stateOf p t .peers)) maxPeers)
+    ∷ (11 asks hasDemands r)
+    ∷ (12 asks hasPlace id (stateOf p t .peers))
     ∷ []
 
 -- ---- what the types of a report's arguments say

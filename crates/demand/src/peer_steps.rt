@@ -128,13 +128,7 @@ pub(crate) fn retain_contested(
     while i < c {
         let at = i * CONTESTED_WORDS;
         let stays = stays_contested(peers, n, contested[at], contested[at + 5], reading, max_age);
-        kept = keep_record(
-            contested,
-            CONTESTED_WORDS,
-            i,
-            kept,
-            stays,
-        );
+        kept = keep_record(contested, CONTESTED_WORDS, i, kept, stays);
         i += 1;
     }
     kept
@@ -277,13 +271,7 @@ pub(crate) fn retain_snapshot_keys(
     while i < k {
         let at = i * SNAPSHOT_KEY_WORDS;
         let stays = has_snapshot(peers, n, snapshot_keys[at]);
-        kept = keep_record(
-            snapshot_keys,
-            SNAPSHOT_KEY_WORDS,
-            i,
-            kept,
-            stays,
-        );
+        kept = keep_record(snapshot_keys, SNAPSHOT_KEY_WORDS, i, kept, stays);
         i += 1;
     }
     kept

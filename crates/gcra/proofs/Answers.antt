@@ -3,7 +3,7 @@ use Prim.Native.Nat.{ℕ, _<_}
 use native.Mathlib.Omega.{arith}
 use mathlib.Core.Path.{_≡_, refl, sym, ap}
 use mathlib.Core.Bool.{Bool, true, false, cond}
-use mathlib.Core.List.{List, [], _∷_}
+use mathlib.Core.List.{List, [], _∷_, _++_}
 use Rattle.float.proofs.Tests.{split}
 use Rattle.gcra.specs.Questions.{Question, _asks_, Answer, refused, given, answer, passes, changed, firstNo}
 use Rattle.gcra.proofs.Cases.{and-both}
@@ -24,6 +24,32 @@ yes n qs a e h = rw e h
 pub value : {A : Type 0} {a x : A} → x ≡ a → given x ≡ answer [] a
 unfolding answer
 value e = ap given e
+
+-- the number of the first 'no', likewise
+pub first-no : (n : ℕ) {b : Bool} (qs : List Question) → b ≡ false → n ≡ firstNo ((n asks b) ∷ qs)
+unfolding firstNo
+first-no n qs e = rw e
+
+pub first-yes : (n : ℕ) {b : Bool} (qs : List Question) {m : ℕ} → b ≡ true → m ≡ firstNo qs → m ≡ firstNo ((n asks b) ∷ qs)
+unfolding firstNo
+first-yes n qs e h = rw e h
+
+pub first-none : 0 ≡ firstNo []
+unfolding firstNo
+first-none = refl
+
+-- more questions after those asked: a 'no' stays the first, and passed ones leave the rest
+pub first-more : (qs rs : List Question) (n : ℕ) → n ≡ firstNo qs → (n ≡ 0 → ⊥) → n ≡ firstNo (qs ++ rs)
+unfolding firstNo
+first-more [] rs n e h = absurd (h e)
+first-more (q ∷ qs) rs n e h = split (q .passed)
+    (λ p. rw p (first-more qs rs n (rw p at e) h))
+    (λ p. let k : n ≡ q .number = rw p at e in rw p k)
+
+pub first-rest : (qs rs : List Question) → passes qs ≡ true → firstNo rs ≡ firstNo (qs ++ rs)
+unfolding passes firstNo
+first-rest [] rs e = refl
+first-rest (q ∷ qs) rs e = let b = and-both (q .passed) _ e in rw (b .0) (first-rest qs rs (b .1))
 
 -- ---- one question alone
 pub alone-no : {A : Type 0} (n : ℕ) {b : Bool} (a : A) → b ≡ false → refused n ≡ answer ((n asks b) ∷ []) a

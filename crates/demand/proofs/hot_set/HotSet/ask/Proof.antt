@@ -1,7 +1,8 @@
-use mathlib.Core.Path.{sym, _∙_}
-use borrow.Author.Tests.{leb-true, not-true, not-false}
+-- `HotSet::ask` meets its contract.
+use borrow.Author.Tests.{leb-true}
 use borrow.Author.Needs.{needs}
-use Rattle.demand.proofs.HotSetAnswers.{first-no, second-no, neither-no}
+use Rattle.gcra.proofs.Cases.{told-no, told-yes}
+use Rattle.gcra.proofs.Answers.{first-no, first-yes, first-none}
 use Rattle.demand.proofs.hot_set.HotSet.ask.Statement.{statement}
 use Rattle.demand.proofs.hot_set.HotSet.ask.Tie as tie
 
@@ -9,16 +10,20 @@ has-room-requires : tie.Need-has-room-requires
 has-room-requires c κs = search needs
 
 returns : tie.Need-returns
-returns c = first-no 1 2 _ _ (sym (c .before .has-room .ensures) ∙ not-true _ (c .if1 .taken))
+returns c = first-no 1 _ (told-no (c .before .has-room .ensures) (c .if1 .taken))
 
 is-valid-requires : tie.Need-is-valid-requires
-is-valid-requires c κs = leb-true _ _ (sym (c .before .has-room .ensures) ∙ not-false _ (c .if1 .left))
+is-valid-requires c κs = leb-true _ _ (told-yes (c .before .has-room .ensures) (c .if1 .left))
 
 returns-2 : tie.Need-returns-2
-returns-2 c = second-no 1 2 _ _ (sym (c .before .before .before .has-room .ensures) ∙ not-false _ (c .before .before .if1 .left)) (sym (c .before .is-valid .ensures) ∙ not-true _ (c .if2 .taken))
+returns-2 c =
+    first-yes 1 _ (told-yes (c .before .before .before .has-room .ensures) (c .before .before .if1 .left))
+    (first-no 2 _ (told-no (c .before .is-valid .ensures) (c .if2 .taken)))
 
 returns-3 : tie.Need-returns-3
-returns-3 c = neither-no 1 2 _ _ (sym (c .before .before .before .has-room .ensures) ∙ not-false _ (c .before .before .if1 .left)) (sym (c .before .is-valid .ensures) ∙ not-false _ (c .if2 .left))
+returns-3 c =
+    first-yes 1 _ (told-yes (c .before .before .before .has-room .ensures) (c .before .before .if1 .left))
+    (first-yes 2 _ (told-yes (c .before .is-valid .ensures) (c .if2 .left)) first-none)
 
 pub ask-spec : {M : Type 1} → statement M
 ask-spec = tie.close (tie.spec has-room-requires returns is-valid-requires returns-2 returns-3)

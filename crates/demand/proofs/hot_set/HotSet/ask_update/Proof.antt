@@ -1,16 +1,25 @@
-use mathlib.Core.Path.{sym, _∙_}
-use borrow.Author.Tests.{not-true, not-false}
+-- `HotSet::ask_update` meets its contract.
+use mathlib.Core.Path.{_≡_, _∙_}
+use mathlib.Core.Bool.{true}
 use borrow.Author.Needs.{needs}
-use Rattle.gcra.proofs.Answers.{passed-none}
-use Rattle.demand.proofs.HotSetAnswers.{numbered-set, update-set-no, update-demand-no, update-none}
+use Rattle.gcra.specs.Questions.{passes}
+use Rattle.gcra.proofs.Cases.{told-no, told-yes}
+use Rattle.gcra.proofs.Answers.{passed-none, first-no, first-yes, first-none, first-more, first-rest}
+use Rattle.demand.specs.HotSetCalls.{askSet}
+use Rattle.demand.proofs.HotSetAnswers.{numbered-set, asks-demand}
 use Rattle.demand.proofs.hot_set.HotSet.ask_update.Statement.{statement}
 use Rattle.demand.proofs.hot_set.HotSet.ask_update.Tie as tie
+
+asked : (e : tie.Else1) → let s = e .before .before .before in passes (askSet (s .args .self) (s .args .hot .now)) ≡ true
+asked e = let s = e .before .before .before in passed-none _ _ (numbered-set (s .args .self) (s .args .hot .now) (s .args .demand-rate)) (e .before .ask .ensures) (e .if1 .left)
 
 ask-requires : tie.Need-ask-requires
 ask-requires c κs = search needs
 
 returns : tie.Need-returns
-returns c = let s = c .before .before .before in update-set-no (s .args .self) (s .args .hot .now) (s .args .demand-rate) _ (c .before .ask .ensures) (c .if1 .taken)
+returns c =
+    let s = c .before .before .before in
+    first-more (askSet (s .args .self) (s .args .hot .now)) (asks-demand (s .args .self) (s .args .hot .now) (s .args .demand-rate)) _ (c .before .ask .ensures) (c .if1 .taken)
 
 is-magnitude-requires : tie.Need-is-magnitude-requires
 is-magnitude-requires c κs = search needs
@@ -19,13 +28,15 @@ returns-2 : tie.Need-returns-2
 returns-2 c =
     let e = c .before .before in
     let s = e .before .before .before in
-    update-demand-no (s .args .self) (s .args .hot .now) (s .args .demand-rate) (passed-none _ _ (numbered-set (s .args .self) (s .args .hot .now) (s .args .demand-rate)) (e .before .ask .ensures) (e .if1 .left)) (sym (c .before .is-magnitude .ensures) ∙ not-true _ (c .if2 .taken))
+    first-no 11 _ (told-no (c .before .is-magnitude .ensures) (c .if2 .taken))
+    ∙ first-rest (askSet (s .args .self) (s .args .hot .now)) (asks-demand (s .args .self) (s .args .hot .now) (s .args .demand-rate)) (asked e)
 
 returns-3 : tie.Need-returns-3
 returns-3 c =
     let e = c .before .before in
     let s = e .before .before .before in
-    update-none (s .args .self) (s .args .hot .now) (s .args .demand-rate) (passed-none _ _ (numbered-set (s .args .self) (s .args .hot .now) (s .args .demand-rate)) (e .before .ask .ensures) (e .if1 .left)) (sym (c .before .is-magnitude .ensures) ∙ not-false _ (c .if2 .left))
+    first-yes 11 _ (told-yes (c .before .is-magnitude .ensures) (c .if2 .left)) first-none
+    ∙ first-rest (askSet (s .args .self) (s .args .hot .now)) (asks-demand (s .args .self) (s .args .hot .now) (s .args .demand-rate)) (asked e)
 
 pub ask-update-spec : {M : Type 1} → statement M
 ask-update-spec =
