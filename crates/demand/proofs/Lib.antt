@@ -37,6 +37,7 @@ pub mod PeerHoldLaws
 pub mod PeerKeepLaws
 pub mod PeerKeptLaws
 pub mod PeerKeyLaws
+pub mod PeerKindLaws
 pub mod PeerLenLaws
 pub mod PeerListLaws
 pub mod PeerOrderLaws

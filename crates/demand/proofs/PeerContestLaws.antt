@@ -5,27 +5,27 @@ use mathlib.Core.List.{List, [], _∷_, map}
 use Prim.Native.Nat.{ℕ, zero, suc, _+_, _-_, _*_, _^_, _≤_, _<_, max}
 use native.Mathlib.Nat.{le-of-suc-le-suc, not-suc-le-zero}
 use native.Mathlib.Omega.{arith}
-use borrow.Author.Tests.{ltb-true, lt-ltb, le-ltb, eqb-true, eq-eqb}
+use borrow.Author.Tests.{ltb-true, lt-ltb, le-ltb, eqb-true}
 use lib.Dec.{ltb, eqb}
 use lib.ListN.{length, take, drop, getD, length-map, length-drop}
 use lib.Seq.{length-take-le}
 use Rattle.records.specs.declared.Found.the-variants.{At, Gap}
-use Rattle.records.specs.Records.{records, key, leads, ascending, find, findIn, splice, removeAt, removable, removed}
+use Rattle.records.specs.Records.{records, key, find, findIn, splice, removeAt, removable, removed}
 use Rattle.records.proofs.TestLaws.{both, and-intro}
 use Rattle.records.proofs.RecordLaws.{fits-intro, length-records, record-at}
 use Rattle.records.proofs.PlaceLaws.{find-at}
 use Rattle.records.proofs.EditLaws.{length-remove}
 use Rattle.records.proofs.TableLaws.{records-removed}
-use Rattle.demand.specs.PeerLists.{all, first, only, those, replaced}
+use Rattle.demand.specs.PeerLists.{all, first, those, replaced}
 use Rattle.demand.specs.PeerRecords.{flagWord, flagOf, SnapshotKey, ContestedKey, snapshotKeyWords, snapshotKeyOf, contestedWords, contestedOf}
 use Rattle.demand.specs.PeerState.{isWord, isDemand, validSnapshotKey, validContested}
 use Rattle.demand.specs.PeerChanges.{exceeds, fresh, merged, contestedWith, mergeKey, mergeKeys, oldest, withoutOldest, withoutOldests}
 use Rattle.demand.specs.PeerRuns.{word, keysIn, contestedIn, Front, Run, ContestedRun, KeyRun, OneKey}
-use Rattle.demand.proofs.PeerWordLaws.{contested-of-words}
 use Rattle.demand.proofs.PeerListLaws.{all-map, all-index, those-map}
-use Rattle.demand.proofs.PeerRangeLaws.{map-only, those-at, those-gap, replaced-words, second-order, secondWord}
+use Rattle.demand.proofs.PeerRangeLaws.{those-at, those-gap, second-order, secondWord}
 use Rattle.demand.proofs.PeerRunLaws.{run-shape, find-in, put-at}
-use Rattle.demand.proofs.PeerOrderLaws.{all-only, only-passes, asc-only, all-replaced, asc-replaced, second-before, length-replaced}
+use Rattle.demand.proofs.PeerOrderLaws.{length-replaced}
+use Rattle.demand.proofs.PeerKindLaws.{contestedKind, Contesteds, run-typed, front-in, front-run, one-typed, one-keyed, put-words, put-typed, key-typed, keyed, none-typed}
 use Rattle.demand.proofs.PeerStepLaws.{next-record, drop-end, contestedRecord}
 use Rattle.demand.proofs.PeerValidLaws.{record-length}
 use Rattle.demand.proofs.PeerDemandLaws.{exceeds-is}
@@ -74,68 +74,6 @@ module _ (id n : ℕ) (xs : List ℕ) (u : Run 6 id n xs) (key : ℕ) where
       let f : find 2 (id ∷ key ∷ []) (records 6 n xs) ≡ Gap i = sym (find-in 6 id n xs u (omega arith) key) ∙ e in
       those-map contestedOf (λ (c : ContestedKey). c .key) key (records 6 n xs)
       ∙ ap (map contestedOf) (those-gap 2 secondWord (λ (x : ℕ). id ∷ x ∷ []) (records 6 n xs) (u .ascends) (run-shape 6 id n xs u (omega arith)) (second-order id) key i f)
-
--- ---- typed runs
-pub record Contesteds (id : ℕ) (cs : List ContestedKey) : Type 0 where
-  pub shared : all (λ (c : ContestedKey). eqb (c .peer) id) cs ≡ true
-  pub ascends : ascending 2 (map contestedWords cs) ≡ true
-  pub valids : all validContested cs ≡ true
-
--- the typed records of a list of words
-pub contested-back : (cs : List ContestedKey) → map contestedOf (map contestedWords cs) ≡ cs
-contested-back [] = refl
-contested-back (c ∷ cs) = (λ i. contested-of-words c i ∷ contested-back cs i)
-
-pub shared-words : (id : ℕ) (cs : List ContestedKey) → all (λ (r : List ℕ). eqb (word 0 r) id) (map contestedWords cs) ≡ all (λ (c : ContestedKey). eqb (c .peer) id) cs
-unfolding contestedWords
-shared-words id cs = all-map contestedWords (λ (r : List ℕ). eqb (word 0 r) id) cs
-
-pub contested-typed : (id n : ℕ) (xs : List ℕ) → ContestedRun id n xs → Contesteds id (contestedIn n xs)
-contested-typed id n xs c = record {
-  shared =
-      sym (shared-words id (contestedIn n xs))
-      ∙ ap (all (λ (r : List ℕ). eqb (word 0 r) id)) (sym (c .exact))
-      ∙ c .run .shared;
-  ascends = ap (ascending 2) (sym (c .exact)) ∙ c .run .ascends;
-  valids = c .keys;
-}
-
-module _ (id m : ℕ) (cs : List ContestedKey) (xs : List ℕ) (f : Front 6 m (map contestedWords cs) xs) where
-  pub front-typed : contestedIn m xs ≡ cs
-  front-typed = ap (map contestedOf) (f .front) ∙ contested-back cs
-
-  pub contested-run : m * 6 ≤ length xs → Contesteds id cs → ContestedRun id m xs
-  contested-run fit g = record {
-    run = record {
-      fit = fit;
-      shared = ap (all (λ (r : List ℕ). eqb (word 0 r) id)) (f .front) ∙ shared-words id cs ∙ g .shared;
-      ascends = ap (ascending 2) (f .front) ∙ g .ascends;
-    };
-    exact = f .front ∙ ap (map contestedWords) (sym front-typed);
-    keys = ap (all validContested) front-typed ∙ g .valids;
-  }
-
--- the words of a replaced contested key
-pub replaced-contested : (a : ℕ) (new cs : List ContestedKey) → map contestedWords (replaced (λ (c : ContestedKey). c .key) a new cs) ≡ replaced (word 1) a (map contestedWords new) (map contestedWords cs)
-unfolding contestedWords
-replaced-contested a new cs = replaced-words (λ (c : ContestedKey). c .key) contestedWords (word 1) (λ x. refl) a new cs
-
--- one key more keeps them
-pub contesteds-put : (id a : ℕ) (new cs : List ContestedKey) → Contesteds id new → all (λ (c : ContestedKey). eqb (c .key) a) new ≡ true → Contesteds id cs → Contesteds id (replaced (λ (c : ContestedKey). c .key) a new cs)
-unfolding contestedWords
-contesteds-put id a new cs n e g = record {
-  shared = all-replaced (λ (c : ContestedKey). eqb (c .peer) id) (λ (c : ContestedKey). c .key) a new cs (n .shared) (g .shared);
-  ascends =
-      ap (ascending 2) (replaced-contested a new cs)
-      ∙ asc-replaced 2 (word 1) (λ (r : List ℕ). eqb (word 0 r) id) a (map contestedWords new) (map contestedWords cs)
-      (second-before id)
-      (shared-words id cs ∙ g .shared)
-      (shared-words id new ∙ n .shared)
-      (all-map contestedWords (λ (r : List ℕ). eqb (word 1 r) a) new ∙ e)
-      (g .ascends)
-      (n .ascends);
-  valids = all-replaced validContested (λ (c : ContestedKey). c .key) a new cs (n .valids) (g .valids);
-}
 
 -- a key of a report that may be contested
 pub record Sayable (id : ℕ) (k : SnapshotKey) : Type 0 where
@@ -226,49 +164,18 @@ module _ (id round at : ℕ) (k : SnapshotKey) (s : Sayable id k) (hr : round < 
         time = max-word (c .heardAt) at (g .time) (lt-ltb at (2 ^ 64) ha);
       }
 
-  one : (c : ContestedKey) → c .peer ≡ id → validContested c ≡ true → Contesteds id (c ∷ [])
-  unfolding all ascending leads
-  one c p v = record {
-    shared = and-intro (eqb (c .peer) id) true (eq-eqb (c .peer) id p) refl;
-    ascends = refl;
-    valids = and-intro (validContested c) true v refl;
-  }
-
-  of-key : (c : ContestedKey) → c .key ≡ k .key → all (λ (x : ContestedKey). eqb (x .key) (k .key)) (c ∷ []) ≡ true
-  unfolding all
-  of-key c e = and-intro (eqb (c .key) (k .key)) true (eq-eqb (c .key) (k .key) e) refl
-
   with-first : (cs ds : List ContestedKey) → Contesteds id cs → Contesteds id ds → all (λ (x : ContestedKey). eqb (x .key) (k .key)) ds ≡ true → Contesteds id (replaced (λ (c : ContestedKey). c .key) (k .key) (contestedWith round at k (first ds) ∷ []) cs)
   unfolding all
-  with-first cs [] g d e = contesteds-put id (k .key) (fresh round at k ∷ []) cs (one (fresh round at k) (s .peer) (contested-valid (fresh round at k) fresh-facts)) (of-key (fresh round at k) refl) g
+  with-first cs [] g d e = put-typed contestedKind id (k .key) (fresh round at k ∷ []) cs (one-typed contestedKind id (fresh round at k) (s .peer) (contested-valid (fresh round at k) fresh-facts)) (one-keyed contestedKind (k .key) (fresh round at k) refl) g
   with-first cs (c ∷ ds) g d e =
-      contesteds-put id (k .key) (merged round at k c ∷ []) cs
-      (one (merged round at k c) (eqb-true (c .peer) id (both (eqb (c .peer) id) _ (d .shared) .0)) (contested-valid (merged round at k c) (merged-facts c (both (validContested c) _ (d .valids) .0))))
-      (of-key (merged round at k c) (eqb-true (c .key) (k .key) (both (eqb (c .key) (k .key)) _ e .0)))
+      put-typed contestedKind id (k .key) (merged round at k c ∷ []) cs
+      (one-typed contestedKind id (merged round at k c) (eqb-true (c .peer) id (both (eqb (c .peer) id) _ (d .shared) .0)) (contested-valid (merged round at k c) (merged-facts c (both (validContested c) _ (d .valids) .0))))
+      (one-keyed contestedKind (k .key) (merged round at k c) (eqb-true (c .key) (k .key) (both (eqb (c .key) (k .key)) _ e .0)))
       g
-
--- the words of those with a key
-contested-only : (a : ℕ) (cs : List ContestedKey) → map contestedWords (only (λ (x : ContestedKey). eqb (x .key) a) cs) ≡ only (λ (r : List ℕ). eqb (word 1 r) a) (map contestedWords cs)
-unfolding contestedWords
-contested-only a cs = map-only contestedWords (λ (r : List ℕ). eqb (word 1 r) a) cs
-
--- those with a key are some of them
-pub contesteds-those : (id a : ℕ) (cs : List ContestedKey) → Contesteds id cs → Contesteds id (those (λ (c : ContestedKey). c .key) a cs) × (all (λ (x : ContestedKey). eqb (x .key) a) (those (λ (c : ContestedKey). c .key) a cs) ≡ true)
-unfolding those
-contesteds-those id a cs g =
-    let t : ContestedKey → Bool = λ x. eqb (x .key) a in (
-      record {
-        shared = all-only (λ (c : ContestedKey). eqb (c .peer) id) t cs (g .shared);
-        ascends = ap (ascending 2) (contested-only a cs) ∙ asc-only 2 (λ (r : List ℕ). eqb (word 1 r) a) (map contestedWords cs) (g .ascends);
-        valids = all-only validContested t cs (g .valids);
-      },
-      only-passes t cs,
-    )
 
 pub merge-keeps : (id round at : ℕ) (k : SnapshotKey) (cs : List ContestedKey) → Sayable id k → round < 2 ^ 16 → at < 2 ^ 64 → Contesteds id cs → Contesteds id (mergeKey round at k cs)
 merge-keeps id round at k cs s hr ha g =
-    let t = contesteds-those id (k .key) cs g in
-    with-first id round at k s hr ha cs (those (λ (c : ContestedKey). c .key) (k .key) cs) g (t .0) (t .1)
+    with-first id round at k s hr ha cs (those (λ (c : ContestedKey). c .key) (k .key) cs) g (key-typed contestedKind id (k .key) cs g) (keyed contestedKind (k .key) cs)
 
 pub merge-length : (round at : ℕ) (k : SnapshotKey) (cs : List ContestedKey) → length (mergeKey round at k cs) ≤ length cs + 1
 merge-length round at k cs =
@@ -286,7 +193,7 @@ unfolding snapshotKeyOf
 merge-key-front n m round at xs ys k ws exact e f =
     let x : ContestedKey = contestedWith round at (snapshotKeyOf k) (first (those (λ (c : ContestedKey). c .key) (word 1 k) (contestedIn n xs))) in
     subst (λ (rs : List (List ℕ)). Front 6 m rs ys)
-    ((λ i. replaced (word 1) (word 1 k) (e i ∷ []) (exact i)) ∙ sym (replaced-contested (word 1 k) (x ∷ []) (contestedIn n xs)))
+    ((λ i. replaced (word 1) (word 1 k) (e i ∷ []) (exact i)) ∙ sym (put-words contestedKind (word 1 k) (x ∷ []) (contestedIn n xs)))
     f
 
 -- ---- the keys of a report, one after the other
@@ -327,12 +234,12 @@ module _ (id round at m m′ : ℕ) (xs ys k : List ℕ) (c : ContestedRun id m 
   merge-more = omega (arith, f .count, length-map (mergeKey round at (snapshotKeyOf k) (contestedIn m xs)) contestedWords, merge-length round at (snapshotKeyOf k) (contestedIn m xs), length-map (records 6 m xs) contestedOf, length-records 6 m xs)
 
   pub merge-run : ContestedRun id m′ ys
-  merge-run = contested-run id m′ (mergeKey round at (snapshotKeyOf k) (contestedIn m xs)) ys f
+  merge-run = front-run contestedKind id m′ (mergeKey round at (snapshotKeyOf k) (contestedIn m xs)) ys f
       (omega (arith, merge-more, same-length, room))
-      (merge-keeps id round at (snapshotKeyOf k) (contestedIn m xs) s hr ha (contested-typed id m xs c))
+      (merge-keeps id round at (snapshotKeyOf k) (contestedIn m xs) s hr ha (run-typed contestedKind id m xs c))
 
   pub merge-in : contestedIn m′ ys ≡ mergeKey round at (snapshotKeyOf k) (contestedIn m xs)
-  merge-in = front-typed id m′ (mergeKey round at (snapshotKeyOf k) (contestedIn m xs)) ys f
+  merge-in = front-in contestedKind id m′ (mergeKey round at (snapshotKeyOf k) (contestedIn m xs)) ys f
 
   pub merge-next : (n i : ℕ) (keys : List ℕ) → i < n → k ≡ take 4 (drop (i * 4) keys) → mergeKeys round at (drop (i + 1) (keysIn n keys)) (contestedIn m′ ys) ≡ mergeKeys round at (drop i (keysIn n keys)) (contestedIn m xs)
   unfolding mergeKeys
@@ -360,9 +267,9 @@ without-is zero xs h = absurd (not-suc-le-zero h)
 without-is (suc m) xs h = refl
 
 pub without-keeps : (id : ℕ) (cs : List ContestedKey) → Contesteds id cs → Contesteds id (withoutOldest cs)
-unfolding all ascending
+unfolding all
 without-keeps id [] g = g
-without-keeps id (c ∷ cs) g = contesteds-put id (oldest c cs) [] (c ∷ cs) (record { shared = refl; ascends = refl; valids = refl }) refl g
+without-keeps id (c ∷ cs) g = put-typed contestedKind id (oldest c cs) [] (c ∷ cs) (none-typed contestedKind id) refl g
 
 module _ (id m i : ℕ) (xs ys : List ℕ) (c : ContestedRun id m xs) (h : i < m) (is-oldest : contestedRecord i xs .key ≡ oldest (contestedOf (take 6 xs)) (drop 1 (contestedIn m xs))) (e : ys ≡ removed 6 m i xs) where
   key-here : word 1 (getD (records 6 m xs) i []) ≡ contestedRecord i xs .key
@@ -382,7 +289,7 @@ module _ (id m i : ℕ) (xs ys : List ℕ) (c : ContestedRun id m xs) (h : i < m
       let p = put-at 6 id m xs (c .run) (omega arith) (contestedRecord i xs .key) i found in
       let q : map contestedWords (withoutOldest (contestedIn m xs)) ≡ removeAt i (records 6 m xs) =
       ap (map contestedWords) w
-      ∙ replaced-contested (contestedRecord i xs .key) [] (contestedIn m xs)
+      ∙ put-words contestedKind (contestedRecord i xs .key) [] (contestedIn m xs)
       ∙ ap (replaced (word 1) (contestedRecord i xs .key) []) (sym (c .exact))
       ∙ removal (p .1 []) in
       record {
@@ -397,15 +304,15 @@ module _ (id m i : ℕ) (xs ys : List ℕ) (c : ContestedRun id m xs) (h : i < m
       can = can-remove (length xs) m i h (c .run .fit)
 
   pub trim-run : length ys ≡ length xs → ContestedRun id (m - 1) ys
-  trim-run l = contested-run id (m - 1) (withoutOldest (contestedIn m xs)) ys trim-front
+  trim-run l = front-run contestedKind id (m - 1) (withoutOldest (contestedIn m xs)) ys trim-front
       (omega (arith, l, c .run .fit))
-      (without-keeps id (contestedIn m xs) (contested-typed id m xs c))
+      (without-keeps id (contestedIn m xs) (run-typed contestedKind id m xs c))
 
   pub trim-next : 256 < m → withoutOldests (m - 1 - 256) (contestedIn (m - 1) ys) ≡ withoutOldests (m - 256) (contestedIn m xs)
   unfolding withoutOldests
   trim-next g =
       let k : m - 256 ≡ suc (m - 1 - 256) = omega arith in
-      ap (withoutOldests (m - 1 - 256)) (front-typed id (m - 1) (withoutOldest (contestedIn m xs)) ys trim-front)
+      ap (withoutOldests (m - 1 - 256)) (front-in contestedKind id (m - 1) (withoutOldest (contestedIn m xs)) ys trim-front)
       ∙ sym (ap (λ (n : ℕ). withoutOldests n (contestedIn m xs)) k)
 
 pub trim-end : (m : ℕ) (cs : List ContestedKey) → m ≤ 256 → withoutOldests (m - 256) cs ≡ cs

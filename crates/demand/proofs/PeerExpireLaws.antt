@@ -20,9 +20,10 @@ use Rattle.demand.specs.PeerRecords.{PeerRecord, SnapshotKey, ContestedK
 use Rattle.demand.specs.PeerState.{PeersState, PeerTables, peersSize, snapshotKeysSize, contestedSize, exact, stateOf, isTaken, isHeld, isKnown, hasSnapshot, Holds, Stores}
 use Rattle.demand.specs.PeerChanges.{holdEnded, notEnded, expireHolds, expireAge, expire, agePeer, isLeft, isFresh, isFreshSnapshot, isHeldPeer, freshContested, freshPeers}
 use Rattle.demand.specs.PeerSteps.{inOrder, staysContested, staysPeer}
-use Rattle.demand.proofs.PeerWordLaws.{words-of-exact, contested-of-words, peer-of-words}
+use Rattle.demand.proofs.PeerWordLaws.{words-of-exact, peer-of-words}
 use Rattle.demand.proofs.PeerRangeLaws.{map-self, only-yes, only-no, only-same, only-only, map-only, any-map, any-only}
 use Rattle.demand.proofs.PeerOrderLaws.{length-only}
+use Rattle.demand.proofs.PeerKindLaws.{contestedKind, all-back}
 use Rattle.demand.proofs.PeerTableLaws.{in-order-says, in-order-intro, holds-more}
 use Rattle.demand.proofs.PeerStoreLaws.{Sound, Tables, map-map}
 
@@ -122,10 +123,6 @@ short-only q (p ∷ ps) s = split (q p)
 peers-back : (ps : List PeerRecord) → Short ps → map peerOf (map peerWords ps) ≡ ps
 peers-back [] s = refl
 peers-back (p ∷ ps) s = (λ k. peer-of-words p (s .0) k ∷ peers-back ps (s .1) k)
-
-contested-back : (cs : List ContestedKey) → map contestedOf (map contestedWords cs) ≡ cs
-contested-back [] = refl
-contested-back (c ∷ cs) = (λ k. contested-of-words c k ∷ contested-back cs k)
 
 -- peers kept by their words
 peers-only : (q : PeerRecord → Bool) (ps : List PeerRecord) → Short ps → only (λ x. q (peerOf x)) (map peerWords ps) ≡ map peerWords (only q ps)
@@ -233,7 +230,7 @@ module _ (p : PeerDemand) (t : PeerTables) (o : Tables p t) (at age : ℕ) where
     contested-stored = holds-only contestedWords contestedOf 6 2 contestedSize (p .contested) (t .contested) (o .contested) (λ (x : ContestedKey). staysContested at age (s .peers) (x .peer) (x .heardAt)) c cs h
 
     pub contested-read : map contestedOf (records 6 c cs) ≡ leftContested at age s
-    contested-read = ap (map contestedOf) (contested-stored .front) ∙ contested-back (leftContested at age s)
+    contested-read = ap (map contestedOf) (contested-stored .front) ∙ all-back contestedKind (leftContested at age s)
 
     pub contested-order : inOrder 6 2 c cs ≡ true
     contested-order = only-in-order 6 2 (p .contested) c (λ x. staysContested at age (s .peers) (contestedOf x .peer) (contestedOf x .heardAt)) (t .contested) cs (o .contested .order) h

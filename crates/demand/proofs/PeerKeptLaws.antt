@@ -18,8 +18,7 @@ use Rattle.demand.specs.declared.peer_demand.DemandReport.{DemandReport}
 use Rattle.demand.specs.PeerChanges as changes
 use Rattle.demand.specs.PeerCalls.{hasPlace}
 use Rattle.demand.specs.PeerRuns.{word}
-use Rattle.demand.proofs.PeerContestLaws.{Contesteds}
-use Rattle.demand.proofs.PeerKeyLaws.{Keys}
+use Rattle.demand.proofs.PeerKindLaws.{Keys, Contesteds}
 use Rattle.demand.proofs.PeerListLaws.{all-map}
 use Rattle.demand.proofs.PeerScanLaws.{eqb-turn}
 use Rattle.demand.proofs.PeerRangeLaws.{only-yes, only-no, only-append, only-same, replaced-words, any-counted}

@@ -10,7 +10,6 @@ use lib.Dec.{ltb, eqb}
 use lib.Ieee.{binary32, fits}
 use lib.ListN.{length, length-take, take}
 use Rattle.float.specs.Magnitude.{magnitude}
-use Rattle.records.specs.Records.{ascending}
 use Rattle.records.proofs.TestLaws.{split, both, and-intro}
 use Rattle.demand.specs.declared.peer_demand.KeyDemand.{KeyDemand}
 use Rattle.demand.specs.declared.peer_demand.DemandReport.{DemandReport}
@@ -22,10 +21,9 @@ use Rattle.demand.specs.PeerState.{PeersState, isWord, peerWith, isKnown
 use Rattle.demand.specs.PeerChanges as changes
 use Rattle.demand.specs.PeerCalls.{hasDemands, hasPlace, Widths, fitsWidths}
 use Rattle.demand.proofs.PeerOrderLaws.{all-only}
-use Rattle.demand.proofs.PeerContestLaws.{Contesteds}
-use Rattle.demand.proofs.PeerContestedLaws.{peers-contested}
+use Rattle.demand.proofs.PeerKindLaws.{snapshotKind, contestedKind, Keys, Contesteds, none-typed, peer-typed}
 use Rattle.demand.proofs.PeerRangeLaws.{any-counted}
-use Rattle.demand.proofs.PeerKeyLaws.{put-keeps, put-length, Keys, peers-keys, key-valid}
+use Rattle.demand.proofs.PeerKeyLaws.{put-keeps, put-length, key-valid}
 use Rattle.demand.proofs.PeerKeptLaws.{ValidState, valid-says, valid-intro, contested-kept, report-kept, taken-valid}
 use Rattle.demand.proofs.PeerValidLaws.{all-take}
 use Rattle.demand.proofs.PeerTakeLaws.{few-of-peer, contest-keeps, contest-few, next-valid}
@@ -44,10 +42,6 @@ collected-length id [] ks = omega arith
 collected-length id (d ∷ ds) ks =
     let e : length (d ∷ ds) ≡ suc (length ds) = refl in
     omega (arith, e, collected-length id ds (changes.putKey (changes.keyOf id d) ks), put-length (changes.keyOf id d) ks)
-
-no-keys-yet : (id : ℕ) → Keys id []
-unfolding all ascending
-no-keys-yet id = record { shared = refl; ascends = refl; valids = refl }
 
 -- ---- what a verdict says
 Fit : List PeerRecord → ℕ → changes.Verdict → Type 0
@@ -103,7 +97,7 @@ known-some id ps p qs e = any-counted (λ (q : PeerRecord). eqb (q .id) id) ps �
 -- ---- the state after it
 module _ (id at : ℕ) (r : DemandReport) (s : PeersState) (v : ValidState s) (ws : Widths id at r) (count : r .count ≤ 64) (keys : all (λ (d : KeyDemand). validSnapshotKey (changes.keyOf id d)) (changes.listed r) ≡ true) (place : hasPlace id (s .peers) ≡ true) where
   new-keys : Keys id (changes.reportKeys id r)
-  new-keys = collected-keys id (changes.listed r) [] keys (no-keys-yet id)
+  new-keys = collected-keys id (changes.listed r) [] keys (none-typed snapshotKind id)
 
   new-few : length (changes.reportKeys id r) ≤ 64
   new-few =
@@ -114,13 +108,13 @@ module _ (id at : ℕ) (r : DemandReport) (s : PeersState) (v : ValidState s) (w
   held = contestedKeysOf id (s .contested)
 
   held-run : Contesteds id held
-  held-run = peers-contested id (s .contested) (v .contested) (v .contested-ascend)
+  held-run = peer-typed contestedKind id (s .contested) (v .contested) (v .contested-ascend)
 
   held-few : length held ≤ 256
   held-few = few-of-peer (λ (c : ContestedKey). c .peer) 256 id (s .peers) (s .contested) (v .contested-few) (v .contested-known)
 
   old-keys : Keys id (snapshotKeysOf id (s .snapshotKeys))
-  old-keys = peers-keys id (s .snapshotKeys) (v .keys) (v .keys-ascend)
+  old-keys = peer-typed snapshotKind id (s .snapshotKeys) (v .keys) (v .keys-ascend)
 
   firsts : all validPeer (those (λ (p : PeerRecord). p .id) id (s .peers)) ≡ true
   unfolding those

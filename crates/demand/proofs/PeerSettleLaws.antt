@@ -23,7 +23,7 @@ use Rattle.demand.specs.PeerRuns.{word, keysIn, contestedIn, peersIn, Re
 use Rattle.demand.proofs.PeerOrderLaws.{all-imply, length-replaced}
 use Rattle.demand.proofs.PeerRunLaws.{records-take}
 use Rattle.demand.proofs.PeerRangeLaws.{any-counted}
-use Rattle.demand.proofs.PeerKeyLaws.{Keys, keys-typed, keys-in, keys-run, peers-keys, those-keys}
+use Rattle.demand.proofs.PeerKindLaws.{snapshotKind, Keys, run-typed, front-in, front-run, peer-typed, those-peer}
 use Rattle.demand.proofs.PeerKeptLaws.{taken-known}
 use Rattle.demand.proofs.PeerTakeLaws.{OldPeer, few-of-peer, snapshot-is, past-is}
 use Rattle.demand.proofs.PeerApplyLaws.{Tables, keys-fit, keys-asc, holds-same}
@@ -45,10 +45,10 @@ reported-lent id m r keys u e few =
     let f : Front 4 (length (take (m * 4) keys) / 4) (map snapshotKeyWords (changes.reportKeys id r)) (take (m * 4) keys) =
     front-lent 4 m (map snapshotKeyWords (changes.reportKeys id r)) keys (omega arith) (u .run .fit) (record { count = sym (length-records 4 m keys) ∙ ap length (u .exact ∙ ap (map snapshotKeyWords) e); front = u .exact ∙ ap (map snapshotKeyWords) e }) in
     record {
-      run = keys-run id _ (changes.reportKeys id r) (take (m * 4) keys) f (omega (arith, l)) (subst (Keys id) e (keys-typed id m keys u));
+      run = front-run snapshotKind id _ (changes.reportKeys id r) (take (m * 4) keys) f (omega (arith, l)) (subst (Keys id) e (run-typed snapshotKind id m keys u));
       few = omega (arith, l);
       whole = ap (λ (z : ℕ). z % 4) l ∙ mul-mod-left m 4;
-      are = keys-in id _ (changes.reportKeys id r) (take (m * 4) keys) f;
+      are = front-in snapshotKind id _ (changes.reportKeys id r) (take (m * 4) keys) f;
     }
 
 -- ---- the same keys, by their words
@@ -91,7 +91,7 @@ module _ (p : PeerDemand) (t : PeerTables) (id : ℕ) (r : DemandReport) (o : Ta
 
   snapshot-words : those (word 0) id (records 4 (p .«snapshot_keys») (t .snapshotKeys)) ≡ map snapshotKeyWords (snapshotKeysOf id (s .snapshotKeys))
   unfolding stateOf
-  snapshot-words = ap (those (word 0) id) (o .keys-exact) ∙ sym (those-keys id (keysIn (p .«snapshot_keys») (t .snapshotKeys)))
+  snapshot-words = ap (those (word 0) id) (o .keys-exact) ∙ sym (those-peer snapshotKind id (keysIn (p .«snapshot_keys») (t .snapshotKeys)))
 
   words-few : length (those (word 0) id (records 4 (p .«snapshot_keys») (t .snapshotKeys))) ≤ 64
   words-few = omega (arith, ap length snapshot-words, length-map (snapshotKeysOf id (s .snapshotKeys)) snapshotKeyWords, snapshot-few)
@@ -124,7 +124,7 @@ module _ (p : PeerDemand) (t : PeerTables) (id : ℕ) (r : DemandReport) (o : Ta
     held-length = sym (length-take-le (m * 4) held (omega (arith, held-few, long)))
 
     held-run : KeyRun id (length (take (m * 4) held) / 4) (take (m * 4) held)
-    held-run = keys-run id _ (snapshotKeysOf id (s .snapshotKeys)) (take (m * 4) held) held-front (fits-div (length (take (m * 4) held))) (peers-keys id (s .snapshotKeys) (o .valids .keys) (o .valids .keys-ascend))
+    held-run = front-run snapshotKind id _ (snapshotKeysOf id (s .snapshotKeys)) (take (m * 4) held) held-front (fits-div (length (take (m * 4) held))) (peer-typed snapshotKind id (s .snapshotKeys) (o .valids .keys) (o .valids .keys-ascend))
       where
         fits-div : (n : ℕ) → n / 4 * 4 ≤ n
         fits-div n = omega arith
@@ -134,7 +134,7 @@ module _ (p : PeerDemand) (t : PeerTables) (id : ℕ) (r : DemandReport) (o : Ta
       reported = rp;
       snapshot = held-run;
       few = omega (arith, held-length, held-few);
-      are = keys-in id _ (snapshotKeysOf id (s .snapshotKeys)) (take (m * 4) held) held-front;
+      are = front-in snapshotKind id _ (snapshotKeysOf id (s .snapshotKeys)) (take (m * 4) held) held-front;
       peer = e;
     }
 

@@ -24,11 +24,10 @@ use Rattle.demand.proofs.PeerWordLaws.{peer-of-words}
 use Rattle.demand.proofs.PeerValidLaws.{all-take}
 use Rattle.demand.proofs.PeerOrderLaws.{all-only, all-imply, length-replaced}
 use Rattle.demand.proofs.PeerRangeLaws.{replaced-words}
-use Rattle.demand.proofs.PeerContestLaws.{Contesteds, Sayable, merge-keeps, without-keeps}
-use Rattle.demand.proofs.PeerContestedLaws.{peers-contested}
+use Rattle.demand.proofs.PeerContestLaws.{Sayable, merge-keeps, without-keeps}
 use Rattle.demand.proofs.PeerRangeLaws.{any-counted}
 use Rattle.demand.proofs.PeerReportLaws.{PeerFacts, snapshot-none, snapshot-some, no-peer-valid}
-use Rattle.demand.proofs.PeerKeyLaws.{Keys, keys-typed, with-keys}
+use Rattle.demand.proofs.PeerKindLaws.{snapshotKind, contestedKind, Keys, Contesteds, run-typed, peer-typed, with-peer}
 use Rattle.demand.proofs.PeerKeptLaws.{or-right, ValidState, few-keys, few-contested, contested-kept, report-kept, taken-valid, only-nothing}
 use Rattle.demand.proofs.PeerApplyLaws.{Tables, known-table, peers-fit, keys-fit, contested-fit, keys-asc, contested-asc, holds-of, holds-same, wide-map, peer-long, key-long, contested-long}
 
@@ -201,7 +200,7 @@ after-valid r old f =
 
 -- ---- the keys of a report, typed
 pub reported-keys : (id : ℕ) (r : DemandReport) (keys : List ℕ) → Reported id r keys → Keys id (changes.reportKeys id r)
-reported-keys id r keys e = subst (Keys id) (e .are) (keys-typed id (length keys / 4) keys (e .run))
+reported-keys id r keys e = subst (Keys id) (e .are) (run-typed snapshotKind id (length keys / 4) keys (e .run))
 
 pub reported-few : (id : ℕ) (r : DemandReport) (keys : List ℕ) → Reported id r keys → length (changes.reportKeys id r) ≤ 64
 reported-few id r keys e =
@@ -223,7 +222,7 @@ module _ (p : PeerDemand) (t : PeerTables) (id at : ℕ) (r : DemandReport) (o :
   s = stateOf p t
 
   pub contested-run : Contesteds id (contestedKeysOf id (s .contested))
-  contested-run = peers-contested id (s .contested) (o .valids .contested) (o .valids .contested-ascend)
+  contested-run = peer-typed contestedKind id (s .contested) (o .valids .contested) (o .valids .contested-ascend)
 
   pub contested-few : length (contestedKeysOf id (s .contested)) ≤ 256
   contested-few = few-of-peer (λ (c : ContestedKey). c .peer) 256 id (s .peers) (s .contested) (o .valids .contested-few) (o .valids .contested-known)
@@ -257,7 +256,7 @@ module _ (p : PeerDemand) (t : PeerTables) (id at : ℕ) (r : DemandReport) (o :
         place (changes.reportKeys id r) (reported-keys id r keys (rd .reported)) (reported-few id r keys (rd .reported))
 
     contested-held : Contesteds id (changes.contest (word 5 old) (word 6 old) (keysIn (length held / 4) held) (contestedKeysOf id (s .contested)))
-    contested-held = contest-keeps id (word 5 old) (word 6 old) (keysIn (length held / 4) held) (contestedKeysOf id (s .contested)) (keys-typed id (length held / 4) held (rd .snapshot)) (op .round) (op .time) contested-run
+    contested-held = contest-keeps id (word 5 old) (word 6 old) (keysIn (length held / 4) held) (contestedKeysOf id (s .contested)) (run-typed snapshotKind id (length held / 4) held (rd .snapshot)) (op .round) (op .time) contested-run
 
     pub take-contestable : Contestable (p .contested) id held (word 5 old) (word 6 old) (t .contested)
     take-contestable = contestable held (word 5 old) (word 6 old) (rd .snapshot) (rd .few) (op .round) _ _ (after _ contested-held (contest-few (word 5 old) (word 6 old) (keysIn (length held / 4) held) (contestedKeysOf id (s .contested))))
@@ -269,7 +268,7 @@ module _ (p : PeerDemand) (t : PeerTables) (id at : ℕ) (r : DemandReport) (o :
     unfolding stateOf
     keys-words =
         (λ i. replaced (word 0) id ((rd .reported .run .exact ∙ ap (map snapshotKeyWords) (rd .reported .are)) i) (o .keys-exact i))
-        ∙ sym (with-keys id (changes.reportKeys id r) (keysIn (p .«snapshot_keys») (t .snapshotKeys)))
+        ∙ sym (with-peer snapshotKind id (changes.reportKeys id r) (keysIn (p .«snapshot_keys») (t .snapshotKeys)))
 
     keys-few : length (map snapshotKeyWords (changes.withSnapshotKeys id (changes.reportKeys id r) (s .snapshotKeys))) ≤ 2048
     keys-few = omega (arith, length-map (changes.withSnapshotKeys id (changes.reportKeys id r) (s .snapshotKeys)) snapshotKeyWords, few-keys _ any-after)
@@ -351,7 +350,7 @@ module _ (p : PeerDemand) (t : PeerTables) (id at : ℕ) (r : DemandReport) (o :
   module _ (keys : List ℕ) (rp : Reported id r keys) (known : isKnown (s .peers) id ≡ true) where
     contested-after : ValidState (record { peers = s .peers; snapshotKeys = s .snapshotKeys; contested = changes.withContested id (changes.contest (r .round) at (keysIn (length keys / 4) keys) (contestedKeysOf id (s .contested))) (s .contested) })
     contested-after = contested-kept id s (o .valids) _
-        (contest-keeps id (r .round) at (keysIn (length keys / 4) keys) (contestedKeysOf id (s .contested)) (keys-typed id (length keys / 4) keys (rp .run)) (bs .round) (bs .time) contested-run)
+        (contest-keeps id (r .round) at (keysIn (length keys / 4) keys) (contestedKeysOf id (s .contested)) (run-typed snapshotKind id (length keys / 4) keys (rp .run)) (bs .round) (bs .time) contested-run)
         (contest-few (r .round) at (keysIn (length keys / 4) keys) (contestedKeysOf id (s .contested))) known
 
     pub contest-contestable : Contestable (p .contested) id keys (r .round) at (t .contested)

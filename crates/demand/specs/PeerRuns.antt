@@ -1,7 +1,7 @@
 -- The records that share a first word, in a table or by themselves, as the functions on a peer's keys take and leave them. Definitions only.
 use Prim.Native.Nat.{ℕ, _*_, _/_, _%_, _^_, _≤_, _<_}
 use mathlib.Core.Path.{_≡_}
-use mathlib.Core.Bool.{true, cond}
+use mathlib.Core.Bool.{Bool, true, cond}
 use mathlib.Core.List.{List, [], _∷_, map}
 use mathlib.Core.Option.{Option, none, some}
 use lib.Dec.{eqb}
@@ -63,17 +63,32 @@ pub record Run (w id n : ℕ) (xs : List ℕ) : Type 0 where
   pub shared : all (λ (r : List ℕ). eqb (word 0 r) id) (records w n xs) ≡ true
   pub ascends : ascending 2 (records w n xs) ≡ true
 
--- ---- contested keys of one peer
+-- ---- keys of one peer
 
-pub record ContestedRun (id n : ℕ) (xs : List ℕ) : Type 0 where
-  pub run : Run 6 id n xs
-  pub exact : records 6 n xs ≡ map contestedWords (contestedIn n xs)
-  pub keys : all validContested (contestedIn n xs) ≡ true
+-- a kind of keys: how many words they are, the words, what words stand for, and which keys are valid
+pub record Form (A : Type 0) : Type 0 where
+  pub width : ℕ
+  pub words : A → List ℕ
+  pub of : List ℕ → A
+  pub isValid : A → Bool
 
-pub record KeyRun (id n : ℕ) (xs : List ℕ) : Type 0 where
-  pub run : Run 4 id n xs
-  pub exact : records 4 n xs ≡ map snapshotKeyWords (keysIn n xs)
-  pub keys : all validSnapshotKey (keysIn n xs) ≡ true
+abbrev pub snapshotForm : Form SnapshotKey
+snapshotForm = record { width = 4; words = snapshotKeyWords; of = snapshotKeyOf; isValid = validSnapshotKey }
+
+abbrev pub contestedForm : Form ContestedKey
+contestedForm = record { width = 6; words = contestedWords; of = contestedOf; isValid = validContested }
+
+-- n valid keys of one peer, in words that are exactly theirs
+pub record RunOf {A : Type 0} (f : Form A) (id n : ℕ) (xs : List ℕ) : Type 0 where
+  pub run : Run (f .width) id n xs
+  pub exact : records (f .width) n xs ≡ map (f .words) (map (f .of) (records (f .width) n xs))
+  pub keys : all (f .isValid) (map (f .of) (records (f .width) n xs)) ≡ true
+
+abbrev pub KeyRun : (id n : ℕ) (xs : List ℕ) → Type 0
+KeyRun = RunOf snapshotForm
+
+abbrev pub ContestedRun : (id n : ℕ) (xs : List ℕ) → Type 0
+ContestedRun = RunOf contestedForm
 
 -- the words of one valid key
 pub record OneKey (ws : List ℕ) : Type 0 where
