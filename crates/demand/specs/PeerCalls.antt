@@ -30,7 +30,7 @@ use Rattle.demand.specs.declared.peer_demand.LenAnswer.the-variants as l
 use Rattle.gcra.specs.Questions.{Question, _asks_, Answer, refused, given, answer, passes}
 use Rattle.demand.specs.PeerLists.{all}
 use Rattle.demand.specs.PeerRecords.{PeerRecord}
-use Rattle.demand.specs.PeerState.{PeersState, PeerTables, maxPeers, maxDemandKeys, isWord, isKnown, haveRoom, stateOf, isValid, Stores}
+use Rattle.demand.specs.PeerState.{PeersState, PeerTables, maxPeers, maxDemandKeys, isWord, isKnown, haveRoom, stateOf, isValid, Becomes}
 use Rattle.demand.specs.PeerChanges as changes
 use Rattle.demand.specs.PeerReaders as readers
 
@@ -122,7 +122,7 @@ pub record Unchanged (p p′ : PeerDemand) (t t′ : PeerTables) : Type 0 where
 pub record Changes (qs : List Question) (change : PeersState → PeersState) (p : PeerDemand) (t : PeerTables) (r : PeersChanged) (t′ : PeerTables) : Type 0 where
   pub answered : changeAnswer (r .answer) ≡ answer qs tt
   pub kept : passes qs ≡ false → Unchanged p (r .peers) t t′
-  pub stored : passes qs ≡ true → Stores (change (stateOf p t)) (r .peers) t t′
+  pub stored : passes qs ≡ true → Becomes change p t (r .peers) t′
 
 abbrev pub Applies : PeerDemand → PeerTables → ℕ → DemandReport → ℕ → PeersChanged → PeerTables → Type 0
 Applies p t id report at r t′ =

@@ -13,7 +13,7 @@ use Rattle.demand.specs.declared.peer_demand.Verdict.the-variants as ver
 use Rattle.demand.specs.PeerLists.{all, replaced}
 use Rattle.demand.specs.PeerRecords.{Snapshot, PeerRecord, SnapshotKey, ContestedKey, peerWords, snapshotKeyWords, contestedWords, peerOf, snapshotKeyOf, contestedOf}
 use Rattle.gcra.specs.Questions.{firstNo}
-use Rattle.demand.specs.PeerState.{PeerTables, stateOf, contestedKeysOf, peerWith, snapshotKeysOf, validPeer, validSnapshotKey, validContested}
+use Rattle.demand.specs.PeerState.{PeersState, PeerTables, stateOf, contestedKeysOf, peerWith, snapshotKeysOf, validPeer, validSnapshotKey, validContested}
 use Rattle.demand.specs.PeerCalls.{reportQuestions}
 use Rattle.demand.specs.declared.peer_demand.PeerDemand.{PeerDemand}
 use Rattle.demand.specs.PeerChanges as changes
@@ -163,3 +163,7 @@ pub record Known (n : ℕ) (xs : List ℕ) : Type 0 where
   pub exact : records 12 n xs ≡ map peerWords (peersIn n xs)
   pub valids : all validPeer (peersIn n xs) ≡ true
   pub ascends : ascending 1 (records 12 n xs) ≡ true
+
+-- what a report of its sender does, by its verdict
+abbrev pub settled : ℕ → DemandReport → ℕ → PeersState → PeersState
+settled id r at s = changes.applyVerdict id r at (changes.verdict changes.implausibleJump id r s) s

@@ -167,3 +167,7 @@ pub record Stores (s : PeersState) (p : PeerDemand) (t t′ : PeerTables) : Type
   pub peers : Holds 12 peersSize (p .peers) (map peerWords (s .peers)) (t .peers) (t′ .peers)
   pub snapshotKeys : Holds 4 snapshotKeysSize (p .«snapshot_keys») (map snapshotKeyWords (s .snapshotKeys)) (t .snapshotKeys) (t′ .snapshotKeys)
   pub contested : Holds 6 contestedSize (p .contested) (map contestedWords (s .contested)) (t .contested) (t′ .contested)
+
+-- what p and t held, changed, is what p′ and t′ hold
+abbrev pub Becomes : (PeersState → PeersState) → PeerDemand → PeerTables → PeerDemand → PeerTables → Type 0
+Becomes change p t p′ t′ = Stores (change (stateOf p t)) p′ t t′
