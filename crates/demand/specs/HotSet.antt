@@ -165,7 +165,7 @@ promote margin size key demand primary now es = promoteFrom margin size key dema
 
 -- ---- 003, `cool`, of one entry
 
--- a primary entry counts its cooldown and then stops being primary
+-- a primary entry begins to cool, and is primary no more once it has cooled for the cooldown
 abbrev pub countDown : (cooldown : ℕ) (demand : Float) (now : ℕ) → HotEntry → Cooling → HotEntry
 countDown cooldown demand now e Unset =
     record { key = e .key; demand = demand; primary = true; «cooling_since» = Since now; since = e .since }

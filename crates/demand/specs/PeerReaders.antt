@@ -85,6 +85,6 @@ peerLen s id =
     length (snapshotKeysOf id (s .snapshotKeys))
     + length (only (λ (c : ContestedKey). not (any (λ (k : SnapshotKey). eqb (k .key) (c .key)) (snapshotKeysOf id (s .snapshotKeys)))) (contestedKeysOf id (s .contested)))
 
--- how many keys are known over all peers
+-- `PeerDemand::len`: the sum over the peers
 unfoldable pub len : PeersState → ℕ
 len s = sumOver (peerLen s) (s .peers)

@@ -6,7 +6,7 @@ use mathlib.Core.List.{List, [], _∷_, _++_}
 use mathlib.Core.Option.{Option, none, some}
 use lib.ListN.{take, drop, getD, length}
 
--- how many past epochs of a peer are remembered: `PAST_EPOCHS`
+-- the most past epochs that are kept of a peer: `PAST_EPOCHS`
 abbrev pub maxPastEpochs : ℕ
 maxPastEpochs = 4
 

@@ -1,11 +1,10 @@
-// One node's share of one hot key's limit, from what it knows of the demand across the cluster.
+// How a key's limit is divided among the nodes of a cluster, by their demand.
 
 ghost use mathlib.Core.Path.{_≡_};
 ghost use Rattle.demand.specs.Allocation as Allocation;
 
-// What a node knows when it sizes its share of one hot key: the cluster's limit for the key in
-// requests per second, how many nodes there are, the part of the limit that is split evenly as a
-// floor, this node's demand for the key, and the sum of its peers' demand.
+// What a share depends on: the limit of the whole cluster, its size, the part of the limit that goes
+// to all nodes alike, and the demand of this node and of all others.
 pub struct View {
     pub limit: f64,
     pub cluster_size: usize,
@@ -41,7 +40,7 @@ fn is_cluster_size(n: usize) -> bool
     if 1 <= n { n <= 65_535 } else { false }
 }
 
-// The node's share of the key's limit, in requests per second.
+// The part of the limit, a rate a second, that falls to this node.
 pub fn share(view: View) -> ShareAnswer
     ensures { λ r. ⌜ Allocation.shareAnswer r ≡ Allocation.share view ⌝ }
 {
@@ -57,8 +56,8 @@ pub fn share(view: View) -> ShareAnswer
     ShareAnswer::Is(shared(view))
 }
 
-// The floor, and a slice of the rest in proportion to the node's part of the demand; an even part
-// where there is no demand.
+// An even part of the floor, and of the rest as much as this node's demand is of all demand; where
+// there is none, an even part of all.
 fn shared(view: View) -> f64
     ensures { λ r. ⌜ r ≡ Allocation.shared view ⌝ }
 {

@@ -1,17 +1,17 @@
-// A key's demand: an exponentially weighted moving average of attempts per second. It counts
-// attempts, allowed or not. The weight of a tick depends on the time since the one before it.
+// An estimator of attempts a second. Attempts are counted between ticks; a tick moves the rate
+// towards what was counted, by the decay weight of the time since the tick before.
 
 ghost use mathlib.Core.Path.{_≡_};
 ghost use Rattle.demand.specs.Estimator as Estimator;
 ghost use Rattle.demand.specs.EstimatorCalls as Calls;
 
-// Both times, or neither: `last_tick` is the last tick and `since` is when measuring began.
+// The times of an estimator, which it has both or neither: of its last tick, and of its start.
 pub enum Times {
     Unset,
     At { last_tick: u64, since: u64 },
 }
 
-// One key's demand, in attempts per second.
+// An estimator: its rate, the attempts that no tick has folded yet, its time constant and its times.
 pub struct Demand {
     pub current_rate: f64,
     pub attempts_since_tick: u64,
@@ -35,8 +35,7 @@ pub enum RateAnswer {
     Is(f64),
 }
 
-// The part of the average that a tick after the time `elapsed` gives to what is new: exactly
-// (2^52 - weight) / 2^52.
+// How far a tick moves the rate towards what was counted: (2^52 - weight) / 2^52, exactly.
 pub fn alpha(elapsed: u64, time_constant: u64) -> f64
     ensures { λ r. ⌜ r ≡ Estimator.alpha elapsed «time_constant» ⌝ }
 {
@@ -44,7 +43,7 @@ pub fn alpha(elapsed: u64, time_constant: u64) -> f64
     float::u64_to_f64(parts) / 4503599627370496.0
 }
 
-// The average after a tick.
+// The rate after a tick.
 fn folded(rate: f64, attempts: u64, elapsed: u64, time_constant: u64) -> f64
     ensures { λ r. ⌜ r ≡ Estimator.folded rate attempts elapsed «time_constant» ⌝ }
 {
@@ -55,7 +54,7 @@ fn folded(rate: f64, attempts: u64, elapsed: u64, time_constant: u64) -> f64
 }
 
 impl Demand {
-    // No attempts yet; `time_constant` is how fast the average follows a change.
+    // An estimator at rate 0, with no times.
     pub fn new(time_constant: u64) -> Self
         ensures { λ r. ⌜ r ≡ Estimator.new «time_constant» ⌝ }
     {
@@ -67,7 +66,7 @@ impl Demand {
         }
     }
 
-    // Starts measuring at `now`, so that the first tick has a time to measure over.
+    // The same with both times at `now`, so that its first tick has an elapsed time.
     pub fn starting_at(time_constant: u64, now: u64) -> Self
         ensures { λ r. ⌜ r ≡ Estimator.startingAt «time_constant» now ⌝ }
     {
@@ -89,14 +88,14 @@ impl Demand {
         float::is_magnitude(self.current_rate)
     }
 
-    // Counts a request, allowed or not.
+    // One attempt more.
     pub fn record_attempt(self) -> DemandAnswer
         ensures { λ r. ⌜ Calls.demandAnswer r ≡ Calls.recordAttempts self 1 ⌝ }
     {
         self.record_attempts(1)
     }
 
-    // Counts `n` requests at once.
+    // So many attempts more.
     pub fn record_attempts(self, n: u64) -> DemandAnswer
         ensures { λ r. ⌜ Calls.demandAnswer r ≡ Calls.recordAttempts self n ⌝ }
     {
@@ -115,7 +114,7 @@ impl Demand {
         })
     }
 
-    // Folds the attempts since the last tick into the average.
+    // Moves the rate by the attempts counted, and starts counting again.
     pub fn tick(self, now: u64) -> DemandAnswer
         ensures { λ r. ⌜ Calls.demandAnswer r ≡ Calls.tick self now ⌝ }
     {
@@ -161,7 +160,7 @@ impl Demand {
         }
     }
 
-    // Whether attempts wait for a tick.
+    // Whether there are attempts that no tick has folded.
     pub fn has_pending(self) -> PendingAnswer
         ensures { λ r. ⌜ Calls.pendingAnswer r ≡ Calls.hasPending self ⌝ }
     {
@@ -171,7 +170,7 @@ impl Demand {
         PendingAnswer::Is(0 < self.attempts_since_tick)
     }
 
-    // The average as of the last tick.
+    // The rate that the last tick left.
     pub fn rate(self) -> RateAnswer
         ensures { λ r. ⌜ Calls.rateAnswer r ≡ Calls.rate self ⌝ }
     {
@@ -181,8 +180,8 @@ impl Demand {
         RateAnswer::Is(self.current_rate)
     }
 
-    // The average without the zero that it started from: `rate` divided by the weight that the
-    // measured time has in it.
+    // The rate over the weight that all ticks since the start have together: the start at 0 is taken
+    // out.
     pub fn unbiased_rate(self) -> RateAnswer
         ensures { λ r. ⌜ Calls.rateAnswer r ≡ Calls.unbiasedRate self ⌝ }
     {

@@ -1,6 +1,6 @@
-// The keys that need coordination. A key is hot while its demand is above a threshold, and for a
-// cooldown after that; or, as secondary, while a peer holds it primary. When the set is full a
-// newcomer evicts the weakest key, but only if it beats it by the eviction margin.
+// The hot keys of a node. A key comes in with a demand above the threshold, as primary, or by the
+// word of a peer that has it so, as secondary. Below the threshold a primary key stays for the
+// cooldown; a full set takes a key in only by evicting its weakest.
 ghost use mathlib.Core.Path.{_≡_};
 ghost use mathlib.Core.Bool.{true};
 ghost use mathlib.Core.Option.{none, some};
@@ -14,7 +14,7 @@ ghost use Rattle.demand.specs.HotSet as Set;
 ghost use Rattle.demand.specs.HotSetCalls as Calls;
 ghost use Rattle.gcra.specs.Questions.{firstNo};
 
-// A newcomer's demand must be above that of the weakest key, times this.
+// To evict the weakest key a demand must be above this many times its own.
 const EVICTION_MARGIN: f64 = 1.1;
 
 // The most keys that a hot set may hold.
@@ -24,13 +24,13 @@ const MAX_SIZE: usize = 64;
 // when.
 const WORDS: usize = 6;
 
-// Since when a primary key has been below the threshold, if it is.
+// Whether a primary key's demand is below the threshold, and since when.
 pub enum Cooling {
     Unset,
     Since(u64),
 }
 
-// One hot key.
+// An entry of the set.
 pub struct HotEntry {
     pub key: u64,
     pub demand: f64,
@@ -39,15 +39,14 @@ pub struct HotEntry {
     pub since: u64,
 }
 
-// The hot keys of one node: at most `max_size`, `len` of them in the lent words, each kept for
-// `cooldown` once it cools.
+// A set that may grow to `max_size` entries; `len` of them stand in the lent words.
 pub struct HotSet {
     pub cooldown: u64,
     pub max_size: usize,
     pub len: usize,
 }
 
-// Whether the key is hot afterwards, and the set then.
+// What an update answers: whether the key is hot now, and the set.
 pub struct Updated {
     pub is_hot: bool,
     pub set: HotSet,
@@ -195,8 +194,8 @@ impl HotEntry {
         }
     }
 
-    // With new demand that is not above the threshold. A primary key counts down its cooldown and
-    // then stops being primary.
+    // With a demand that is not above the threshold: a primary entry begins to cool, and is primary no
+    // more once it has cooled for the cooldown.
     fn cool(self, demand: f64, now: u64, cooldown: u64) -> Self
         ensures { λ r. ⌜ r ≡ Set.cooled cooldown demand now self ⌝ }
     {
@@ -427,7 +426,7 @@ impl HotSet {
         }
     }
 
-    // Makes room in a full set for an absent key, if it beats the weakest by the margin.
+    // Puts the entry of an absent key in the place of the weakest one, if its demand is high enough.
     fn evict(self, hot: &mut [u64], entry: HotEntry, margin: f64) -> Updated
         requires { ⌜ passes (Calls.askSet self (now hot)) ≡ true ⌝ }
         requires { ⌜ self .len ≡ self .«max_size» ⌝ }
@@ -531,7 +530,7 @@ impl HotSet {
         self.below_threshold(hot, key, demand_rate, now, hot_elsewhere, margin)
     }
 
-    // An empty set of at most `max_size` keys, each kept for `cooldown` once it cools.
+    // A set with no entry yet.
     pub fn new(hot: &[u64], cooldown: u64, max_size: usize) -> NewAnswer
         ensures { λ r. ⌜ Calls.MadeNew (now (hot .entry)) cooldown «max_size» r ⌝ }
     {
@@ -548,7 +547,7 @@ impl HotSet {
         })
     }
 
-    // Feeds a key's current demand and answers whether the key is hot afterwards.
+    // Takes in a key's demand; answers whether the key is hot then.
     pub fn update(
         self,
         hot: &mut [u64],
@@ -562,7 +561,7 @@ impl HotSet {
         self.update_with(hot, key, demand_rate, threshold, now, false)
     }
 
-    // The same, knowing whether a peer holds the key primary.
+    // The same, where a peer may have the key as primary.
     pub fn update_with(
         self,
         hot: &mut [u64],
@@ -592,7 +591,7 @@ impl HotSet {
         ))
     }
 
-    // Whether the key is in the set, primary or secondary.
+    // Whether the set has the key.
     pub fn is_hot(self, hot: &[u64], key: u64) -> TestAnswer
         ensures { λ r. ⌜ Calls.SaidHot self (now (hot .entry)) key r ⌝ }
     {
@@ -606,7 +605,7 @@ impl HotSet {
         }
     }
 
-    // Since when the key has been hot without a break, if it is.
+    // When the key came in, if the set has it.
     pub fn hot_since(self, hot: &[u64], key: u64) -> SinceAnswer
         ensures { λ r. ⌜ Calls.SaidSince self (now (hot .entry)) key r ⌝ }
     {
@@ -620,7 +619,7 @@ impl HotSet {
         }
     }
 
-    // Whether the key is hot by its own demand here, cooldown included.
+    // Whether the set has the key as primary.
     pub fn is_primary(self, hot: &[u64], key: u64) -> TestAnswer
         ensures { λ r. ⌜ Calls.SaidPrimary self (now (hot .entry)) key r ⌝ }
     {
@@ -634,7 +633,7 @@ impl HotSet {
         }
     }
 
-    // How many keys are hot.
+    // How many entries there are.
     pub fn len(self, hot: &[u64]) -> LenAnswer
         ensures { λ r. ⌜ Calls.SaidLen self (now (hot .entry)) r ⌝ }
     {
@@ -645,7 +644,7 @@ impl HotSet {
         LenAnswer::Is(self.len)
     }
 
-    // Whether no key is hot.
+    // Whether there are none.
     pub fn is_empty(self, hot: &[u64]) -> TestAnswer
         ensures { λ r. ⌜ Calls.SaidEmpty self (now (hot .entry)) r ⌝ }
     {

@@ -1,5 +1,5 @@
-// What a node knows of demand: the decay weight, its own estimators, its share of a limit, and the
-// keys that are hot.
+// Demand and peers: the decay weight, estimators, a node's share of a limit, the hot set and what
+// the peers report.
 
 pub mod allocation;
 pub mod decay;

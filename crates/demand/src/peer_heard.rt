@@ -84,7 +84,7 @@ fn is_either(a: bool, b: bool) -> bool
     b
 }
 
-// Whichever is higher; the key counts as primary if either holds it so.
+// The word with the higher demand, the snapshot's of equal ones; primary where one of them is.
 fn joined(taken: Heard, contested: Heard) -> Heard
     ensures { λ r. ⌜ r ≡ readers.joined taken contested ⌝ }
 {

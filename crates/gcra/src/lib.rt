@@ -1,7 +1,6 @@
-// GCRA, the Generic Cell Rate Algorithm: a token bucket kept as one number, the theoretical arrival
-// time (TAT) of the next request.
-// A request is allowed if it comes no earlier than TAT - tau, and then moves the TAT one interval T
-// forward.
+// The meter: ITU-T I.371's virtual scheduling, known as GCRA, whose state is one number, the TAT
+// (theoretical arrival time). A check whose reading is below TAT - tau is denied; an allowed one adds
+// T, the interval, to the TAT.
 ghost use mathlib.Core.Path.{_≡_};
 ghost use Prim.Native.Nat.{_+_, _-_, _*_, _^_, _≤_, _<_, min, max};
 ghost use Rattle.gcra.specs.Packed as Packed;
@@ -12,15 +11,13 @@ ghost use Rattle.gcra.specs.Calls as Calls;
 
 const ONE_SEC: u64 = 1_000_000_000;
 
-// The longest interval of a quota: 2^40 - 1 milliseconds, about 34 years. A slower rate is held at
-// it.
+// An interval is at most 2^40 - 1 of the widest unit; slower rates get this one.
 pub const MAX_INTERVAL: u64 = ((1 << Quota::INTERVAL_BITS) - 1) * 1_000_000;
 
-// The longest burst tolerance: 2^63 - 1 ns. Were it longer, the saturated TAT would pass every
-// check.
+// tau is at most 2^63 - 1 ns: a TAT held at 2^64 - 1 is then still ahead of readings below 2^63.
 pub const MAX_TAU: u64 = u64::MAX / 2;
 
-// The nanoseconds of each unit that an interval is counted in, by the unit's code in a packed word.
+// A table of the three unit widths in nanoseconds, for the codes 0 to 2 of a packed word.
 pub struct Units {
     pub first: u64,
     pub second: u64,
@@ -33,7 +30,7 @@ const UNIT_NANOS: Units = Units {
     third: 1_000_000,
 };
 
-// One past the largest value of an interval in its unit; and what a unit code and a value count in
+// How many values fit the value's field; and the place values of the unit code and of the value in
 // a packed word.
 const VALUES: u64 = 1 << Quota::INTERVAL_BITS;
 
@@ -43,37 +40,37 @@ const UNIT_CODES: u64 = 1 << Quota::UNIT_BITS;
 
 const VALUE_SCALE: u64 = UNIT_SCALE * UNIT_CODES;
 
-// An interval as a value and the code of its unit.
+// How an interval is packed: a count, and the code of the unit that it counts.
 pub struct Encoded {
     pub value: u64,
     pub unit: u64,
 }
 
-// T and tau, as a check needs them.
+// What a check needs of a quota: T and tau.
 pub struct Decoded {
     pub t: u64,
     pub tau: u64,
 }
 
-// A rate, kept as the interval between requests, and how many requests may come back to back.
+// T in nanoseconds, rounded up to its unit, and the burst that one reading may be allowed at once.
 pub struct Quota {
     pub interval: u64,
     pub burst: u32,
 }
 
-// The theoretical arrival time, or none while nothing has been allowed.
+// A TAT, or that nothing was allowed yet.
 pub enum Tat {
     Unset,
     At(u64),
 }
 
-// One key's meter.
+// The meter of a key: its quota and its TAT.
 pub struct Gcra {
     pub quota: Quota,
     pub tat: Tat,
 }
 
-// The answer to a request. A denied one may come again at `retry_at`.
+// What a check answers; `retry_at` is 01's retry time.
 pub enum Decision {
     Allow,
     Deny { retry_at: u64 },
@@ -210,7 +207,7 @@ impl Quota {
     // The largest burst of a quota: 4,194,303.
     pub const MAX_BURST: u32 = (1 << Self::BURST_BITS) - 1;
 
-    // A whole number of requests per second.
+    // The quota of a whole rate a second.
     pub fn new(rate_per_sec: u32, burst: u32) -> QuotaAnswer
         ensures { λ r. ⌜ Calls.quotaAnswer r ≡ Calls.quotaNew «rate_per_sec» burst ⌝ }
     {
@@ -224,8 +221,8 @@ impl Quota {
         QuotaAnswer::Is(Self::with_interval(UNIT_NANOS, interval, burst))
     }
 
-    // Any rate, fractions of a request per second included. One too slow to hold, zero, infinite or
-    // not a number, is held at the longest interval.
+    // The quota of any rate a second. Where 1e9 / rate is not finite or not above 0, and where it is
+    // too long, the interval is the longest.
     pub fn per_second(rate: f64, burst: u32) -> QuotaAnswer
         ensures { λ r. ⌜ Calls.quotaAnswer r ≡ Calls.quotaPerSecond rate burst ⌝ }
     {
@@ -290,8 +287,7 @@ impl Quota {
         min(max(interval, 1), Self::max_interval(units))
     }
 
-    // The interval in the finest unit that holds it, rounded up where the unit is coarser than a
-    // nanosecond.
+    // The first unit whose rounded-up value is below 2^40, and that value.
     fn encode_interval(units: Units, interval: u64) -> Encoded
         requires { ⌜ Accepted units × (interval ≤ Packed.maxInterval units) ⌝ }
         ensures { λ r. ⌜ r ≡ Packed.encode units interval ⌝ }
@@ -343,8 +339,7 @@ impl Quota {
         Self::rounded(units, interval) == interval
     }
 
-    // The rate in requests per second: the one it was made with, up to the rounding of the
-    // interval.
+    // 1e9 / T, the rate a second that the rounded interval stands for.
     pub fn rate_per_sec(self) -> RateAnswer
         ensures { λ r. ⌜ Calls.rateAnswer r ≡ Calls.quotaRate self ⌝ }
     {
@@ -354,7 +349,7 @@ impl Quota {
         RateAnswer::Is(1_000_000_000.0 / float::u64_to_f64(self.interval))
     }
 
-    // How many requests may come back to back.
+    // The quota's burst.
     pub fn burst(self) -> NumberAnswer
         ensures { λ r. ⌜ Calls.numberAnswer r ≡ Calls.quotaBurst self ⌝ }
     {
@@ -364,7 +359,7 @@ impl Quota {
         NumberAnswer::Is(self.burst as u64)
     }
 
-    // The quota as one word.
+    // The packed word: value, unit code and burst, top down.
     pub fn pack(self) -> NumberAnswer
         ensures { λ r. ⌜ Calls.numberAnswer r ≡ Calls.quotaPack self ⌝ }
     {
@@ -464,8 +459,7 @@ impl Quota {
         }
     }
 
-    // The quoted ceiling: how many requests at most are allowed with readings from s to s + window,
-    // both ends counted.
+    // The quoted ceiling of a window, both of whose ends count: burst + window / T.
     pub fn ceiling(self, window: u64) -> NumberAnswer
         ensures { λ r. ⌜ Calls.numberAnswer r ≡ Calls.quotaCeiling self window ⌝ }
     {
@@ -526,8 +520,8 @@ pub fn step(tat: u64, packed: u64, now: u64) -> Stepped
     attempt(Quota::decode(UNIT_NANOS, packed), tat, now)
 }
 
-// How many slots of the old quota a TAT is ahead of the reading. A saturated TAT is no measure: the
-// debt is then at least both bursts.
+// The debt in slots of the old interval. A TAT that is held at 2^64 - 1 does not tell it, so it is
+// taken as at least the larger of the two bursts.
 fn debt_slots(tat: u64, old: Quota, new: Quota, now: u64) -> f64
     ensures { λ r. ⌜ r ≡ Rate.debtSlots tat old new now ⌝ }
 {
@@ -541,7 +535,7 @@ fn debt_slots(tat: u64, old: Quota, new: Quota, now: u64) -> f64
     float::max(float::max(computed, old_burst), new_burst)
 }
 
-// The TAT that carries a debt, run up at `old`, over to `new` in requests.
+// The TAT whose debt at the new interval has as many slots as the old TAT's had at the old one.
 fn carry_tat(tat: u64, old: Quota, new: Quota, now: u64) -> u64
     ensures { λ r. ⌜ r ≡ Rate.carryTat tat old new now ⌝ }
 {
@@ -550,7 +544,7 @@ fn carry_tat(tat: u64, old: Quota, new: Quota, now: u64) -> u64
 }
 
 impl Gcra {
-    // A meter that has allowed nothing yet.
+    // A meter with no TAT.
     pub fn new(quota: Quota) -> GcraAnswer
         ensures { λ r. ⌜ Calls.gcraAnswer r ≡ Calls.gcraNew quota ⌝ }
     {
@@ -563,7 +557,7 @@ impl Gcra {
         })
     }
 
-    // The quota that it enforces now.
+    // Its quota.
     pub fn quota(self) -> QuotaAnswer
         ensures { λ r. ⌜ Calls.quotaAnswer r ≡ Calls.gcraQuota self ⌝ }
     {
@@ -574,7 +568,7 @@ impl Gcra {
         QuotaAnswer::Is(quota)
     }
 
-    // Allows or denies one request at `now`.
+    // Decides on a check with the reading `now`.
     pub fn check(self, now: u64) -> Checked
         ensures { λ r. ⌜ Calls.GcraChecks self now r ⌝ }
     {
@@ -610,7 +604,7 @@ impl Gcra {
         }
     }
 
-    // Whether requests were allowed ahead of their time and not yet paid for.
+    // Whether the TAT is ahead of the reading.
     pub fn has_debt(self, now: u64) -> DebtAnswer
         ensures { λ r. ⌜ Calls.debtAnswer r ≡ Calls.gcraHasDebt self now ⌝ }
     {
@@ -622,7 +616,7 @@ impl Gcra {
         DebtAnswer::Is(now < tat.or_reading(now))
     }
 
-    // How long until a request would be allowed.
+    // How far the retry time is ahead of the reading, where a check would be denied.
     pub fn retry_after(self, now: u64) -> RetryAnswer
         ensures { λ r. ⌜ Calls.retryAnswer r ≡ Calls.gcraRetryAfter self now ⌝ }
     {
@@ -639,7 +633,7 @@ impl Gcra {
         }
     }
 
-    // Switches to a new quota. The debt is carried over in requests; the same quota changes
+    // Gives the meter another quota, and its debt the same number of slots; an equal quota changes
     // nothing.
     pub fn set_quota(self, quota: Quota, now: u64) -> QuotaSet
         ensures { λ r. ⌜ Calls.GcraSets self quota now r ⌝ }
