@@ -1,13 +1,13 @@
--- The keys of peers that ascend are valid where they are a run of records for each peer.
-use Prim.Native.Nat.{ℕ, zero, suc, _+_, _-_, _*_, _≤_, _<_, zero-le}
-use mathlib.Core.Path.{_≡_, refl, sym, ap, _∙_, subst}
+-- The keys of peers that ascend are valid where they are a run of records for each peer; and the scan of such runs.
+use Prim.Native.Nat.{ℕ, suc, _+_, _-_, _*_, _≤_, _<_, zero-le}
+use mathlib.Core.Path.{_≡_, refl, sym, ap, _∙_}
 use mathlib.Core.Logic.{⊎-elim}
 use mathlib.Core.Bool.{Bool, true, false, cond, _&&_, _||_, or-false, and-assoc, and-comm}
 use mathlib.Core.List.{List, [], _∷_, _++_}
 use native.Mathlib.Nat.{add-zero}
 use native.Mathlib.Numerals.{add-one}
 use native.Mathlib.Omega.{arith}
-use borrow.Author.Tests.{ltb-true, ltb-false, lt-ltb, le-ltb, leb-true, le-leb, lt-leb, eqb-true, eqb-false, eq-eqb, ne-eqb}
+use borrow.Author.Tests.{ltb-true, ltb-false, lt-ltb, leb-true, le-leb, lt-leb, eqb-true, eqb-false, eq-eqb, ne-eqb}
 use lib.Dec.{ltb, leb, eqb, eqb·suc-zero}
 use lib.ListN.{length, take, drop, getD, take-append-drop, length-drop, drop-of-length-le}
 use lib.Seq.{length-take-le, drop-cons, drop-drop, getD-drop}
@@ -18,7 +18,7 @@ use Rattle.records.proofs.OrderLaws.{before-cases}
 use Rattle.records.proofs.TableLaws.{Wide, wide-drop}
 use Rattle.demand.specs.PeerLists.{all, any, only, those}
 use Rattle.demand.specs.PeerScan.{areKeyWords, firstWord, isNamed, areNamed, areWithin, isKeyOf, runLength, isRun, areRuns}
-use Rattle.demand.proofs.PeerScanLaws.{stop}
+use Rattle.demand.proofs.PeerScanLaws.{and-left, stop}
 use Rattle.demand.proofs.PeerRowLaws.{word-at, first-at, key-record}
 use Rattle.demand.proofs.PeerRangeLaws.{only-yes, only-no}
 use Rattle.demand.proofs.PeerOrderLaws.{all-imply, asc-ahead, asc-cons, asc-append, first-before, second-before}
@@ -242,11 +242,6 @@ module _ (w id : ℕ) where
       (all-imply (λ (s : List ℕ). before (key 2 r) (key 2 s)) (isAfter id) rs (λ s b. lt-ltb id (firstWord s) (omega (arith, before-first 1 r s b, ltb-true id (firstWord r) other))) ahead))
 
 -- ---- the runs of all the peers
-and-left : (a b c : Bool) → (a && (b && c)) ≡ (b && (a && c))
-and-left true b c = refl
-and-left false true c = refl
-and-left false false c = refl
-
 regroup : (a b c d e f l : Bool) → (e ≡ true → l ≡ true) → ((e || (l && f)) && (a && (b && (c && d)))) ≡ (a && (b && (((e || f) && c) && (l && d))))
 regroup a b c d true f l h = ap (λ (z : Bool). a && (b && (c && (z && d)))) (sym (h refl))
 regroup a b c d false f l h = turned
@@ -331,7 +326,7 @@ module _ (w least bound : ℕ) (two : 2 ≤ w) where
       ap (λ (b : Bool). isRun least bound (getD p 3 0) count && b) (runs-are-valid ps (wp .1) (asc-end 1 (p ∷ []) ps a) (drop count rs) (wide-drop w count rs wr))
       ∙ by-peer p ps rs (all-imply (λ (q : List ℕ). before (key 1 p) (key 1 q)) (isAfter (firstWord p)) ps (λ q b. lt-ltb (firstWord p) (firstWord q) (before-one p q (omega (arith, wp .0)) b)) (asc-ahead 1 p ps a)) wr
 
--- ---- a key by the words at its place
+-- ---- the scan: a key by the words at its place
 module _ (w id : ℕ) (xs : List ℕ) (at : ℕ) where
   word-here : (j : ℕ) → getD (drop at xs) j 0 ≡ getD xs (at + j) 0
   word-here j = getD-drop at xs j 0
@@ -355,7 +350,7 @@ module _ (w id : ℕ) (xs : List ℕ) (at : ℕ) where
   unfolding isKeyOf
   above last h = (λ k. isOf id (drop at xs) && ((le-leb 0 (getD (drop at xs) 1 0) zero-le ∙ sym (le-leb (suc last) (getD (drop at xs) 1 0) (omega (arith, word-here 1)))) k && areKeyWords w (drop at xs)))
 
--- ---- the scan of a run
+-- ---- the scan: a run
 -- the length of the run from record i on
 abbrev ahead : ℕ → ℕ → ℕ → List ℕ → ℕ → ℕ → ℕ
 ahead w n id xs low i = runLength w id low (drop i (records w n xs))
@@ -420,7 +415,7 @@ module _ (w n id from : ℕ) (xs : List ℕ) (wide : 4 ≤ w) where
     pub run-full : n ≤ i → i ≡ from + ahead w n id xs 0 from
     run-full h = ends-here w n id xs wide (suc (getD xs (i * w - w + 1) 0)) i h ∙ ran .same
 
--- ---- the scan of the runs
+-- ---- the scan: the runs
 pub empty-run : (least bound flag count : ℕ) → count ≡ 0 → true ≡ isRun least bound flag count
 unfolding isRun
 empty-run least bound flag count e = sym (ap (λ (b : Bool). b || (leb count bound && leb least flag)) (eq-eqb count 0 e))
@@ -441,9 +436,9 @@ pub record Scanned (w least bound n p from i : ℕ) (xs peers : List ℕ) : Type
   pub same : areRuns w least bound (records 12 p peers) (records w n xs) ≡ areRuns w least bound (drop i (records 12 p peers)) (drop from (records w n xs))
 
 module _ (w least bound n p from i : ℕ) (xs peers : List ℕ) (scanned : Scanned w least bound n p from i xs peers) where
-  pub scan-full : p ≤ i → eqb from n ≡ areRuns w least bound (records 12 p peers) (records w n xs)
+  pub runs-end : p ≤ i → eqb from n ≡ areRuns w least bound (records 12 p peers) (records w n xs)
   unfolding areRuns
-  scan-full h = sym
+  runs-end h = sym
       (scanned .same
       ∙ ap (λ (ps : List (List ℕ)). areRuns w least bound ps (drop from (records w n xs))) (drop-of-length-le (records 12 p peers) {i = i} (omega (arith, length-records 12 p peers)))
       ∙ ap (λ (m : ℕ). eqb m 0) (length-drop from (records w n xs) ∙ ap (λ (m : ℕ). m - from) (length-records w n xs))
@@ -472,11 +467,11 @@ module _ (w least bound n p from i : ℕ) (xs peers : List ℕ) (scanned : Scann
         ∙ (λ k. isRun least bound (word-at 12 p peers i 3 h (omega arith) k) (count k) && areRuns w least bound (drop (sym (add-one i) k) ps) (drop (count k) (drop from rs)))
         ∙ ap (λ (l : List (List ℕ)). isRun least bound (getD peers (i * 12 + 3) 0) (to - from) && areRuns w least bound (drop (i + 1) ps) l) (drop-drop (to - from) from rs ∙ ap (λ (m : ℕ). drop m rs) there)
 
-    pub scan-fails : isRun least bound (getD peers (i * 12 + 3) 0) (to - from) ≡ false → false ≡ areRuns w least bound (records 12 p peers) (records w n xs)
-    scan-fails f = stop (isRun least bound (getD peers (i * 12 + 3) 0) (to - from)) (areRuns w least bound (drop (i + 1) (records 12 p peers)) (drop to (records w n xs))) f ∙ sym by-run
+    pub runs-fail : isRun least bound (getD peers (i * 12 + 3) 0) (to - from) ≡ false → false ≡ areRuns w least bound (records 12 p peers) (records w n xs)
+    runs-fail f = stop (isRun least bound (getD peers (i * 12 + 3) 0) (to - from)) (areRuns w least bound (drop (i + 1) (records 12 p peers)) (drop to (records w n xs))) f ∙ sym by-run
 
-    pub scan-goes : isRun least bound (getD peers (i * 12 + 3) 0) (to - from) ≡ true → Scanned w least bound n p to (i + 1) xs peers
-    scan-goes f = record {
+    pub runs-go : isRun least bound (getD peers (i * 12 + 3) 0) (to - from) ≡ true → Scanned w least bound n p to (i + 1) xs peers
+    runs-go f = record {
       few = omega arith;
       within = run-inside .1;
       same = by-run ∙ ap (λ (b : Bool). b && areRuns w least bound (drop (i + 1) (records 12 p peers)) (drop to (records w n xs))) f;

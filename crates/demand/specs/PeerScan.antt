@@ -94,7 +94,7 @@ isScanned p t =
     && (areKeys 4 1 maxDemandKeys (records 12 (p .peers) (t .peers)) (records 4 (p .«snapshot_keys») (t .snapshotKeys))
     && areKeys 6 0 maxContested (records 12 (p .peers) (t .peers)) (records 6 (p .contested) (t .contested)))
 
--- what a search of the peers needs of their table, and a count of keys of theirs
+-- what the scan of the keys needs of the peers' table, and of the keys'
 pub record PeersReady (p : ℕ) (xs : List ℕ) : Type 0 where
   pub few : p ≤ maxPeers
   pub fit : p * 12 ≤ length xs

@@ -4,7 +4,7 @@ use mathlib.Core.Path.{_≡_, refl, sym, _∙_}
 use native.Mathlib.Omega.{arith}
 use lib.ListN.{length}
 use borrow.Author.Tests.{not-true, not-false}
-use Rattle.demand.proofs.PeerScanRunLaws.{Scanned, run-inside, scan-fails, scan-goes, scan-full}
+use Rattle.demand.proofs.PeerScanRunLaws.{Scanned, run-inside, runs-fail, runs-go, runs-end}
 use borrow.Author.Needs.{needs}
 use Rattle.demand.proofs.peer_scan.are_runs.Statement.{statement}
 use Rattle.demand.proofs.peer_scan.are_runs.Tie as tie
@@ -66,7 +66,7 @@ returns c =
     let a = c .before .before .before in
     let s = start (a .before .before) .args in
     let l = a .before .before .before .loop in
-    scan-fails (s .w) (s .least) (s .bound) (s .n) (s .p) (l .from) (l .i) (s .t .now) (s .peers .now) (l .inv) (a .run-end .result) (a .before .before .loop-test .taken) (a .run-end .ensures) (sym (c .before .is-run .ensures) ∙ not-true (c .before .is-run .result) (c .if1 .taken))
+    runs-fail (s .w) (s .least) (s .bound) (s .n) (s .p) (l .from) (l .i) (s .t .now) (s .peers .now) (l .inv) (a .run-end .result) (a .before .before .loop-test .taken) (a .run-end .ensures) (sym (c .before .is-run .ensures) ∙ not-true (c .before .is-run .result) (c .if1 .taken))
 
 add-i : tie.Need-add-i Inv-loop μ-loop
 add-i c = omega (arith, inside (c .before .before .before .before .before))
@@ -79,13 +79,13 @@ loop-again c =
     let a = c .before .before .before in
     let s = start (a .before .before) .args in
     let l = a .before .before .before .loop in
-    scan-goes (s .w) (s .least) (s .bound) (s .n) (s .p) (l .from) (l .i) (s .t .now) (s .peers .now) (l .inv) (a .run-end .result) (a .before .before .loop-test .taken) (a .run-end .ensures) (sym (c .before .is-run .ensures) ∙ not-false (c .before .is-run .result) (c .if1 .left))
+    runs-go (s .w) (s .least) (s .bound) (s .n) (s .p) (l .from) (l .i) (s .t .now) (s .peers .now) (l .inv) (a .run-end .result) (a .before .before .loop-test .taken) (a .run-end .ensures) (sym (c .before .is-run .ensures) ∙ not-false (c .before .is-run .result) (c .if1 .left))
 
 returns-2 : tie.Need-returns-2 Inv-loop μ-loop
 returns-2 c =
     let s = c .before .before .before .before .args in
     let l = c .before .loop in
-    scan-full (s .w) (s .least) (s .bound) (s .n) (s .p) (l .from) (l .i) (s .t .now) (s .peers .now) (l .inv) (c .loop-test .left)
+    runs-end (s .w) (s .least) (s .bound) (s .n) (s .p) (l .from) (l .i) (s .t .now) (s .peers .now) (l .inv) (c .loop-test .left)
 
 pub are-runs-spec : {M : Type 1} → statement M
 are-runs-spec =
