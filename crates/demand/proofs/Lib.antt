@@ -50,6 +50,7 @@ pub mod PeerRoundLaws
 pub mod PeerRowLaws
 pub mod PeerRunLaws
 pub mod PeerScanLaws
+pub mod PeerScanRunLaws
 pub mod PeerSettleLaws
 pub mod PeerStayLaws
 pub mod PeerStepLaws

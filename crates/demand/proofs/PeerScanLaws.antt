@@ -25,7 +25,7 @@ eqb-turn m n = split (eqb m n)
     (λ e. e ∙ sym (eq-eqb n m (sym (eqb-true m n e))))
     (λ e. split (eqb n m) (λ f. eq-eqb m n (sym (eqb-true n m f)) ∙ sym f) (λ f. e ∙ sym f))
 
-and-left : (a b c : Bool) → (a && (b && c)) ≡ (b && (a && c))
+pub and-left : (a b c : Bool) → (a && (b && c)) ≡ (b && (a && c))
 and-left true b c = refl
 and-left false true c = refl
 and-left false false c = refl

@@ -2,9 +2,9 @@
 use Prim.Native.Nat.{ℕ, zero, suc, _*_, _^_, _≤_}
 use mathlib.Core.Path.{_≡_}
 use mathlib.Core.Bool.{Bool, true, cond, _&&_, _||_}
-use mathlib.Core.List.{List}
+use mathlib.Core.List.{List, [], _∷_}
 use lib.Dec.{ltb, leb, eqb}
-use lib.ListN.{getD, length}
+use lib.ListN.{getD, drop, length}
 use Rattle.records.specs.Records.{records, ascending}
 use Rattle.demand.specs.declared.peer_demand.PeerDemand.{PeerDemand}
 use Rattle.demand.specs.PeerLists.{all, any, those}
@@ -65,6 +65,28 @@ areKeys w least bound ps rs =
     leb (length rs) (maxPeers * bound)
     && (all (areKeyWords w) rs && (ascending 2 rs && (areNamed least ps rs && areWithin bound ps rs)))
 
+-- where the peers ascend, the same in one pass: each peer has a run of keys, and the runs follow one another as the peers do
+
+-- a valid key of the peer with the id, whose second word is `low` or more
+unfoldable pub isKeyOf : ℕ → ℕ → ℕ → List ℕ → Bool
+isKeyOf w id low r = eqb (firstWord r) id && (leb low (getD r 1 0) && areKeyWords w r)
+
+-- how many records, from the first on, are such keys, each above the one before it
+unfoldable pub runLength : ℕ → ℕ → ℕ → List (List ℕ) → ℕ
+runLength w id low [] = 0
+runLength w id low (r ∷ rs) = cond (isKeyOf w id low r) (suc (runLength w id (suc (getD r 1 0)) rs)) 0
+
+-- a peer with this snapshot flag may have so many keys
+unfoldable pub isRun : ℕ → ℕ → ℕ → ℕ → Bool
+isRun least bound flag count = eqb count 0 || (leb count bound && leb least flag)
+
+-- the records are such a run for each peer, and no more
+unfoldable pub areRuns : ℕ → ℕ → ℕ → List (List ℕ) → List (List ℕ) → Bool
+areRuns w least bound [] rs = eqb (length rs) 0
+areRuns w least bound (p ∷ ps) rs =
+    isRun least bound (getD p 3 0) (runLength w (firstWord p) 0 rs)
+    && areRuns w least bound ps (drop (runLength w (firstWord p) 0 rs) rs)
+
 -- a snapshot key's peer has a snapshot, a contested key's peer a record
 unfoldable pub isScanned : PeerDemand → PeerTables → Bool
 isScanned p t =
@@ -72,7 +94,7 @@ isScanned p t =
     && (areKeys 4 1 maxDemandKeys (records 12 (p .peers) (t .peers)) (records 4 (p .«snapshot_keys») (t .snapshotKeys))
     && areKeys 6 0 maxContested (records 12 (p .peers) (t .peers)) (records 6 (p .contested) (t .contested)))
 
--- what a search of the peers needs of their table, and a count of keys of theirs
+-- what the scan of the keys needs of the peers' table, and of the keys'
 pub record PeersReady (p : ℕ) (xs : List ℕ) : Type 0 where
   pub few : p ≤ maxPeers
   pub fit : p * 12 ≤ length xs

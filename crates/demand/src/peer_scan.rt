@@ -3,15 +3,14 @@
 use crate::peer_demand::MAX_PEERS;
 use crate::peer_demand::PEER_WORDS;
 ghost use mathlib.Core.Path.{_≡_};
-ghost use mathlib.Core.Bool.{true};
 ghost use mathlib.Core.List.{List};
-ghost use Prim.Native.Nat.{ℕ, _+_, _-_, _*_, _≤_, _<_};
+ghost use Prim.Native.Nat.{ℕ, suc, _+_, _-_, _*_, _≤_};
 ghost use lib.ListN.{length, getD, drop};
-ghost use Rattle.records.specs.Records.{records, ascending};
-ghost use Rattle.demand.specs.PeerLists.{all, those};
+ghost use Rattle.records.specs.Records.{records};
+ghost use Rattle.demand.specs.PeerLists.{all};
 ghost use Rattle.demand.specs.PeerScan.{isTime, isSnapshot, isPastEpoch, isPast, isPeer, arePeerWords};
-ghost use Rattle.demand.specs.PeerScan.{areKeyWords, firstWord, isNamed, areNamed, areWithin, arePeers};
-ghost use Rattle.demand.specs.PeerScan.{areKeys, PeersReady, KeysReady};
+ghost use Rattle.demand.specs.PeerScan.{areKeyWords, isKeyOf, runLength, isRun, areRuns};
+ghost use Rattle.demand.specs.PeerScan.{arePeers, areKeys, PeersReady, KeysReady};
 
 // Whether a flag and a time are the words of a time that may be missing.
 fn is_time(flag: u64, time: u64) -> bool
@@ -157,93 +156,88 @@ fn are_all_peer_words(t: &[u64], n: usize) -> bool
     true
 }
 
-// Whether the first n records are those of valid keys.
-fn are_all_key_words(t: &[u64], w: usize, n: usize) -> bool
-    requires { ⌜ KeysReady w n (now t) ⌝ }
-    ensures { λ r. ⌜ r ≡ all (areKeyWords w) (records w n (now (t .entry))) ⌝ }
+// Whether the w words at `at` are those of a valid key of the peer `id`.
+fn is_key_of(t: &[u64], at: usize, w: usize, id: u64) -> bool
+    requires { ⌜ (4 ≤ w) × (at + w ≤ length (now t)) ⌝ }
+    ensures { λ r. ⌜ r ≡ isKeyOf w id 0 (drop at (now (t .entry))) ⌝ }
 {
-    let mut i = 0;
+    if t[at] != id {
+        return false;
+    }
+    are_key_words(t, at, w)
+}
+
+// The same where the key is also above that of the record before it.
+fn is_next_key_of(t: &[u64], at: usize, w: usize, id: u64) -> bool
+    requires { ⌜ (4 ≤ w) × (w ≤ at) × (at + w ≤ length (now t)) ⌝ }
+    ensures { λ r. ⌜ r ≡ isKeyOf w id (suc (getD (now (t .entry)) (at - w + 1) 0)) (drop at (now (t .entry))) ⌝ }
+{
+    if t[at + 1] <= t[at - w + 1] {
+        return false;
+    }
+    is_key_of(t, at, w, id)
+}
+
+// The end of the run of the peer's keys that begins at record `from`.
+fn run_end(t: &[u64], w: usize, n: usize, from: usize, id: u64) -> usize
+    requires { ⌜ KeysReady w n (now t) ⌝ }
+    requires { ⌜ from ≤ n ⌝ }
+    ensures { λ r. ⌜ r ≡ from + runLength w id 0 (drop from (records w n (now (t .entry)))) ⌝ }
+{
+    if n <= from {
+        return from;
+    }
+    if !is_key_of(t, from * w, w, id) {
+        return from;
+    }
+    let mut i = from + 1;
     while i < n {
-        if !are_key_words(t, i * w, w) {
-            return false;
+        if !is_next_key_of(t, i * w, w, id) {
+            return i;
         }
         i += 1;
     }
-    true
+    i
 }
 
-// Whether the peers have one of this id with a snapshot flag of `least` or more.
-fn is_named(peers: &[u64], p: usize, id: u64, least: u64) -> bool
-    requires { ⌜ PeersReady p (now peers) ⌝ }
-    ensures { λ r. ⌜ r ≡ isNamed least (records 12 p (now (peers .entry))) id ⌝ }
+// Whether a peer with this snapshot flag may have so many keys.
+fn is_run(count: usize, flag: u64, least: u64, bound: usize) -> bool
+    ensures { λ r. ⌜ r ≡ isRun least bound flag count ⌝ }
 {
-    match records::find(peers, PEER_WORDS, 1, p, id, 0) {
-        records::Found::At(i) => least <= peers[i * PEER_WORDS + 3],
-        records::Found::Gap(i) => false,
-        records::Found::Unfit => false,
+    if count == 0 {
+        return true;
     }
+    if bound < count {
+        return false;
+    }
+    least <= flag
 }
 
-// The same for the first word at `at`, where that of the record before it is named so.
-fn is_named_at(t: &[u64], w: usize, at: usize, peers: &[u64], p: usize, least: u64) -> bool
-    requires { ⌜ PeersReady p (now peers) ⌝ }
-    requires { ⌜ at < length (now t) ⌝ }
-    requires { ⌜ (w ≤ at → isNamed least (records 12 p (now peers)) (getD (now t) (at - w) 0) ≡ true) ⌝ }
-    ensures { λ r. ⌜ r ≡ isNamed least (records 12 p (now (peers .entry))) (getD (now (t .entry)) at 0) ⌝ }
-{
-    let id = t[at];
-    if w <= at {
-        if t[at - w] == id {
-            return true;
-        }
-    }
-    is_named(peers, p, id, least)
-}
-
-// Whether the peer of each of n keys is named so.
-fn are_named(t: &[u64], w: usize, n: usize, peers: &[u64], p: usize, least: u64) -> bool
-    requires { ⌜ PeersReady p (now peers) ⌝ }
-    requires { ⌜ KeysReady w n (now t) ⌝ }
-    ensures { λ r. ⌜ r ≡ areNamed least (records 12 p (now (peers .entry))) (records w n (now (t .entry))) ⌝ }
-{
-    let mut i = 0;
-    while i < n {
-        if !is_named_at(t, w, i * w, peers, p, least) {
-            return false;
-        }
-        i += 1;
-    }
-    true
-}
-
-// How many of n keys are those of a peer.
-fn key_count(t: &[u64], w: usize, n: usize, id: u64) -> usize
-    requires { ⌜ KeysReady w n (now t) ⌝ }
-    requires { ⌜ ascending 2 (records w n (now t)) ≡ true ⌝ }
-    ensures { λ r. ⌜ r ≡ length (those firstWord id (records w n (now (t .entry)))) ⌝ }
-{
-    match records::range(t, w, n, id) {
-        records::Span::Between(from, to) => to - from,
-        records::Span::NoSpan => 0,
-    }
-}
-
-// Whether no peer has more than `bound` of n keys.
-fn are_within(t: &[u64], w: usize, n: usize, peers: &[u64], p: usize, bound: usize) -> bool
+// Whether the first n records are a run of keys for each peer, in the order of the peers.
+fn are_runs(
+    t: &[u64],
+    w: usize,
+    n: usize,
+    peers: &[u64],
+    p: usize,
+    least: u64,
+    bound: usize,
+) -> bool
     requires { ⌜ p * 12 ≤ length (now peers) ⌝ }
     requires { ⌜ KeysReady w n (now t) ⌝ }
-    requires { ⌜ ascending 2 (records w n (now t)) ≡ true ⌝ }
-    ensures { λ r. ⌜ r ≡ areWithin bound (records 12 p (now (peers .entry))) (records w n (now (t .entry))) ⌝ }
+    ensures { λ r. ⌜ r ≡ areRuns w least bound (records 12 p (now (peers .entry))) (records w n (now (t .entry))) ⌝ }
 {
+    let mut from = 0;
     let mut i = 0;
     while i < p {
-        let id = peers[i * PEER_WORDS];
-        if bound < key_count(t, w, n, id) {
+        let to = run_end(t, w, n, from, peers[i * PEER_WORDS]);
+        if !is_run(to - from, peers[i * PEER_WORDS + 3], least, bound) {
             return false;
         }
+        from = to;
         i += 1;
     }
-    true
+    from == n
 }
 
 // Whether the first n records are those of 32 valid peers at most, in their order.
@@ -278,14 +272,5 @@ pub(crate) fn are_keys(
     if MAX_PEERS * bound < n {
         return false;
     }
-    if !are_all_key_words(t, w, n) {
-        return false;
-    }
-    if !records::is_ascending(t, w, 2, n) {
-        return false;
-    }
-    if !are_named(t, w, n, peers, p, least) {
-        return false;
-    }
-    are_within(t, w, n, peers, p, bound)
+    are_runs(t, w, n, peers, p, least, bound)
 }
