@@ -1,5 +1,5 @@
 -- What an update keeps, whatever its arguments: a hot set that passes its questions passes them again, it never holds more keys than its
--- size, and the answer says whether the key is in it. And 01's points of an eviction.
+-- size, and the answer says whether the key is in it.
 use mathlib.Core.Path.{_≡_, refl, sym, ap, _∙_, subst}
 use mathlib.Core.Bool.{Bool, true, false, cond, _||_}
 use mathlib.Core.List.{List, [], _∷_, map}
@@ -8,13 +8,13 @@ use Prim.Native.Nat.{ℕ, _-_, _*_, _≤_}
 use native.Mathlib.Omega.{arith}
 use borrow.Author.Tests.{ltb-true, leb-true, le-leb, eqb-true}
 use lib.Dec.{T, ltb, leb, eqb}
-use lib.Ieee.{Float, binary64, ofBits, fits, lt, mul}
+use lib.Ieee.{Float, binary64, fits, lt, mul}
 use lib.ListN.{length}
 use Rattle.float.specs.Magnitude.{magnitude}
 use Rattle.records.specs.Records.{records, table, ascending}
 use Rattle.records.proofs.TestLaws.{split, both, and-intro}
 use Rattle.gcra.specs.Questions.{Question, given, refused, answer, passes}
-use Rattle.demand.specs.HotSet.{words, entries, allEntries, validEntries, validSize, valid, get, put, remove, weakestOf, weakest, Outcome, hotWith, coldWith, newEntry, renewed, evict, admit, promoteFrom, promote, cooled, coolFrom, cool, settle, belowThreshold, updateWith, there, isHot}
+use Rattle.demand.specs.HotSet.{words, entries, allEntries, validEntries, validSize, valid, get, put, remove, weakest, Outcome, hotWith, coldWith, newEntry, renewed, evict, admit, promoteFrom, promote, cooled, coolFrom, cool, settle, belowThreshold, updateWith, there, isHot}
 use Rattle.demand.specs.HotSetCalls.{room, askNew, askSet, askUpdate, evictionMargin, held, newAnswer, updateAnswer, updated, rewritten, MadeNew, UpdatedWith}
 use Rattle.demand.specs.declared.hot_set.HotEntry.{HotEntry}
 use Rattle.demand.specs.declared.hot_set.HotSet.{HotSet}
@@ -216,32 +216,3 @@ new-passes xs cooldown size r s c e =
     let q = both (validSize size) _ (p .1) in
     subst (λ (t : HotSet). (passes (askSet t xs) ≡ true) × (held t xs ≡ [])) (sym (w .1))
     (and-intro _ _ (p .0) (and-intro _ _ (and-intro _ _ (q .0) (and-intro _ _ (le-leb 0 size (omega arith)) refl)) refl), refl)
-
--- ---- 01: 'least 10, newcomer 11: no (10 × 1.1 is 11); 11.5: yes', in a full set of one
-abbrev pub ten : Float
-ten = ofBits binary64 0x4024000000000000
-
-abbrev pub eleven : Float
-eleven = ofBits binary64 0x4026000000000000
-
-abbrev pub eleven-and-a-half : Float
-eleven-and-a-half = ofBits binary64 0x4027000000000000
-
--- the one key of a full set
-abbrev pub only : HotEntry
-only = newEntry 1 ten true 0
-
-abbrev pub full : HotSet
-full = record { cooldown = 0; «max_size» = 1; len = 1 }
-
-pub ten-by-margin : mul binary64 ten evictionMargin ≡ eleven
-unfolding ofBits mul
-ten-by-margin = refl
-
-pub eleven-stays-out : (now : ℕ) (elsewhere : Bool) → updateWith evictionMargin full 2 eleven ten now elsewhere (only ∷ []) ≡ coldWith (only ∷ [])
-unfolding ofBits mul lt updateWith promote promoteFrom get admit evict weakest weakestOf
-eleven-stays-out now elsewhere = refl
-
-pub eleven-and-a-half-comes-in : (now : ℕ) (elsewhere : Bool) → updateWith evictionMargin full 2 eleven-and-a-half ten now elsewhere (only ∷ []) ≡ hotWith (newEntry 2 eleven-and-a-half true now ∷ [])
-unfolding ofBits mul lt updateWith promote promoteFrom get admit evict weakest weakestOf put remove
-eleven-and-a-half-comes-in now elsewhere = refl
