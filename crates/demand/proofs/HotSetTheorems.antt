@@ -13,7 +13,8 @@ use lib.ListN.{length}
 use Rattle.float.specs.Magnitude.{magnitude}
 use Rattle.records.specs.Records.{records, table, ascending}
 use Rattle.records.proofs.TestLaws.{split, both, and-intro}
-use Rattle.gcra.specs.Questions.{Question, given, refused, answer, passes}
+use Rattle.gcra.specs.Questions.{given, passes}
+use Rattle.gcra.proofs.Answers.{given-passed}
 use Rattle.demand.specs.HotSet.{words, entries, allEntries, validEntries, validSize, valid, get, put, remove, weakest, Outcome, hotWith, coldWith, newEntry, renewed, evict, admit, promoteFrom, promote, cooled, coolFrom, cool, settle, belowThreshold, updateWith, there, isHot}
 use Rattle.demand.specs.HotSetCalls.{room, askNew, askSet, askUpdate, evictionMargin, held, newAnswer, updateAnswer, updated, rewritten, MadeNew, UpdatedWith}
 use Rattle.demand.specs.declared.hot_set.HotEntry.{HotEntry}
@@ -135,14 +136,6 @@ kept-update margin s key demand threshold now elsewhere f m es a g l = by-test (
     (λ t. kept-below margin (s .«max_size») key demand now f m es a g l (s .cooldown) elsewhere)
 
 -- ---- the same of the calls
-
--- a value is given only where every question was passed
-given-passed : {A : Type 0} (qs : List Question) (u v : A) → given u ≡ answer qs v → (passes qs ≡ true) × (u ≡ v)
-unfolding answer passes
-given-passed [] u v e = (refl, cc)
-given-passed (q ∷ qs) u v e = split (q .passed)
-    (λ p. let r = given-passed qs u v (rw p at e) in (rw p (r .0), r .1))
-    (λ p. let w : given u ≡ refused (q .number) = rw p at e in let z : _≡_ {A = ℕ} 0 1 = cc in absurd (omega arith))
 
 -- entries as they should be, written in the words of a set, pass the questions
 pub passes-table : (s : HotSet) (xs : List ℕ) (es : List HotEntry) → validSize (s .«max_size») ≡ true → room (s .«max_size») ≤ length xs → s .len ≡ length es → length es ≤ s .«max_size» → Asc es → Goods es → passes (askSet s (table (map words es) xs)) ≡ true

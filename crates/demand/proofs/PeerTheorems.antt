@@ -4,13 +4,12 @@ use Prim.Native.Nat.{ℕ}
 use mathlib.Core.Path.{_≡_, refl, sym, ap, _∙_, subst}
 use mathlib.Core.Bool.{Bool, true, _&&_}
 use mathlib.Core.List.{List, [], _∷_, map}
-use native.Mathlib.Omega.{arith}
 use lib.Dec.{leb}
 use Rattle.records.specs.Records.{records, same, ascending}
 use Rattle.records.proofs.OrderLaws.{eq-same}
 use Rattle.records.proofs.TestLaws.{split, both, and-intro}
-use Rattle.gcra.specs.Questions.{Question, passes, given, refused}
-use Rattle.gcra.proofs.Answers.{alone-no, alone-yes, none-passed}
+use Rattle.gcra.specs.Questions.{Question, passes, given}
+use Rattle.gcra.proofs.Answers.{given-passed, none-passed}
 use Rattle.demand.specs.declared.peer_demand.DemandReport.{DemandReport}
 use Rattle.demand.specs.declared.peer_demand.PeerDemand.{PeerDemand}
 use Rattle.demand.specs.declared.peer_demand.PeersChanged.{PeersChanged}
@@ -19,7 +18,7 @@ use Rattle.demand.specs.PeerLists.{all}
 use Rattle.demand.specs.PeerRecords.{PeerRecord, peerWords, snapshotKeyWords, contestedWords, peerOf, snapshotKeyOf, contestedOf}
 use Rattle.demand.specs.PeerState.{PeersState, PeerTables, peersSize, snapshotKeysSize, contestedSize, validPeer, validSnapshotKey, validContested, valid, validPeers, validSnapshotKeys, validContesteds, haveRoom, stateOf, exact, areExact, isValid, Stores}
 use Rattle.demand.specs.PeerChanges as changes
-use Rattle.demand.specs.PeerCalls.{Widths, fitsWidths, peersAnswer, peersQuestions, reportQuestions, Changes, IsNew, Applies, Forgets, Leaves, Expires}
+use Rattle.demand.specs.PeerCalls.{Widths, fitsWidths, peersAnswer, newQuestions, peersQuestions, reportQuestions, Changes, IsNew, Applies, Forgets, Leaves, Expires}
 use Rattle.demand.specs.PeerSteps.{Valid}
 use Rattle.demand.proofs.PeerWordLaws.{peer-of-words, snapshot-key-of-words, contested-of-words}
 use Rattle.demand.proofs.PeerCallLaws.{valid-passes, passes-valid}
@@ -117,13 +116,8 @@ none-valid : (t : PeerTables) → isValid none t ≡ true
 unfolding isValid areExact stateOf records valid validPeers validSnapshotKeys validContesteds all ascending
 none-valid t = refl
 
-no-value : {A : Type 0} (n : ℕ) (x : A) → refused n ≡ given x → ⊥
-no-value n x e = let z : _≡_ {A = ℕ} 0 1 = cc in omega arith
-
 pub new-passes : (t : PeerTables) (r : PeersAnswer) (p : PeerDemand) → IsNew t r → peersAnswer r ≡ given p → passes (peersQuestions p t) ≡ true
-new-passes t r p c e = split (haveRoom t)
-    (λ h.
-    let z : given none ≡ given p = alone-yes 1 none h ∙ sym c ∙ e in
-    let q : none ≡ p = cc in
-    subst (λ (x : PeerDemand). passes (peersQuestions x t) ≡ true) q (valid-passes none t (record { room = h; state = none-valid t })))
-    (λ h. absurd (no-value 1 p (alone-no 1 none h ∙ sym c ∙ e)))
+unfolding passes
+new-passes t r p c e =
+    let w = given-passed (newQuestions t) p none (sym e ∙ c) in
+    subst (λ (x : PeerDemand). passes (peersQuestions x t) ≡ true) (sym (w .1)) (valid-passes none t (record { room = both (haveRoom t) true (w .0) .0; state = none-valid t }))

@@ -110,3 +110,11 @@ pub none-passed : (qs : List Question) → passes qs ≡ true → firstNo qs ≡
 unfolding passes firstNo
 none-passed [] e = refl
 none-passed (q ∷ qs) e = let b = and-both (q .passed) _ e in rw (b .0) (none-passed qs (b .1))
+
+-- a value is given only where every question was passed
+pub given-passed : {A : Type 0} (qs : List Question) (u v : A) → given u ≡ answer qs v → (passes qs ≡ true) × (u ≡ v)
+unfolding answer passes
+given-passed [] u v e = (refl, cc)
+given-passed (q ∷ qs) u v e = split (q .passed)
+    (λ p. let r = given-passed qs u v (rw p at e) in (rw p (r .0), r .1))
+    (λ p. let w : given u ≡ refused (q .number) = rw p at e in let z : _≡_ {A = ℕ} 0 1 = cc in absurd (omega arith))
