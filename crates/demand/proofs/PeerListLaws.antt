@@ -122,21 +122,6 @@ module _ {A : Type 0} (p : A → Bool) (d : A) where
       ap (λ (b : Bool). first (cond b (x ∷ only p xs) (only p xs))) (h 0 (suc-le-suc zero-le))
       ∙ first-pass xs i (le-of-suc-le-suc l) (λ j m. h (suc j) (suc-le-suc m)) e
 
-  pub any-pass : (xs : List A) (i : ℕ) → i < length xs → p (getD xs i d) ≡ true → any p xs ≡ true
-  unfolding any
-  any-pass [] i l e = absurd (not-suc-le-zero l)
-  any-pass (x ∷ xs) zero l e = ap (λ (b : Bool). b || any p xs) e
-  any-pass (x ∷ xs) (suc i) l e = or-second (p x) (any p xs) (any-pass xs i (le-of-suc-le-suc l) e)
-    where
-      or-second : (a b : Bool) → b ≡ true → (a || b) ≡ true
-      or-second true b e = refl
-      or-second false b e = e
-
-  pub none-any : (xs : List A) → ((i : ℕ) → i < length xs → p (getD xs i d) ≡ false) → any p xs ≡ false
-  unfolding any
-  none-any [] h = refl
-  none-any (x ∷ xs) h = (λ k. h 0 (suc-le-suc zero-le) k || none-any xs (λ i l. h (suc i) (suc-le-suc l)) k)
-
 -- one passes where there is a first that does
 pub any-only : {A : Type 0} (p : A → Bool) (xs : List A) → any p xs ≡ present (first (only p xs))
 unfolding any only

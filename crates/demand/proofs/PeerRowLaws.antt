@@ -1,6 +1,6 @@
 -- The records of a table by the words at their places, and a scan of them record by record.
-use Prim.Native.Nat.{ℕ, suc, _+_, _-_, _*_, _^_, _≤_, _<_}
-use mathlib.Core.Path.{_≡_, refl, sym, ap, _∙_}
+use Prim.Native.Nat.{ℕ, suc, _+_, _*_, _^_, _≤_, _<_}
+use mathlib.Core.Path.{_≡_, sym, ap, _∙_}
 use mathlib.Core.Bool.{Bool, true, false, _&&_, _||_}
 use mathlib.Core.List.{List, [], _∷_}
 use native.Mathlib.Nat.{add-zero}
@@ -12,21 +12,16 @@ use lib.ListN.{length, take, drop, getD}
 use lib.Seq.{getD-take, getD-drop}
 use Rattle.records.specs.declared.Found.{Found}
 use Rattle.records.specs.declared.Found.the-variants.{Unfit}
-use Rattle.records.specs.declared.Span.{Span}
-use Rattle.records.specs.declared.Span.the-variants.{Between, NoSpan}
-use Rattle.records.specs.Records.{records, keyed, ascending, lowerBound, find, findIn, rangeIn}
+use Rattle.records.specs.Records.{records, keyed, find, findIn}
 use Rattle.records.proofs.TestLaws.{split}
 use Rattle.records.proofs.RecordLaws.{length-records, record-at, fits-intro}
 use Rattle.records.proofs.OrderLaws.{keyed-is}
-use Rattle.records.proofs.SearchLaws.{find-fit, range-is}
+use Rattle.records.proofs.SearchLaws.{find-fit}
 use Rattle.records.proofs.PlaceLaws.{find-cases}
-use Rattle.records.proofs.TableLaws.{wide-records}
-use Rattle.demand.specs.PeerLists.{all, those}
+use Rattle.demand.specs.PeerLists.{all}
 use Rattle.demand.specs.PeerState.{isDemand}
-use Rattle.demand.specs.PeerScan.{isPeer, arePeerWords, areKeyWords, firstWord, KeysReady}
+use Rattle.demand.specs.PeerScan.{isPeer, arePeerWords, areKeyWords, firstWord}
 use Rattle.demand.proofs.PeerListLaws.{all-here, all-end}
-use Rattle.demand.proofs.PeerRangeLaws.{range-ordered}
-use Rattle.demand.proofs.PeerFindLaws.{range-count}
 
 -- word j of record i
 pub word-at : (w n : ℕ) (xs : List ℕ) (i j : ℕ) → i < n → j < w → getD (getD (records w n xs) i []) j 0 ≡ getD xs (i * w + j) 0
@@ -86,30 +81,3 @@ module _ (w d n a b : ℕ) (xs : List ℕ) (some-words : 1 ≤ d) (two-words : d
 
   pub never-unfit : (r : Found) → r ≡ findIn w d n a b xs → r ≡ Unfit → ⊥
   never-unfit r e f = find-not-unfit d (take d (a ∷ b ∷ [])) (records w n xs) (find-says r e ∙ f)
-
--- how many keys are those of a peer
-between-parts : (lo hi from to : ℕ) → Between lo hi ≡ Between from to → (from ≡ lo) × (to ≡ hi)
-between-parts lo hi from to e = (let p : from ≡ lo = cc in p, let p : to ≡ hi = cc in p)
-
-module _ (w n a : ℕ) (xs : List ℕ) (ready : KeysReady w n xs) (asc : ascending 2 (records w n xs) ≡ true) (r : Span) (e : r ≡ rangeIn w n a xs) where
-  abbrev lo : ℕ
-  lo = lowerBound 1 (a ∷ []) (records w n xs)
-
-  abbrev hi : ℕ
-  hi = lowerBound 1 ((a + 1) ∷ []) (records w n xs)
-
-  is-range : Between lo hi ≡ r
-  is-range = range-is w n a lo hi xs (fits-intro (length xs) w n (omega (arith, ready .wide)) (ready .fit)) refl refl ∙ sym e
-
-  pub span-ordered : (from to : ℕ) → r ≡ Between from to → from ≤ to
-  span-ordered from to f =
-      let p = between-parts lo hi from to (is-range ∙ f) in
-      omega (arith, p .0, p .1, range-ordered 2 w a (records w n xs) (omega arith) (omega (arith, ready .wide)) (wide-records w n xs (ready .fit)) asc)
-
-  pub span-counts : (from to : ℕ) → r ≡ Between from to → to - from ≡ length (those firstWord a (records w n xs))
-  span-counts from to f =
-      let p = between-parts lo hi from to (is-range ∙ f) in
-      omega (arith, p .0, p .1, range-count 2 w a (records w n xs) (omega arith) (omega (arith, ready .wide)) (wide-records w n xs (ready .fit)) asc)
-
-  pub never-no-span : r ≡ NoSpan → ⊥
-  never-no-span f = let g : Between lo hi ≡ NoSpan = is-range ∙ f in let z : _≡_ {A = ℕ} 0 1 = cc in omega arith

@@ -3,8 +3,7 @@
 use crate::peer_demand::MAX_PEERS;
 use crate::peer_demand::PEER_WORDS;
 ghost use mathlib.Core.Path.{_≡_};
-ghost use mathlib.Core.List.{List};
-ghost use Prim.Native.Nat.{ℕ, suc, _+_, _-_, _*_, _≤_};
+ghost use Prim.Native.Nat.{suc, _+_, _-_, _*_, _≤_};
 ghost use lib.ListN.{length, getD, drop};
 ghost use Rattle.records.specs.Records.{records};
 ghost use Rattle.demand.specs.PeerLists.{all};
@@ -181,7 +180,6 @@ fn is_next_key_of(t: &[u64], at: usize, w: usize, id: u64) -> bool
 // The end of the run of the peer's keys that begins at record `from`.
 fn run_end(t: &[u64], w: usize, n: usize, from: usize, id: u64) -> usize
     requires { ⌜ KeysReady w n (now t) ⌝ }
-    requires { ⌜ from ≤ n ⌝ }
     ensures { λ r. ⌜ r ≡ from + runLength w id 0 (drop from (records w n (now (t .entry)))) ⌝ }
 {
     if n <= from {

@@ -1,6 +1,6 @@
 -- `are_runs` meets its contract.
 use Prim.Native.Nat.{_+_, _-_, _*_, _≤_, zero-le}
-use mathlib.Core.Path.{_≡_, refl, sym, _∙_}
+use mathlib.Core.Path.{refl, sym, _∙_}
 use native.Mathlib.Omega.{arith}
 use lib.ListN.{length}
 use borrow.Author.Tests.{not-true, not-false}
@@ -41,7 +41,7 @@ shared-slice-read-run-end : tie.Need-shared-slice-read-run-end Inv-loop μ-loop
 shared-slice-read-run-end c = omega (arith, inside (c .before))
 
 run-end-requires : tie.Need-run-end-requires Inv-loop μ-loop
-run-end-requires c κs = (start (c .before) .pre .1, c .before .before .loop .inv .within)
+run-end-requires c κs = start (c .before) .pre .1
 
 sub-is-run : tie.Need-sub-is-run Inv-loop μ-loop
 sub-is-run c = ran c .0

@@ -1,6 +1,6 @@
 -- `run_end` meets its contract.
 use Prim.Native.Nat.{_+_, _-_, _*_, _≤_}
-use mathlib.Core.Path.{_≡_, sym, _∙_}
+use mathlib.Core.Path.{sym, _∙_}
 use native.Mathlib.Omega.{arith}
 use lib.ListN.{length}
 use borrow.Author.Tests.{not-true, not-false}
@@ -19,30 +19,30 @@ abbrev μ-loop : tie.MeasureT-loop
 first-inside : (c : tie.Else1 Inv-loop μ-loop) → let s = c .before .before .args in s .from * s .w + s .w ≤ length (s .t .now)
 first-inside c =
     let st = c .before .before in
-    omega (arith, row (st .args .w) (st .args .n) (st .args .from) (c .if1 .left), st .pre .0 .fit)
+    omega (arith, row (st .args .w) (st .args .n) (st .args .from) (c .if1 .left), st .pre .fit)
 
 inside : (c : tie.In-loop Inv-loop μ-loop) → let s = c .before .before .before .before .before .before .args in (s .w ≤ c .before .loop .i * s .w) × (c .before .loop .i * s .w + s .w ≤ length (s .t .now))
 inside c =
     let st = c .before .before .before .before .before .before in
     let w = st .args .w in
-    (omega (arith, row w (c .before .loop .i) (st .args .from) (c .before .loop .inv .begun)), omega (arith, row w (st .args .n) (c .before .loop .i) (c .loop-test .taken), st .pre .0 .fit))
+    (omega (arith, row w (c .before .loop .i) (st .args .from) (c .before .loop .inv .begun)), omega (arith, row w (st .args .n) (c .before .loop .i) (c .loop-test .taken), st .pre .fit))
 
 returns : tie.Need-returns Inv-loop μ-loop
 returns c =
     let st = c .before .before in
-    run-out (st .args .w) (st .args .n) (st .args .id) (st .args .from) (st .args .t .now) (st .pre .0 .wide) (c .if1 .taken)
+    run-out (st .args .w) (st .args .n) (st .args .id) (st .args .from) (st .args .t .now) (st .pre .wide) (c .if1 .taken)
 
 mul-is-key-of : tie.Need-mul-is-key-of Inv-loop μ-loop
 mul-is-key-of c = omega (arith, first-inside c)
 
 is-key-of-requires : tie.Need-is-key-of-requires Inv-loop μ-loop
-is-key-of-requires c κs = (c .before .before .pre .0 .wide, first-inside c)
+is-key-of-requires c κs = (c .before .before .pre .wide, first-inside c)
 
 returns-2 : tie.Need-returns-2 Inv-loop μ-loop
 returns-2 c =
     let a = c .before in
     let st = a .before .before .before in
-    run-none (st .args .w) (st .args .n) (st .args .id) (st .args .from) (st .args .t .now) (st .pre .0 .wide) (a .before .if1 .left) (sym (a .is-key-of .ensures) ∙ not-true (a .is-key-of .result) (c .if2 .taken))
+    run-none (st .args .w) (st .args .n) (st .args .id) (st .args .from) (st .args .t .now) (st .pre .wide) (a .before .if1 .left) (sym (a .is-key-of .ensures) ∙ not-true (a .is-key-of .result) (c .if2 .taken))
 
 add-i : tie.Need-add-i Inv-loop μ-loop
 add-i c = omega (arith, c .before .before .if1 .left)
@@ -51,20 +51,20 @@ loop-holds : tie.Need-loop-holds Inv-loop μ-loop
 loop-holds c =
     let a = c .before in
     let st = a .before .before .before in
-    run-begins (st .args .w) (st .args .n) (st .args .id) (st .args .from) (st .args .t .now) (st .pre .0 .wide) (a .before .if1 .left) (sym (a .is-key-of .ensures) ∙ not-false (a .is-key-of .result) (c .if2 .left))
+    run-begins (st .args .w) (st .args .n) (st .args .id) (st .args .from) (st .args .t .now) (st .pre .wide) (a .before .if1 .left) (sym (a .is-key-of .ensures) ∙ not-false (a .is-key-of .result) (c .if2 .left))
 
 mul-is-next-key-of : tie.Need-mul-is-next-key-of Inv-loop μ-loop
 mul-is-next-key-of c = omega (arith, inside c)
 
 is-next-key-of-requires : tie.Need-is-next-key-of-requires Inv-loop μ-loop
-is-next-key-of-requires c κs = (c .before .before .before .before .before .before .pre .0 .wide, inside c .0, inside c .1)
+is-next-key-of-requires c κs = (c .before .before .before .before .before .before .pre .wide, inside c .0, inside c .1)
 
 returns-3 : tie.Need-returns-3 Inv-loop μ-loop
 returns-3 c =
     let a = c .before in
     let l = a .before .before .loop in
     let st = a .before .before .before .before .before .before .before in
-    run-ended (st .args .w) (st .args .n) (st .args .id) (st .args .from) (st .args .t .now) (st .pre .0 .wide) (l .i) (l .inv) (a .before .loop-test .taken) (sym (a .is-next-key-of .ensures) ∙ not-true (a .is-next-key-of .result) (c .if3 .taken))
+    run-ended (st .args .w) (st .args .n) (st .args .id) (st .args .from) (st .args .t .now) (st .pre .wide) (l .i) (l .inv) (a .before .loop-test .taken) (sym (a .is-next-key-of .ensures) ∙ not-true (a .is-next-key-of .result) (c .if3 .taken))
 
 add-i-2 : tie.Need-add-i-2 Inv-loop μ-loop
 add-i-2 c = omega (arith, c .before .before .loop-test .taken)
@@ -77,13 +77,13 @@ loop-again c =
     let a = c .before in
     let l = a .before .before .loop in
     let st = a .before .before .before .before .before .before .before in
-    run-next (st .args .w) (st .args .n) (st .args .id) (st .args .from) (st .args .t .now) (st .pre .0 .wide) (l .i) (l .inv) (a .before .loop-test .taken) (sym (a .is-next-key-of .ensures) ∙ not-false (a .is-next-key-of .result) (c .if3 .left))
+    run-next (st .args .w) (st .args .n) (st .args .id) (st .args .from) (st .args .t .now) (st .pre .wide) (l .i) (l .inv) (a .before .loop-test .taken) (sym (a .is-next-key-of .ensures) ∙ not-false (a .is-next-key-of .result) (c .if3 .left))
 
 returns-4 : tie.Need-returns-4 Inv-loop μ-loop
 returns-4 c =
     let l = c .before .loop in
     let st = c .before .before .before .before .before .before in
-    run-full (st .args .w) (st .args .n) (st .args .id) (st .args .from) (st .args .t .now) (st .pre .0 .wide) (l .i) (l .inv) (c .loop-test .left)
+    run-full (st .args .w) (st .args .n) (st .args .id) (st .args .from) (st .args .t .now) (st .pre .wide) (l .i) (l .inv) (c .loop-test .left)
 
 pub run-end-spec : {M : Type 1} → statement M
 run-end-spec =
