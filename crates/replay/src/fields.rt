@@ -1,25 +1,54 @@
-// The fields of a line: its name and arguments, parted by single spaces.
+// The fields of a line, parted by single spaces, and their kinds, a letter each:
+//   u, i, h   a whole number that 64, 32 or 16 bits hold
+//   c, b      a count of listed keys; yes or no, as 1 and 0
+//   d, f      an f64 or an f32 by its bits, in hexadecimal digits
+//   o         a whole number or `none`; the fields of this kind are all `none` or none is
 ghost use Prim.Native.Nat.{_≤_};
 ghost use lib.ListN.{length};
+use text::Number;
 
-// A place among the fields. The next field starts at `at`, past the line's end where none is left;
-// `good`: each field so far was of the kind wanted; `value`: what the last one holds, and `none`:
-// that it was the word for a missing value.
-pub(crate) struct Fields {
-    pub(crate) at: usize,
+// The arguments of a call, if they are good. The next field of the line starts at `next`, past the
+// line's end where none is left.
+pub(crate) struct Args {
     pub(crate) good: bool,
-    pub(crate) value: u64,
+    pub(crate) next: usize,
     pub(crate) none: bool,
+    pub(crate) first: u64,
+    pub(crate) second: u64,
+    pub(crate) third: u64,
+    pub(crate) fourth: u64,
+    pub(crate) fifth: u64,
+    pub(crate) sixth: u64,
 }
 
-// A field is bytes start..end of the line.
-struct Field {
-    start: usize,
-    end: usize,
+// What a field holds; `Given` is a number that might have been `none`.
+enum Field {
+    Value(u64),
+    Given(u64),
+    Missing,
+    Unfit,
+}
+
+// How far the fields are read: the next one starts at `at`, `value` is what the last one holds, and
+// `given` and `none` say whether one so far was a number that might be missing, or was missing.
+struct Cursor {
+    at: usize,
     good: bool,
+    value: u64,
+    given: bool,
+    none: bool,
 }
 
-fn same(a: &[u8], b: &[u8]) -> bool {
+// The low bits: all of a number that was read with that bound.
+pub(crate) fn low32(n: u64) -> u32 {
+    (n % 0x1_0000_0000) as u32
+}
+
+pub(crate) fn low16(n: u64) -> u16 {
+    (n % 0x1_0000) as u16
+}
+
+pub(crate) fn same(a: &[u8], b: &[u8]) -> bool {
     if a.len() != b.len() {
         return false;
     }
@@ -34,93 +63,140 @@ fn same(a: &[u8], b: &[u8]) -> bool {
 }
 
 // The end of the field that starts at `at`.
-fn field_end(line: &[u8], at: usize) -> usize
+pub(crate) fn end_of(line: &[u8], at: usize) -> usize
     requires { ⌜ at ≤ length (now line) ⌝ }
     ensures { λ r. ⌜ (at ≤ r) × (r ≤ length (now (line .entry))) ⌝ }
 {
     at + text::index_of(&line[at..], b' ')
 }
 
-// The field that comes next; not a good one where none is left.
-fn next_field(line: &[u8], f: Fields) -> Field
-    ensures { λ r. ⌜ (r .start ≤ r .end) × (r .end ≤ length (now (line .entry))) ⌝ }
-{
-    let at = f.at;
-    if line.len() < at {
-        return Field {
-            start: 0,
-            end: 0,
+// Where the field behind one that ends there starts, past the line's end where none is left.
+pub(crate) fn behind(end: usize) -> usize {
+    if end < usize::MAX { end + 1 } else { end }
+}
+
+// The largest whole number of a kind.
+fn largest(kind: u8) -> u64 {
+    match kind {
+        b'i' => 0xffff_ffff,
+        b'h' => 0xffff,
+        b'c' => 256,
+        b'b' => 1,
+        _ => u64::MAX,
+    }
+}
+
+// The number of a field: a bit pattern has all its digits, a whole number 1 to 20.
+fn number_of(field: &[u8], kind: u8) -> Number {
+    if kind == b'd' {
+        return text::hex(field, 16);
+    }
+    if kind == b'f' {
+        return text::hex(field, 8);
+    }
+    if 20 < field.len() {
+        return Number::Unfit;
+    }
+    text::decimal(field)
+}
+
+fn field_of(field: &[u8], kind: u8) -> Field {
+    if kind == b'o' && same(field, b"none") {
+        return Field::Missing;
+    }
+    let Number::Value(n) = number_of(field, kind) else {
+        return Field::Unfit;
+    };
+    if largest(kind) < n {
+        return Field::Unfit;
+    }
+    if kind == b'o' {
+        Field::Given(n)
+    } else {
+        Field::Value(n)
+    }
+}
+
+// Past a field; the next one starts at `at`.
+fn past(c: Cursor, at: usize, field: Field) -> Cursor {
+    match field {
+        Field::Value(value) => Cursor {
+            at,
+            good: c.good,
+            value,
+            given: c.given,
+            none: c.none,
+        },
+        Field::Given(value) => Cursor {
+            at,
+            good: c.good && !c.none,
+            value,
+            given: true,
+            none: false,
+        },
+        Field::Missing => Cursor {
+            at,
+            good: c.good && !c.given,
+            value: 0,
+            given: false,
+            none: true,
+        },
+        Field::Unfit => Cursor {
+            at,
             good: false,
-        };
-    }
-    let end = field_end(line, at);
-    Field {
-        start: at,
-        end,
-        good: f.good,
+            value: 0,
+            given: false,
+            none: false,
+        },
     }
 }
 
-// Past a field that holds a number, if it does and that is no more than `most`.
-fn past(end: usize, good: bool, n: text::Number, most: u64) -> Fields {
-    match n {
-        text::Number::Value(value) => place(end, good && value <= most, value, false),
-        text::Number::Unfit => place(end, false, 0, false),
+// Past the field that comes next.
+fn past_next(line: &[u8], c: Cursor, kind: u8) -> Cursor {
+    let at = c.at;
+    if line.len() < at {
+        return past(c, at, Field::Unfit);
     }
+    let end = end_of(line, at);
+    past(c, behind(end), field_of(&line[at..end], kind))
 }
 
-// The place behind a field that ends there.
-fn place(end: usize, good: bool, value: u64, none: bool) -> Fields {
-    let at = if end < usize::MAX { end + 1 } else { end };
-    Fields {
+// Past the field of kind i, if there is such a kind.
+fn next(line: &[u8], c: Cursor, kinds: &[u8], i: usize) -> Cursor {
+    if kinds.len() <= i {
+        return c;
+    }
+    let kind = kinds[i];
+    if kind == b' ' {
+        return c;
+    }
+    past_next(line, c, kind)
+}
+
+// The fields of these kinds, at most six, from `at` on. A space ends the kinds.
+pub(crate) fn args_of(line: &[u8], at: usize, kinds: &[u8]) -> Args {
+    let start = Cursor {
         at,
-        good,
-        value,
-        none,
+        good: true,
+        value: 0,
+        given: false,
+        none: false,
+    };
+    let first = next(line, start, kinds, 0);
+    let second = next(line, first, kinds, 1);
+    let third = next(line, second, kinds, 2);
+    let fourth = next(line, third, kinds, 3);
+    let fifth = next(line, fourth, kinds, 4);
+    let sixth = next(line, fifth, kinds, 5);
+    Args {
+        good: sixth.good,
+        next: sixth.at,
+        none: sixth.none,
+        first: first.value,
+        second: second.value,
+        third: third.value,
+        fourth: fourth.value,
+        fifth: fifth.value,
+        sixth: sixth.value,
     }
-}
-
-// Whether the line's first field is this name.
-pub(crate) fn is_call(line: &[u8], name: &[u8]) -> bool {
-    let end = field_end(line, 0);
-    same(&line[..end], name)
-}
-
-// The place after a name.
-pub(crate) fn after(name: &[u8]) -> Fields {
-    place(name.len(), true, 0, false)
-}
-
-// Whether every field was good and none is left.
-pub(crate) fn are_done(line: &[u8], f: Fields) -> bool {
-    f.good && line.len() < f.at
-}
-
-// A whole number of 1 to 20 digits, up to `most`.
-pub(crate) fn whole(line: &[u8], f: Fields, most: u64) -> Fields {
-    let field = next_field(line, f);
-    let start = field.start;
-    let end = field.end;
-    let n = text::decimal(&line[start..end]);
-    past(end, field.good && end - start <= 20, n, most)
-}
-
-// A bit pattern in so many hexadecimal digits.
-pub(crate) fn bits(line: &[u8], f: Fields, digits: usize) -> Fields {
-    let field = next_field(line, f);
-    let start = field.start;
-    let end = field.end;
-    let n = text::hex(&line[start..end], digits);
-    past(end, field.good, n, u64::MAX)
-}
-
-// A whole number up to `most`, or `none`.
-pub(crate) fn optional(line: &[u8], f: Fields, most: u64) -> Fields {
-    let field = next_field(line, f);
-    let start = field.start;
-    let end = field.end;
-    if same(&line[start..end], b"none") {
-        return place(end, field.good, 0, true);
-    }
-    whole(line, f, most)
 }

@@ -1,11 +1,13 @@
 // The calls on the peers' state, which the script's calls make and change, and on rounds.
 use crate::answers;
+use crate::answers::Answer;
+use crate::answers::Value;
+use crate::calls;
 use crate::fields;
-use crate::fields::Fields;
+use crate::fields::Args;
 use demand::peer_demand::ChangeAnswer;
 use demand::peer_demand::DemandReport;
 use demand::peer_demand::FlagAnswer;
-use demand::peer_demand::Heard;
 use demand::peer_demand::HeardAnswer;
 use demand::peer_demand::KeyDemand;
 use demand::peer_demand::LenAnswer;
@@ -15,19 +17,22 @@ use demand::peer_demand::PeersAnswer;
 use demand::peer_demand::PeersChanged;
 use demand::peer_demand::RoundsAnswer;
 use demand::peer_demand::TotalAnswer;
-ghost use Prim.Native.Nat.{_≤_};
 
-// The peers' state of the script, once it is made, and where the answers end.
+// The peers' state of the script, once it is made.
 pub(crate) struct Peers {
-    pub(crate) at: usize,
     pub(crate) made: bool,
     pub(crate) value: PeerDemand,
+}
+
+// What a call that changes the peers answers, and their state after it.
+pub(crate) struct Done {
+    pub(crate) value: Value,
+    pub(crate) peers: Peers,
 }
 
 // No state is made yet.
 pub(crate) fn nothing() -> Peers {
     Peers {
-        at: 0,
         made: false,
         value: PeerDemand {
             peers: 0,
@@ -37,127 +42,194 @@ pub(crate) fn nothing() -> Peers {
     }
 }
 
-fn newer(line: &[u8], out: &mut [u8], at: usize) -> usize {
-    let a = fields::whole(line, fields::after(b"l.newer"), 0xffff);
-    let b = fields::whole(line, a, 0xffff);
-    if !fields::are_done(line, b) {
-        return at;
-    }
-    answers::flag(
-        out,
-        at,
-        demand::peer_demand::round_is_newer(low16(a.value), low16(b.value)),
-    )
-}
-
-// The low 16 bits: all of a number read with that bound.
-fn low16(n: u64) -> u16 {
-    (n % 0x1_0000) as u16
-}
-
-fn low32(n: u64) -> u32 {
-    (n % 0x1_0000_0000) as u32
-}
-
-fn stale(line: &[u8], out: &mut [u8], at: usize) -> usize {
-    let n = fields::whole(line, fields::after(b"l.stale"), u64::MAX);
-    if !fields::are_done(line, n) {
-        return at;
-    }
-    let answer = demand::peer_demand::stale_after_rounds(n.value as usize);
+fn of_rounds(answer: RoundsAnswer) -> Value {
     match answer {
-        RoundsAnswer::No(q) => answers::refused(out, at, q),
-        RoundsAnswer::Is(rounds) => answers::whole(out, at, rounds),
+        RoundsAnswer::No(n) => Value::Refused(n),
+        RoundsAnswer::Is(rounds) => Value::Whole(rounds),
     }
 }
 
-// Answers a call on rounds; `at` where the line is none.
-pub(crate) fn call_rounds(line: &[u8], out: &mut [u8], at: usize) -> usize {
-    if fields::is_call(line, b"l.newer") {
-        newer(line, out, at)
-    } else if fields::is_call(line, b"l.stale") {
-        stale(line, out, at)
-    } else {
-        at
+// What a call on rounds answers.
+pub(crate) fn rounds_of(place: usize, args: Args) -> Value {
+    match place {
+        calls::NEWER => answers::flag(demand::peer_demand::round_is_newer(
+            fields::low16(args.first),
+            fields::low16(args.second),
+        )),
+        calls::STALE => of_rounds(demand::peer_demand::stale_after_rounds(args.first as usize)),
+        _ => Value::Unknown,
     }
 }
 
-fn newpeers(
-    line: &[u8],
-    out: &mut [u8],
+fn no_state(p: Peers) -> Done {
+    Done {
+        value: Value::NoState,
+        peers: p,
+    }
+}
+
+fn of_new(answer: PeersAnswer, p: Peers) -> Done {
+    match answer {
+        PeersAnswer::No(n) => Done {
+            value: Value::Refused(n),
+            peers: p,
+        },
+        PeersAnswer::Is(value) => Done {
+            value: Value::Done,
+            peers: Peers { made: true, value },
+        },
+    }
+}
+
+fn of_change(changed: PeersChanged) -> Done {
+    let answer = changed.answer;
+    let value = changed.peers;
+    let peers = Peers { made: true, value };
+    match answer {
+        ChangeAnswer::No(n) => Done {
+            value: Value::Refused(n),
+            peers,
+        },
+        ChangeAnswer::Done => Done {
+            value: Value::Done,
+            peers,
+        },
+    }
+}
+
+// What was heard: the demand, whether it is primary, the round and when.
+fn of_heard(answer: HeardAnswer) -> Answer {
+    match answer {
+        HeardAnswer::No(n) => answers::refused(n),
+        HeardAnswer::Nothing => answers::one(Value::Missing),
+        HeardAnswer::Is(heard) => Answer {
+            first: Value::Float32(heard.demand),
+            second: answers::flag(heard.primary),
+            third: Value::Whole(heard.round as u64),
+            fourth: Value::Whole(heard.heard_at),
+        },
+    }
+}
+
+// What the peers answer, as the script writes it.
+fn of_total(answer: TotalAnswer) -> Answer {
+    match answer {
+        TotalAnswer::No(n) => answers::refused(n),
+        TotalAnswer::Is(sum) => answers::one(Value::Float64(sum)),
+    }
+}
+
+fn of_flag(answer: FlagAnswer) -> Answer {
+    match answer {
+        FlagAnswer::No(n) => answers::refused(n),
+        FlagAnswer::Is(yes) => answers::one(answers::flag(yes)),
+    }
+}
+
+fn of_len(answer: LenAnswer) -> Answer {
+    match answer {
+        LenAnswer::No(n) => answers::refused(n),
+        LenAnswer::Is(n) => answers::one(Value::Whole(n as u64)),
+    }
+}
+
+// The answer to a call that reads the peers.
+pub(crate) fn answer(
+    place: usize,
+    args: Args,
     p: Peers,
     peers: &[u64],
     keys: &[u64],
     contested: &[u64],
-) -> Peers {
-    if !fields::are_done(line, fields::after(b"newpeers")) {
-        return p;
+) -> Answer {
+    if !p.made {
+        return answers::one(Value::NoState);
     }
-    let made = PeerDemand::new(peers, keys, contested);
-    match made {
-        PeersAnswer::No(n) => {
-            let before = p.value;
-            Peers {
-                at: answers::refused(out, p.at, n),
-                made: p.made,
-                value: before,
-            }
-        }
-        PeersAnswer::Is(value) => Peers {
-            at: text::put(out, p.at, b"ok"),
-            made: true,
-            value,
-        },
-    }
-}
-
-fn no_state(out: &mut [u8], p: Peers) -> Peers {
     let value = p.value;
-    Peers {
-        at: text::put(out, p.at, b"nostate"),
-        made: false,
-        value,
+    let key = args.first;
+    match place {
+        calls::GET => of_heard(value.get(peers, keys, contested, PeerId::new(key), args.second)),
+        calls::TOTAL => of_total(value.total(peers, keys, contested, key)),
+        calls::ELSEWHERE => of_flag(value.hot_elsewhere(peers, keys, contested, key)),
+        calls::PLEN => of_len(value.len(peers, keys, contested)),
+        calls::PEMPTY => of_flag(value.is_empty(peers, keys, contested)),
+        _ => answers::unknown(),
     }
 }
 
-fn put_changed(out: &mut [u8], at: usize, changed: PeersChanged) -> Peers {
-    let answer = changed.answer;
-    let value = changed.peers;
-    match answer {
-        ChangeAnswer::No(n) => Peers {
-            at: answers::refused(out, at, n),
-            made: true,
-            value,
-        },
-        ChangeAnswer::Done => Peers {
-            at: text::put(out, at, b"ok"),
-            made: true,
-            value,
-        },
+// A call that changes the peers, but for a report.
+fn changed(
+    place: usize,
+    args: Args,
+    value: PeerDemand,
+    peers: &mut [u64],
+    keys: &mut [u64],
+    contested: &mut [u64],
+) -> PeersChanged {
+    let peer = PeerId::new(args.first);
+    match place {
+        calls::FORGET => value.forget(peers, keys, contested, peer),
+        calls::LEAVE => value.leave(peers, keys, contested, peer, args.second, args.third),
+        _ => value.expire(peers, keys, contested, args.first, args.second),
     }
 }
 
 // A listed key, and the place behind its fields.
 struct Listed {
     key: KeyDemand,
-    next: Fields,
+    next: usize,
+    good: bool,
 }
 
-fn listed_of(line: &[u8], f: Fields) -> Listed {
-    let key = fields::whole(line, f, u64::MAX);
-    let demand = fields::bits(line, key, 8);
-    let primary = fields::whole(line, demand, 1);
+fn listed_of(line: &[u8], at: usize) -> Listed {
+    let args = fields::args_of(line, at, b"ufb");
     Listed {
         key: KeyDemand {
-            key_hash: key.value,
-            demand: float::f32_from_bits(low32(demand.value)),
-            primary: primary.value == 1,
+            key_hash: args.first,
+            demand: float::f32_from_bits(fields::low32(args.second)),
+            primary: args.third == 1,
         },
-        next: primary,
+        next: args.next,
+        good: args.good,
     }
 }
 
-// A report with its sender and reading.
+// The listed keys, to the line's end, of which a report holds the first 64: it is refused where
+// there are more.
+struct Keys {
+    keys: [KeyDemand; 64],
+    good: bool,
+}
+
+// The so many keys that are listed from there on.
+fn keys_of(line: &[u8], from: usize, count: u64) -> Keys {
+    let none = KeyDemand {
+        key_hash: 0,
+        demand: 0.0,
+        primary: false,
+    };
+    let mut keys = [none; 64];
+    let mut at = from;
+    let mut i = 0;
+    while i < count {
+        let one = listed_of(line, at);
+        if !one.good {
+            return Keys { keys, good: false };
+        }
+        at = one.next;
+        if i < 64 {
+            let key = one.key;
+            keys[i as usize] = key;
+        }
+        i += 1;
+    }
+    Keys {
+        keys,
+        good: line.len() < at,
+    }
+}
+
+// A report with its sender and reading, if the line is one.
 struct Reported {
     from: u64,
     reading: u64,
@@ -165,348 +237,64 @@ struct Reported {
     good: bool,
 }
 
-// The listed keys, of which a report holds the first 64: it is refused where there are more.
-struct Keys {
-    keys: [KeyDemand; 64],
-    next: Fields,
-}
-
-// The first keys of a report, at most 64.
-fn keys_of(line: &[u8], f: Fields, count: usize) -> Keys
-    requires { ⌜ count ≤ 64 ⌝ }
-{
-    let none = KeyDemand {
-        key_hash: 0,
-        demand: 0.0,
-        primary: false,
-    };
-    let mut keys = [none; 64];
-    let mut next = f;
-    let mut i = 0;
-    while i < count {
-        let one = listed_of(line, next);
-        let key = one.key;
-        next = one.next;
-        keys[i] = key;
-        i += 1;
-    }
-    Keys { keys, next }
-}
-
-// Passes over so many listed keys.
-fn past_keys(line: &[u8], f: Fields, count: usize) -> Fields {
-    let mut next = f;
-    let mut i = 0;
-    while i < count {
-        let one = listed_of(line, next);
-        next = one.next;
-        i += 1;
-    }
-    next
-}
-
-fn least(a: usize, b: usize) -> usize
-    ensures { λ r. ⌜ (r ≤ a) × (r ≤ b) ⌝ }
-{
-    if a < b { a } else { b }
-}
-
-fn reported_of(line: &[u8]) -> Reported {
-    let from = fields::whole(line, fields::after(b"report"), u64::MAX);
-    let reading = fields::whole(line, from, u64::MAX);
-    let origin = fields::whole(line, reading, u64::MAX);
-    let epoch = fields::whole(line, origin, 0xffff_ffff);
-    let round = fields::whole(line, epoch, 0xffff);
-    let count = fields::whole(line, round, 256);
-    let all = least(count.value as usize, 256);
-    let held = least(all, 64);
-    let listed = keys_of(line, count, held);
+fn reported_of(line: &[u8], args: Args) -> Reported {
+    let listed = keys_of(line, args.next, args.sixth);
     let keys = listed.keys;
-    let behind = listed.next;
-    let next = past_keys(line, behind, all - held);
     Reported {
-        from: from.value,
-        reading: reading.value,
+        from: args.first,
+        reading: args.second,
         report: DemandReport {
-            origin: origin.value,
-            epoch: low32(epoch.value),
-            round: low16(round.value),
-            count: count.value as usize,
+            origin: args.third,
+            epoch: fields::low32(args.fourth),
+            round: fields::low16(args.fifth),
+            count: args.sixth as usize,
             keys,
         },
-        good: fields::are_done(line, next),
+        good: listed.good,
     }
 }
 
+// A report, which is no call where its keys are not good.
 fn report(
-    line: &[u8],
-    out: &mut [u8],
+    r: Reported,
     p: Peers,
     peers: &mut [u64],
     keys: &mut [u64],
     contested: &mut [u64],
-) -> Peers {
-    let r = reported_of(line);
-    if !r.good {
-        return p;
-    }
-    if !p.made {
-        return no_state(out, p);
-    }
+) -> Done {
     let value = p.value;
     let said = r.report;
-    let changed = value.apply(peers, keys, contested, PeerId::new(r.from), said, r.reading);
-    put_changed(out, p.at, changed)
+    if !r.good {
+        return Done {
+            value: Value::Unknown,
+            peers: p,
+        };
+    }
+    if !p.made {
+        return no_state(p);
+    }
+    of_change(value.apply(peers, keys, contested, PeerId::new(r.from), said, r.reading))
 }
 
-fn forget(
+// A call that makes or changes the peers' state.
+pub(crate) fn change(
     line: &[u8],
-    out: &mut [u8],
+    place: usize,
+    args: Args,
     p: Peers,
     peers: &mut [u64],
     keys: &mut [u64],
     contested: &mut [u64],
-) -> Peers {
-    let peer = fields::whole(line, fields::after(b"forget"), u64::MAX);
-    if !fields::are_done(line, peer) {
-        return p;
+) -> Done {
+    if place == calls::NEWPEERS {
+        return of_new(PeerDemand::new(peers, keys, contested), p);
+    }
+    if place == calls::REPORT {
+        return report(reported_of(line, args), p, peers, keys, contested);
     }
     if !p.made {
-        return no_state(out, p);
+        return no_state(p);
     }
     let value = p.value;
-    let changed = value.forget(peers, keys, contested, PeerId::new(peer.value));
-    put_changed(out, p.at, changed)
-}
-
-fn leave(
-    line: &[u8],
-    out: &mut [u8],
-    p: Peers,
-    peers: &mut [u64],
-    keys: &mut [u64],
-    contested: &mut [u64],
-) -> Peers {
-    let peer = fields::whole(line, fields::after(b"leave"), u64::MAX);
-    let reading = fields::whole(line, peer, u64::MAX);
-    let hold = fields::whole(line, reading, u64::MAX);
-    if !fields::are_done(line, hold) {
-        return p;
-    }
-    if !p.made {
-        return no_state(out, p);
-    }
-    let value = p.value;
-    let changed = value.leave(
-        peers,
-        keys,
-        contested,
-        PeerId::new(peer.value),
-        reading.value,
-        hold.value,
-    );
-    put_changed(out, p.at, changed)
-}
-
-fn expire(
-    line: &[u8],
-    out: &mut [u8],
-    p: Peers,
-    peers: &mut [u64],
-    keys: &mut [u64],
-    contested: &mut [u64],
-) -> Peers {
-    let reading = fields::whole(line, fields::after(b"expire"), u64::MAX);
-    let age = fields::whole(line, reading, u64::MAX);
-    if !fields::are_done(line, age) {
-        return p;
-    }
-    if !p.made {
-        return no_state(out, p);
-    }
-    let value = p.value;
-    let changed = value.expire(peers, keys, contested, reading.value, age.value);
-    put_changed(out, p.at, changed)
-}
-
-// Answers a call that changes the peers; all as it was where the line is none.
-pub(crate) fn call(
-    line: &[u8],
-    out: &mut [u8],
-    p: Peers,
-    peers: &mut [u64],
-    keys: &mut [u64],
-    contested: &mut [u64],
-) -> Peers {
-    if fields::is_call(line, b"newpeers") {
-        newpeers(line, out, p, peers, keys, contested)
-    } else if fields::is_call(line, b"report") {
-        report(line, out, p, peers, keys, contested)
-    } else if fields::is_call(line, b"forget") {
-        forget(line, out, p, peers, keys, contested)
-    } else if fields::is_call(line, b"leave") {
-        leave(line, out, p, peers, keys, contested)
-    } else if fields::is_call(line, b"expire") {
-        expire(line, out, p, peers, keys, contested)
-    } else {
-        p
-    }
-}
-
-// The demand, and whether it is primary.
-fn put_demand(out: &mut [u8], at: usize, heard: Heard) -> usize {
-    let demand = text::put_hex(out, at, float::f32_to_bits(heard.demand) as u64, 8);
-    let space = text::put(out, demand, b" ");
-    answers::flag(out, space, heard.primary)
-}
-
-// These, the round and when it was heard.
-fn put_heard(out: &mut [u8], at: usize, heard: Heard) -> usize {
-    let demand = put_demand(out, at, heard);
-    let a = text::put(out, demand, b" ");
-    let round = answers::whole(out, a, heard.round as u64);
-    let b = text::put(out, round, b" ");
-    answers::whole(out, b, heard.heard_at)
-}
-
-fn get(
-    line: &[u8],
-    out: &mut [u8],
-    p: Peers,
-    peers: &[u64],
-    keys: &[u64],
-    contested: &[u64],
-) -> usize {
-    let peer = fields::whole(line, fields::after(b"get"), u64::MAX);
-    let key = fields::whole(line, peer, u64::MAX);
-    if !fields::are_done(line, key) {
-        return p.at;
-    }
-    if !p.made {
-        return text::put(out, p.at, b"nostate");
-    }
-    let value = p.value;
-    let answer = value.get(peers, keys, contested, PeerId::new(peer.value), key.value);
-    match answer {
-        HeardAnswer::No(n) => answers::refused(out, p.at, n),
-        HeardAnswer::Nothing => text::put(out, p.at, b"none"),
-        HeardAnswer::Is(heard) => put_heard(out, p.at, heard),
-    }
-}
-
-fn total(
-    line: &[u8],
-    out: &mut [u8],
-    p: Peers,
-    peers: &[u64],
-    keys: &[u64],
-    contested: &[u64],
-) -> usize {
-    let key = fields::whole(line, fields::after(b"total"), u64::MAX);
-    if !fields::are_done(line, key) {
-        return p.at;
-    }
-    if !p.made {
-        return text::put(out, p.at, b"nostate");
-    }
-    let value = p.value;
-    let answer = value.total(peers, keys, contested, key.value);
-    match answer {
-        TotalAnswer::No(n) => answers::refused(out, p.at, n),
-        TotalAnswer::Is(sum) => answers::float64(out, p.at, sum),
-    }
-}
-
-fn put_flag(out: &mut [u8], at: usize, answer: FlagAnswer) -> usize {
-    match answer {
-        FlagAnswer::No(n) => answers::refused(out, at, n),
-        FlagAnswer::Is(yes) => answers::flag(out, at, yes),
-    }
-}
-
-fn elsewhere(
-    line: &[u8],
-    out: &mut [u8],
-    p: Peers,
-    peers: &[u64],
-    keys: &[u64],
-    contested: &[u64],
-) -> usize {
-    let key = fields::whole(line, fields::after(b"elsewhere"), u64::MAX);
-    if !fields::are_done(line, key) {
-        return p.at;
-    }
-    if !p.made {
-        return text::put(out, p.at, b"nostate");
-    }
-    let value = p.value;
-    put_flag(
-        out,
-        p.at,
-        value.hot_elsewhere(peers, keys, contested, key.value),
-    )
-}
-
-fn plen(
-    line: &[u8],
-    out: &mut [u8],
-    p: Peers,
-    peers: &[u64],
-    keys: &[u64],
-    contested: &[u64],
-) -> usize {
-    if !fields::are_done(line, fields::after(b"plen")) {
-        return p.at;
-    }
-    if !p.made {
-        return text::put(out, p.at, b"nostate");
-    }
-    let value = p.value;
-    let answer = value.len(peers, keys, contested);
-    match answer {
-        LenAnswer::No(n) => answers::refused(out, p.at, n),
-        LenAnswer::Is(n) => answers::whole(out, p.at, n as u64),
-    }
-}
-
-fn pempty(
-    line: &[u8],
-    out: &mut [u8],
-    p: Peers,
-    peers: &[u64],
-    keys: &[u64],
-    contested: &[u64],
-) -> usize {
-    if !fields::are_done(line, fields::after(b"pempty")) {
-        return p.at;
-    }
-    if !p.made {
-        return text::put(out, p.at, b"nostate");
-    }
-    let value = p.value;
-    put_flag(out, p.at, value.is_empty(peers, keys, contested))
-}
-
-// Answers a call that reads the peers; where the answers ended where the line is none.
-pub(crate) fn call_reader(
-    line: &[u8],
-    out: &mut [u8],
-    p: Peers,
-    peers: &[u64],
-    keys: &[u64],
-    contested: &[u64],
-) -> usize {
-    if fields::is_call(line, b"get") {
-        get(line, out, p, peers, keys, contested)
-    } else if fields::is_call(line, b"total") {
-        total(line, out, p, peers, keys, contested)
-    } else if fields::is_call(line, b"elsewhere") {
-        elsewhere(line, out, p, peers, keys, contested)
-    } else if fields::is_call(line, b"plen") {
-        plen(line, out, p, peers, keys, contested)
-    } else if fields::is_call(line, b"pempty") {
-        pempty(line, out, p, peers, keys, contested)
-    } else {
-        p.at
-    }
+    of_change(changed(place, args, value, peers, keys, contested))
 }
