@@ -77,28 +77,59 @@ module _ {A : Type 0} (peer : A → ℕ) (xs : List A) where
       ∙ sym (length-apart (λ x. eqb (p .id) (peer x)) (λ x. isKnown ps (peer x)) (λ x e. ap (isKnown ps) (sym (eqb-true (p .id) (peer x) e)) ∙ ahead-unknown p ps a) xs)
 
 -- ---- the contested keys of a peer that its snapshot has not are its part of all those that no snapshot has
+
+-- a contested key that no snapshot has, and one that the snapshot of the peer `id` has not
 abbrev isAlone : List SnapshotKey → ContestedKey → Bool
 isAlone ks c = not (isListed (c .peer) (c .key) ks)
 
-alone-of : (id : ℕ) (ks : List SnapshotKey) (cs : List ContestedKey) → only (λ (c : ContestedKey). not (any (λ (k : SnapshotKey). eqb (k .key) (c .key)) (snapshotKeysOf id ks))) (contestedKeysOf id cs) ≡ contestedKeysOf id (only (isAlone ks) cs)
-unfolding isListed those
-alone-of id ks cs =
-    only-only (λ (c : ContestedKey). eqb (c .peer) id) (λ (c : ContestedKey). not (any (λ (k : SnapshotKey). eqb (k .key) (c .key)) (snapshotKeysOf id ks))) cs
-    ∙ only-same (λ (c : ContestedKey). eqb (c .peer) id && not (any (λ (k : SnapshotKey). eqb (k .key) (c .key)) (snapshotKeysOf id ks))) (λ (c : ContestedKey). isAlone ks c && eqb (c .peer) id)
-    (λ c. split (eqb (c .peer) id) (λ e. (λ k. e k && not (sym (any-those (λ (x : SnapshotKey). x .peer) id (λ (x : SnapshotKey). eqb (x .key) (c .key)) ks) k)) ∙ ap (λ (m : ℕ). not (isListed m (c .key) ks)) (sym (eqb-true (c .peer) id e)) ∙ sym (ap (λ (b : Bool). isAlone ks c && b) e ∙ and-true (isAlone ks c))) (λ e. ap (λ (b : Bool). b && not (any (λ (k : SnapshotKey). eqb (k .key) (c .key)) (snapshotKeysOf id ks))) e ∙ sym (ap (λ (b : Bool). isAlone ks c && b) e ∙ and-false (isAlone ks c)))) cs
-    ∙ sym (only-only (isAlone ks) (λ (c : ContestedKey). eqb (c .peer) id) cs)
+abbrev isMissing : ℕ → List SnapshotKey → ContestedKey → Bool
+isMissing id ks c = not (any (λ (k : SnapshotKey). eqb (k .key) (c .key)) (snapshotKeysOf id ks))
+
+module _ (id : ℕ) (ks : List SnapshotKey) where
+  missing-alone : (c : ContestedKey) → c .peer ≡ id → isMissing id ks c ≡ isAlone ks c
+  unfolding isListed
+  missing-alone c e =
+      ap not (sym (any-those (λ (k : SnapshotKey). k .peer) id (λ (k : SnapshotKey). eqb (k .key) (c .key)) ks))
+      ∙ ap (λ (m : ℕ). not (isListed m (c .key) ks)) (sym e)
+
+  same-test : (c : ContestedKey) → (eqb (c .peer) id && isMissing id ks c) ≡ (isAlone ks c && eqb (c .peer) id)
+  same-test c = split (eqb (c .peer) id)
+      (λ e. (λ i. e i && missing-alone c (eqb-true (c .peer) id e) i) ∙ sym (ap (λ (b : Bool). isAlone ks c && b) e ∙ and-true (isAlone ks c)))
+      (λ e. ap (λ (b : Bool). b && isMissing id ks c) e ∙ sym (ap (λ (b : Bool). isAlone ks c && b) e ∙ and-false (isAlone ks c)))
+
+  alone-of : (cs : List ContestedKey) → only (isMissing id ks) (contestedKeysOf id cs) ≡ contestedKeysOf id (only (isAlone ks) cs)
+  unfolding those
+  alone-of cs =
+      only-only (λ (c : ContestedKey). eqb (c .peer) id) (isMissing id ks) cs
+      ∙ only-same (λ (c : ContestedKey). eqb (c .peer) id && isMissing id ks c) (λ (c : ContestedKey). isAlone ks c && eqb (c .peer) id) same-test cs
+      ∙ sym (only-only (isAlone ks) (λ (c : ContestedKey). eqb (c .peer) id) cs)
 
 -- ---- the count
-pub len-counted : (s : PeersState) → ValidState s → len s ≡ counted s
-unfolding len counted peerLen
-len-counted s v =
-    let ks : List SnapshotKey = s .snapshotKeys in
-    let alone : List ContestedKey = only (isAlone ks) (s .contested) in
-    let known-keys : all (λ (k : SnapshotKey). isKnown (s .peers) (k .peer)) ks ≡ true =
-    all-imply (λ (k : SnapshotKey). hasSnapshot (s .peers) (k .peer)) (λ (k : SnapshotKey). isKnown (s .peers) (k .peer)) ks (λ k e. taken-known (s .peers) (k .peer) e) (v .keys-taken) in
-    sum-same (λ id. length (snapshotKeysOf id ks) + length (only (λ (c : ContestedKey). not (any (λ (k : SnapshotKey). eqb (k .key) (c .key)) (snapshotKeysOf id ks))) (contestedKeysOf id (s .contested)))) (λ id. length (snapshotKeysOf id ks) + length (contestedKeysOf id alone)) (λ id. ap (λ (l : List ContestedKey). length (snapshotKeysOf id ks) + length l) (alone-of id ks (s .contested))) (s .peers)
-    ∙ sum-add (λ id. length (snapshotKeysOf id ks)) (λ id. length (contestedKeysOf id alone)) (s .peers)
-    ∙ (λ i. (parts (λ (k : SnapshotKey). k .peer) ks (s .peers) (v .peers-ascend) ∙ ap length (only-all (λ (k : SnapshotKey). isKnown (s .peers) (k .peer)) ks known-keys)) i + (parts (λ (c : ContestedKey). c .peer) alone (s .peers) (v .peers-ascend) ∙ ap length (only-all (λ (c : ContestedKey). isKnown (s .peers) (c .peer)) alone (all-only (λ (c : ContestedKey). isKnown (s .peers) (c .peer)) (isAlone ks) (s .contested) (v .contested-known)))) i)
+module _ (s : PeersState) (v : ValidState s) where
+  abbrev keys : List SnapshotKey
+  keys = s .snapshotKeys
+
+  abbrev alone : List ContestedKey
+  alone = only (isAlone (s .snapshotKeys)) (s .contested)
+
+  keys-known : all (λ (k : SnapshotKey). isKnown (s .peers) (k .peer)) keys ≡ true
+  keys-known = all-imply (λ (k : SnapshotKey). hasSnapshot (s .peers) (k .peer)) (λ (k : SnapshotKey). isKnown (s .peers) (k .peer)) keys (λ k e. taken-known (s .peers) (k .peer) e) (v .keys-taken)
+
+  alone-known : all (λ (c : ContestedKey). isKnown (s .peers) (c .peer)) alone ≡ true
+  alone-known = all-only (λ (c : ContestedKey). isKnown (s .peers) (c .peer)) (isAlone keys) (s .contested) (v .contested-known)
+
+  keys-counted : sumOver (λ id. length (snapshotKeysOf id keys)) (s .peers) ≡ length keys
+  keys-counted = parts (λ (k : SnapshotKey). k .peer) keys (s .peers) (v .peers-ascend) ∙ ap length (only-all (λ (k : SnapshotKey). isKnown (s .peers) (k .peer)) keys keys-known)
+
+  alone-counted : sumOver (λ id. length (contestedKeysOf id alone)) (s .peers) ≡ length alone
+  alone-counted = parts (λ (c : ContestedKey). c .peer) alone (s .peers) (v .peers-ascend) ∙ ap length (only-all (λ (c : ContestedKey). isKnown (s .peers) (c .peer)) alone alone-known)
+
+  pub len-counted : len s ≡ counted s
+  unfolding len counted peerLen
+  len-counted =
+      sum-same (peerLen s) (λ id. length (snapshotKeysOf id keys) + length (contestedKeysOf id alone)) (λ id. ap (λ (l : List ContestedKey). length (snapshotKeysOf id keys) + length l) (alone-of id keys (s .contested))) (s .peers)
+      ∙ sum-add (λ id. length (snapshotKeysOf id keys)) (λ id. length (contestedKeysOf id alone)) (s .peers)
+      ∙ (λ i. keys-counted i + alone-counted i)
 
 -- where questions 1 and 2 are passed
 pub asked-counted : (p : PeerDemand) (t : PeerTables) (n : ℕ) → n ≡ firstNo (peersQuestions p t) → n ≡ 0 → counted (stateOf p t) ≡ len (stateOf p t)
