@@ -1,17 +1,95 @@
 -- Lines in a buffer.
-use Prim.Native.Nat.{ℕ, suc, _≤_}
-use mathlib.Core.Bool.{cond}
-use mathlib.Core.List.{List, [], _∷_}
-use lib.Dec.{eqb}
+use Prim.Native.Nat.{ℕ, suc, _+_, _-_, _^_, _≤_}
+use mathlib.Core.Path.{_≡_}
+use mathlib.Core.Logic.{_⊎_}
+use mathlib.Core.Bool.{Bool, true, false, cond, not, _&&_}
+use mathlib.Core.List.{List, [], _∷_, _++_}
+use lib.Dec.{eqb, leb}
 use lib.ListN.{length}
+use lib.Seq.{slice}
+use Rattle.text.specs.declared.lines.Kind.{Kind}
+use Rattle.text.specs.declared.lines.Kind.the-variants as kind
 use Rattle.text.specs.declared.lines.Line.{Line}
+use Rattle.text.specs.declared.lines.Lines.{Lines}
+use Rattle.text.specs.declared.lines.Window.{Window}
 
 -- the index of the first b, or the length where there is none
 unfoldable pub indexOf : ℕ → List ℕ → ℕ
 indexOf b [] = 0
 indexOf b (x ∷ xs) = cond (eqb x b) 0 (suc (indexOf b xs))
 
--- A line lies within the buffer. Which bytes a read brings no contract can say.
-pub record Within (l : Line) (buffer : List ℕ) : Type 0 where
+-- a line feed
+abbrev pub feed : ℕ
+feed = 10
+
+unfoldable pub hasNoFeed : List ℕ → Bool
+hasNoFeed [] = true
+hasNoFeed (x ∷ xs) = not (eqb x feed) && hasNoFeed xs
+
+-- the bytes in hand: none where the numbers do not lie within the buffer
+unfoldable pub inHand : Lines → List ℕ → List ℕ
+inHand s xs = cond (leb (s .from) (s .to) && leb (s .to) (length xs)) (slice (s .from) (s .to) xs) []
+
+-- what stands behind a line: its line feed and what is in hand then, or nothing where the input ended
+abbrev pub Behind : List ℕ → List ℕ → Type 0
+Behind tail rest = (tail ≡ feed ∷ rest) ⊎ ((tail ≡ []) × (rest ≡ []))
+
+-- bytes parted into some that were passed over, a line, and what stands behind it
+pub record Parted (bytes passed line rest : List ℕ) : Type 0 where
+  pub tail : List ℕ
+  pub whole : bytes ≡ passed ++ (line ++ tail)
+  pub passed-no-feed : hasNoFeed passed ≡ true
+  pub line-no-feed : hasNoFeed line ≡ true
+  pub behind : Behind tail rest
+
+-- a line whose first bytes did not fit a buffer of this length, and were passed over
+pub record TooLong (long : ℕ) (bytes line rest : List ℕ) : Type 0 where
+  pub passed : List ℕ
+  pub many : long ≤ length passed
+  pub parts : Parted bytes passed line rest
+
+-- what came, by its kind; after 2^64 - 1 reads the end is told as well
+abbrev pub Told : Kind → ℕ → List ℕ → List ℕ → List ℕ → Type 0
+Told kind.Whole long bytes line rest = Parted bytes [] line rest
+Told kind.TooLong long bytes line rest = TooLong long bytes line rest
+Told kind.End long bytes line rest = (bytes ≡ []) ⊎ (2 ^ 64 - 1 ≤ length bytes)
+
+-- A line of the bytes that were in hand and those that the input gave, which no contract can say; it lies in the buffer, and so does
+-- what is in hand behind it.
+pub record Came (bytes : List ℕ) (l : Line) (ys : List ℕ) : Type 0 where
   pub ordered : l .start ≤ l .end
-  pub inside : l .end ≤ length buffer
+  pub inside : l .end ≤ length ys
+  pub input : List ℕ
+  pub told : Told (l .kind) (length ys) (bytes ++ input) (slice (l .start) (l .end) ys) (inHand (l .rest) ys)
+
+-- ---- while a line is looked for
+
+-- what is in hand, in a window of the buffer
+abbrev pub seen : Window → List ℕ → List ℕ
+seen w xs = slice (w .from) (w .to) xs
+
+-- the window of the bytes in hand
+abbrev pub noWindow : Window
+noWindow = record { from = 0; to = 0; «given_up» = false }
+
+unfoldable pub windowOf : Lines → ℕ → Window
+windowOf s len =
+    cond (leb (s .from) (s .to) && leb (s .to) len) (record { from = s .from; to = s .to; «given_up» = false }) noWindow
+
+-- room was made: the bytes in hand are at the front, or they filled the buffer and are given up
+pub record Roomy (w : Window) (xs : List ℕ) (r : Window) (ys : List ℕ) : Type 0 where
+  pub front : r .from ≡ 0
+  pub within : r .to ≤ length ys
+  pub kept : ((r .«given_up» ≡ w .«given_up») × (seen r ys ≡ seen w xs)) ⊎ ((r .«given_up» ≡ true) × (r .to ≡ 0) × (seen w xs ≡ xs))
+
+-- a line start..end with bytes from..to in hand behind it
+abbrev pub lineOf : ℕ → ℕ → Bool → ℕ → ℕ → Line
+lineOf start end givenUp from to =
+    record { start = start; end = end; kind = cond givenUp kind.TooLong kind.Whole; rest = record { from = from; to = to } }
+
+-- at the end of the input: what is in hand, or nothing
+abbrev pub lastLine : Window → Line
+lastLine w =
+    cond (w .«given_up») (lineOf 0 (w .to) true 0 0)
+    (cond (eqb (w .to) 0) (record { start = 0; end = 0; kind = kind.End; rest = record { from = 0; to = 0 } })
+    (lineOf 0 (w .to) false 0 0))

@@ -1,10 +1,10 @@
 // Lines of standard input, however many, through a buffer that the caller lends.
 use libc::STDIN_FILENO;
 ghost use mathlib.Core.Path.{_≡_};
-ghost use mathlib.Core.Bool.{false};
-ghost use Prim.Native.Nat.{_≤_};
-ghost use lib.ListN.{length};
-ghost use Rattle.text.specs.Input.{Within};
+ghost use Prim.Native.Nat.{_+_, _-_, _≤_};
+ghost use lib.ListN.{length, take};
+ghost use lib.Seq.{slice};
+ghost use Rattle.text.specs.Input.{indexOf, feed, inHand, noWindow, windowOf, Roomy, lineOf, lastLine, Came};
 
 // Bytes from..to of the buffer are read and not yet handed out.
 pub struct Lines {
@@ -30,7 +30,7 @@ pub struct Line {
 // The index of the first line feed from `from` on, or `to` where there is none before it.
 fn line_end(buf: &[u8], from: usize, to: usize) -> usize
     requires { ⌜ (from ≤ to) × (to ≤ length (now buf)) ⌝ }
-    ensures { λ r. ⌜ (from ≤ r) × (r ≤ to) ⌝ }
+    ensures { λ r. ⌜ (r ≡ from + indexOf feed (slice from to (now (buf .entry)))) × (r ≤ to) ⌝ }
 {
     from + crate::index_of(&buf[from..to], b'\n')
 }
@@ -38,6 +38,7 @@ fn line_end(buf: &[u8], from: usize, to: usize) -> usize
 // Moves bytes from..to to the front.
 fn to_front(buf: &mut [u8], from: usize, to: usize)
     requires { ⌜ (from ≤ to) × (to ≤ length (now buf)) ⌝ }
+    ensures { λ _. ⌜ take (to - from) (now (buf .exit)) ≡ slice from to (now (buf .entry)) ⌝ }
 {
     let mut i = from;
     while i < to {
@@ -50,6 +51,7 @@ fn to_front(buf: &mut [u8], from: usize, to: usize)
 fn read_more(buf: &mut [u8], to: usize) -> usize
     requires { ⌜ to ≤ length (now buf) ⌝ }
     ensures { λ r. ⌜ (to ≤ r) × (r ≤ length (now (buf .entry))) ⌝ }
+    ensures { λ _. ⌜ take to (now (buf .exit)) ≡ take to (now (buf .entry)) ⌝ }
 {
     let part = &mut buf[to..];
     let got = libc::read(STDIN_FILENO, part);
@@ -67,7 +69,7 @@ struct Window {
 // Makes room behind what is in hand: it goes to the front, or is given up where it fills the buffer.
 fn make_room(buf: &mut [u8], w: Window) -> Window
     requires { ⌜ (w .from ≤ w .to) × (w .to ≤ length (now buf)) ⌝ }
-    ensures { λ r. ⌜ (r .from ≡ 0) × (r .to ≤ length (now (buf .entry))) ⌝ }
+    ensures { λ r. ⌜ Roomy w (now (buf .entry)) r (now (buf .exit)) ⌝ }
 {
     let from = w.from;
     let to = w.to;
@@ -91,7 +93,7 @@ fn make_room(buf: &mut [u8], w: Window) -> Window
 
 // The line start..end, with what follows it.
 fn line_of(start: usize, end: usize, given_up: bool, from: usize, to: usize) -> Line
-    ensures { λ r. ⌜ (r .start ≡ start) × (r .end ≡ end) ⌝ }
+    ensures { λ r. ⌜ r ≡ lineOf start end «given_up» from to ⌝ }
 {
     let rest = Lines { from, to };
     if given_up {
@@ -113,18 +115,21 @@ fn line_of(start: usize, end: usize, given_up: bool, from: usize, to: usize) -> 
 
 // What is left where the input ends: a last line without its line feed, or nothing.
 fn last_line(w: Window) -> Line
-    ensures { λ r. ⌜ (r .start ≡ 0) × (r .end ≤ w .to) ⌝ }
+    ensures { λ r. ⌜ r ≡ lastLine w ⌝ }
 {
-    if w.to == 0 && !w.given_up {
-        Line {
+    let to = w.to;
+    if w.given_up {
+        return line_of(0, to, true, 0, 0);
+    }
+    if to == 0 {
+        return Line {
             start: 0,
             end: 0,
             kind: Kind::End,
             rest: Lines { from: 0, to: 0 },
-        }
-    } else {
-        line_of(0, w.to, w.given_up, 0, 0)
+        };
     }
+    line_of(0, to, false, 0, 0)
 }
 
 // What stands in the buffer before the first line is read.
@@ -134,31 +139,40 @@ pub fn start() -> Lines
     Lines { from: 0, to: 0 }
 }
 
-// The bytes in hand, within the buffer whatever the numbers say.
+// No bytes.
+fn nothing() -> Window
+    ensures { λ r. ⌜ r ≡ noWindow ⌝ }
+{
+    Window {
+        from: 0,
+        to: 0,
+        given_up: false,
+    }
+}
+
+// The bytes in hand, none where the numbers do not lie within the buffer.
 fn in_hand(s: Lines, len: usize) -> Window
-    ensures { λ r. ⌜ (r .from ≤ r .to) × (r .to ≤ len) ⌝ }
+    ensures { λ r. ⌜ r ≡ windowOf s len ⌝ }
 {
     let from = s.from;
     let to = s.to;
-    if from <= to && to <= len {
-        Window {
-            from,
-            to,
-            given_up: false,
-        }
-    } else {
-        Window {
-            from: 0,
-            to: 0,
-            given_up: false,
-        }
+    if to < from {
+        return nothing();
+    }
+    if len < to {
+        return nothing();
+    }
+    Window {
+        from,
+        to,
+        given_up: false,
     }
 }
 
 // The next line, read as far as need be. The loop counts its turns down from a number that no run
 // uses up.
 pub fn next_line(buf: &mut [u8], s: Lines) -> Line
-    ensures { λ r. ⌜ Within r (now (buf .exit)) ⌝ }
+    ensures { λ r. ⌜ Came (inHand s (now (buf .entry))) r (now (buf .exit)) ⌝ }
 {
     let mut w = in_hand(s, buf.len());
     let mut turns = u64::MAX;

@@ -1,28 +1,28 @@
--- `text::lines::to_front` is safe: the buffer keeps its length.
-use mathlib.Core.Path.{_≡_, refl}
-use Prim.Native.Nat.{_-_, _≤_}
+-- `text::lines::to_front` meets its contract.
+use Prim.Native.Nat.{ℕ, _-_, _≤_}
+use mathlib.Core.Path.{_≡_, subst}
 use native.Mathlib.Omega.{arith}
-use lib.ListN.{length, length-set}
+use Rattle.text.proofs.LineLaws.{Moved, none-moved, one-moved, all-moved}
 use Rattle.text.proofs.lines.to_front.Statement.{statement}
 use Rattle.text.proofs.lines.to_front.Tie as tie
 
 abbrev Inv-loop : tie.InvT-loop
-Inv-loop buf₀ from to i₀ buf i = (from ≤ i) × (i ≤ to) × (length buf ≡ length buf₀)
+Inv-loop buf₀ from to i₀ buf i = (from ≤ i) × (i ≤ to) × Moved from i buf₀ buf
 
 abbrev μ-loop : tie.MeasureT-loop
 μ-loop buf₀ from to i₀ buf i = to - i
 
 loop-holds : tie.Need-loop-holds Inv-loop μ-loop
-loop-holds c = (omega arith, omega arith, refl)
+loop-holds c = (omega arith, c .pre .0, none-moved (c .args .from) (c .args .buf .now))
 
 slice-read-buf : tie.Need-slice-read-buf Inv-loop μ-loop
-slice-read-buf c = omega arith
+slice-read-buf c = let l = c .before .before in omega (arith, c .before .loop-test .taken, l .loop .inv .2 .as-long, l .before .pre .1)
 
 sub-buf : tie.Need-sub-buf Inv-loop μ-loop
 sub-buf c = omega arith
 
 slice-write-buf : tie.Need-slice-write-buf Inv-loop μ-loop
-slice-write-buf c = omega arith
+slice-write-buf c = let l = c .before .before in omega (arith, c .before .loop-test .taken, l .loop .inv .2 .as-long, l .before .pre .1)
 
 add-i : tie.Need-add-i Inv-loop μ-loop
 add-i c = omega arith
@@ -31,13 +31,20 @@ loop-less : tie.Need-loop-less Inv-loop μ-loop
 loop-less c = omega arith
 
 loop-again : tie.Need-loop-again Inv-loop μ-loop
-loop-again c = (omega arith, omega arith, simp length-set (c .before .before .loop .inv .2))
+loop-again c =
+    let l = c .before .before in
+    let a = l .before .args in
+    (omega (arith, l .loop .inv .0), omega (arith, c .before .loop-test .taken), one-moved (a .from) (l .loop .i) (a .buf .now) (l .loop .buf) (l .loop .inv .0) (slice-read-buf c) (l .loop .inv .2))
 
 same-length : tie.Need-same-length Inv-loop μ-loop
-same-length c = omega arith
+same-length c = c .before .loop .inv .2 .as-long
 
 returns : tie.Need-returns Inv-loop μ-loop
-returns c = tt
+returns c =
+    let l = c .before in
+    let s = l .before in
+    let n : l .loop .i ≡ s .args .to = omega (arith, l .loop .inv .1, c .loop-test .left) in
+    all-moved (s .args .from) (s .args .to) (s .args .buf .now) (l .loop .buf) (s .pre .0) (s .pre .1) (subst (λ (i : ℕ). Moved (s .args .from) i (s .args .buf .now) (l .loop .buf)) n (l .loop .inv .2))
 
 pub to-front-spec : {M : Type 1} → statement M
 to-front-spec =

@@ -1,0 +1,369 @@
+-- Looking for a line in a buffer, read by read.
+use Prim.Native.Nat.{ℕ, suc, _+_, _-_, _^_, _≤_, _<_}
+use mathlib.Core.Path.{_≡_, refl, sym, ap, _∙_, subst}
+use mathlib.Core.Logic.{_⊎_, inl, inr}
+use mathlib.Core.Bool.{Bool, true, false, cond, not, _&&_, true≢false}
+use mathlib.Core.List.{List, [], _∷_, _++_, append-assoc, append-nil}
+use native.Mathlib.Omega.{arith}
+use borrow.Author.Tests.{leb-true, le-leb, lt-leb, eqb-true, eqb-false, eq-eqb, ne-eqb}
+use lib.Dec.{eqb, leb}
+use lib.ListN.{length, take, drop, getD, set, length-set, length-append, take-append-drop}
+use native.Mathlib.Numerals.{add-one}
+use lib.Seq.{take-add, drop-at, getD-set-same, getD-set-other, take-at, take-all, slice, slice-cons, length-slice, take-take, take-length, drop-append-le, length-take-le, ext-getD, getD-take, getD-drop}
+use Rattle.text.specs.declared.lines.Kind.the-variants as kind
+use Rattle.text.specs.declared.lines.Line.{Line}
+use Rattle.text.specs.declared.lines.Lines.{Lines}
+use Rattle.text.specs.declared.lines.Window.{Window}
+use Rattle.text.specs.Input.{indexOf, feed, hasNoFeed, inHand, Parted, Came, seen, noWindow, windowOf, Roomy, lineOf, lastLine}
+
+split : {P : Type 0} (b : Bool) → (b ≡ true → P) → (b ≡ false → P) → P
+split true y n = y refl
+split false y n = n refl
+
+both : (a b : Bool) → (a && b) ≡ true → (a ≡ true) × (b ≡ true)
+both true b e = (refl, e)
+both false b e = absurd (true≢false (sym e))
+
+pub strictly : (a b : ℕ) → a ≤ b → (b ≡ a → ⊥) → a < b
+strictly a b h n = omega arith
+
+-- ---- parts of a list
+pub slice-parts : {A : Type 0} (a b c : ℕ) (l : List A) → a ≤ b → b ≤ c → c ≤ length l → slice a c l ≡ slice a b l ++ slice b c l
+slice-parts {A = A} a b c l h k m =
+    ap (drop a) (sym (take-append-drop b (take c l)))
+    ∙ drop-append-le a (take b (take c l)) (drop b (take c l)) (omega (arith, h, k, length-take-le b (take c l) (omega (arith, k, length-take-le c l m))))
+    ∙ ap (λ (z : List A). drop a z ++ slice b c l) (take-take b c l k)
+
+-- a lent part of a list
+pub part-slice : {A : Type 0} (a e : ℕ) (l : List A) → a ≤ e → e ≤ length l → take (e - a) (drop a l) ≡ slice a e l
+part-slice {A = A} a e l h k =
+    let n : a + (e - a) ≡ e = omega (arith, h) in
+    sym
+    (ap (λ (m : ℕ). drop a (take m l)) (sym n)
+    ∙ ap (drop a) (take-add a (e - a) l)
+    ∙ drop-at (take a l) (take (e - a) (drop a l)) a (length-take-le a l (omega (arith, h, k))))
+
+-- ---- line feeds
+nil-clear : hasNoFeed [] ≡ true
+unfolding hasNoFeed
+nil-clear = refl
+
+no-feed-append : (xs ys : List ℕ) → hasNoFeed xs ≡ true → hasNoFeed ys ≡ true → hasNoFeed (xs ++ ys) ≡ true
+unfolding hasNoFeed
+no-feed-append [] ys h k = k
+no-feed-append (x ∷ xs) ys h k =
+    let b = both (not (eqb x feed)) (hasNoFeed xs) h in
+    (λ i. b .0 i && no-feed-append xs ys (b .1) k i)
+
+feed-or : (x : ℕ) (xs : List ℕ) {P : Type 0} → (x ≡ feed → indexOf feed (x ∷ xs) ≡ 0 → P) → (not (eqb x feed) ≡ true → indexOf feed (x ∷ xs) ≡ suc (indexOf feed xs) → P) → P
+unfolding indexOf
+feed-or x xs f g = split (eqb x feed)
+    (λ e. f (eqb-true x feed e) (ap (λ (b : Bool). cond b 0 (suc (indexOf feed xs))) e))
+    (λ e. g (ap not e) (ap (λ (b : Bool). cond b 0 (suc (indexOf feed xs))) e))
+
+-- no line feed before the first one, and one there
+pub no-feed-before : (xs : List ℕ) → hasNoFeed (take (indexOf feed xs) xs) ≡ true
+unfolding hasNoFeed indexOf
+no-feed-before [] = refl
+no-feed-before (x ∷ xs) = feed-or x xs
+    (λ e h. ap (λ (n : ℕ). hasNoFeed (take n (x ∷ xs))) h)
+    (λ e h. ap (λ (n : ℕ). hasNoFeed (take n (x ∷ xs))) h ∙ (λ i. e i && no-feed-before xs i))
+
+pub feed-there : (xs : List ℕ) → indexOf feed xs < length xs → getD xs (indexOf feed xs) 0 ≡ feed
+feed-there [] h = absurd (omega arith)
+feed-there (x ∷ xs) h = feed-or x xs
+    (λ e k. ap (λ (n : ℕ). getD (x ∷ xs) n 0) k ∙ e)
+    (λ e k. ap (λ (n : ℕ). getD (x ∷ xs) n 0) k ∙ feed-there xs (omega (arith, h, k)))
+
+-- ---- bytes moved to the front, one by one
+pub record Moved (from i : ℕ) (xs ys : List ℕ) : Type 0 where
+  pub as-long : length ys ≡ length xs
+  pub moved : (j : ℕ) → j < i - from → getD ys j 0 ≡ getD xs (from + j) 0
+  pub kept : (j : ℕ) → i ≤ j → getD ys j 0 ≡ getD xs j 0
+
+pub none-moved : (from : ℕ) (xs : List ℕ) → Moved from from xs xs
+none-moved from xs = record { as-long = refl; moved = λ j h. absurd (omega (arith, h)); kept = λ j h. refl }
+
+pub one-moved : (from i : ℕ) (xs ys : List ℕ) → from ≤ i → i < length ys → Moved from i xs ys → Moved from (i + 1) xs (set ys (i - from) (getD ys i 0))
+one-moved from i xs ys h k m = record {
+  as-long = length-set ys (i - from) (getD ys i 0) ∙ m .as-long;
+  moved = λ j l. split (eqb j (i - from))
+      (λ e.
+      let q : j ≡ i - from = eqb-true j (i - from) e in
+      let p : from + j ≡ i = omega (arith, q, h) in
+      ap (λ (n : ℕ). getD (set ys (i - from) (getD ys i 0)) n 0) q ∙ getD-set-same ys (i - from) (getD ys i 0) 0 (omega (arith, h, k)) ∙ m .kept i (omega arith) ∙ ap (λ (n : ℕ). getD xs n 0) (sym p))
+      (λ e. getD-set-other ys (i - from) j (getD ys i 0) 0 (eqb-false j (i - from) e) ∙ m .moved j (strictly j (i - from) (omega (arith, l, h)) (λ q. eqb-false j (i - from) e (sym q))));
+  kept = λ j l. getD-set-other ys (i - from) j (getD ys i 0) 0 (λ e. omega (arith, e, l)) ∙ m .kept j (omega (arith, l));
+}
+
+pub all-moved : (from to : ℕ) (xs ys : List ℕ) → from ≤ to → to ≤ length xs → Moved from to xs ys → take (to - from) ys ≡ slice from to xs
+all-moved from to xs ys h k m =
+    ext-getD 0 (take (to - from) ys) (slice from to xs)
+    (length-take-le (to - from) ys (omega (arith, k, m .as-long)) ∙ sym (length-slice from to xs k))
+    (λ j l.
+    let n : j < to - from = omega (arith, l, length-take-le (to - from) ys (omega (arith, k, m .as-long))) in
+    getD-take (to - from) ys j 0 n ∙ m .moved j n ∙ sym (getD-drop from (take to xs) j 0 ∙ getD-take to xs (from + j) 0 (omega (arith, n, h))))
+
+-- ---- a line that is looked for: what was in hand and read is what was passed over and what is seen
+pub record Looking (h₀ buf : List ℕ) (w : Window) (turns : ℕ) : Type 0 where
+  pub ordered : w .from ≤ w .to
+  pub within : w .to ≤ length buf
+  pub input : List ℕ
+  pub passed : List ℕ
+  pub whole : h₀ ++ input ≡ passed ++ seen w buf
+  pub no-feed : hasNoFeed passed ≡ true
+  pub none-passed : w .«given_up» ≡ false → passed ≡ []
+  pub many : w .«given_up» ≡ true → length buf ≤ length passed
+  pub reads : 2 ^ 64 - 1 ≤ turns + length input
+
+-- nothing is in hand where the window is empty
+no-bytes : (xs : List ℕ) → inHand (record { from = 0; to = 0 }) xs ≡ []
+unfolding inHand
+no-bytes xs = ap (λ (b : Bool). cond (leb 0 0 && b) (slice 0 0 xs) []) (le-leb 0 (length xs) (omega arith))
+
+in-hand : (from to : ℕ) (xs : List ℕ) → from ≤ to → to ≤ length xs → inHand (record { from = from; to = to }) xs ≡ slice from to xs
+unfolding inHand
+in-hand from to xs h k = (λ i. cond (le-leb from to h i && le-leb to (length xs) k i) (slice from to xs) [])
+
+pub looks : (buf : List ℕ) (w : Window) → w .from ≤ w .to → w .to ≤ length buf → w .«given_up» ≡ false → Looking (seen w buf) buf w (2 ^ 64 - 1)
+looks buf w o k e = record {
+  ordered = o;
+  within = k;
+  input = [];
+  passed = [];
+  whole = append-nil (seen w buf);
+  no-feed = nil-clear;
+  none-passed = λ h. refl;
+  many = λ h. absurd (true≢false (sym h ∙ e));
+  reads = omega arith;
+}
+
+-- the window by its tests
+module _ (s : Lines) (len : ℕ) where
+  abbrev held : Window
+  held = record { from = s .from; to = s .to; «given_up» = false }
+
+  pub reversed : s .to < s .from → noWindow ≡ windowOf s len
+  unfolding windowOf
+  reversed h = sym (ap (λ (b : Bool). cond (b && leb (s .to) len) held noWindow) (lt-leb (s .from) (s .to) h))
+
+  pub outside : s .from ≤ s .to → len < s .to → noWindow ≡ windowOf s len
+  unfolding windowOf
+  outside h k = sym (λ i. cond (le-leb (s .from) (s .to) h i && lt-leb (s .to) len k i) held noWindow)
+
+  pub inside-it : s .from ≤ s .to → s .to ≤ len → held ≡ windowOf s len
+  unfolding windowOf
+  inside-it h k = sym (λ i. cond (le-leb (s .from) (s .to) h i && le-leb (s .to) len k i) held noWindow)
+
+  pub window-seen : (xs : List ℕ) → length xs ≡ len → seen (windowOf s len) xs ≡ inHand s xs
+  unfolding windowOf inHand
+  window-seen xs l = by (leb (s .from) (s .to) && leb (s .to) len) refl
+    where
+      by : (b : Bool) → (leb (s .from) (s .to) && leb (s .to) len) ≡ b → seen (cond b held noWindow) xs ≡ cond (leb (s .from) (s .to) && leb (s .to) (length xs)) (slice (s .from) (s .to) xs) []
+      by true e = sym (ap (λ (n : ℕ). cond (leb (s .from) (s .to) && leb (s .to) n) (slice (s .from) (s .to) xs) []) l ∙ ap (λ (b : Bool). cond b (slice (s .from) (s .to) xs) []) e)
+      by false e = sym (ap (λ (n : ℕ). cond (leb (s .from) (s .to) && leb (s .to) n) (slice (s .from) (s .to) xs) []) l ∙ ap (λ (b : Bool). cond b (slice (s .from) (s .to) xs) []) e)
+
+  pub window-within : (windowOf s len .from ≤ windowOf s len .to) × (windowOf s len .to ≤ len) × (windowOf s len .«given_up» ≡ false)
+  unfolding windowOf
+  window-within = by (leb (s .from) (s .to) && leb (s .to) len) refl
+    where
+      by : (b : Bool) → (leb (s .from) (s .to) && leb (s .to) len) ≡ b → (cond b held noWindow .from ≤ cond b held noWindow .to) × (cond b held noWindow .to ≤ len) × (cond b held noWindow .«given_up» ≡ false)
+      by true e =
+          let b = both (leb (s .from) (s .to)) (leb (s .to) len) e in
+          (leb-true (s .from) (s .to) (b .0), leb-true (s .to) len (b .1), refl)
+      by false e = (omega arith, omega arith, refl)
+
+-- ---- a line feed is seen
+module _ (h₀ buf : List ℕ) (w : Window) (turns : ℕ) (g : Looking h₀ buf w turns) (e : ℕ) (at : e ≡ w .from + indexOf feed (seen w buf)) (h : e < w .to) where
+  long : length (seen w buf) ≡ w .to - w .from
+  long = length-slice (w .from) (w .to) buf (g .within)
+
+  index-less : indexOf feed (seen w buf) < length (seen w buf)
+  index-less = omega (arith, at, h, long, g .ordered)
+
+  here : getD buf e 0 ≡ feed
+  here =
+      ap (λ (n : ℕ). getD buf n 0) at
+      ∙ sym (getD-drop (w .from) (take (w .to) buf) (indexOf feed (seen w buf)) 0 ∙ getD-take (w .to) buf (w .from + indexOf feed (seen w buf)) 0 (omega (arith, at, h)))
+      ∙ feed-there (seen w buf) index-less
+
+  cut : seen w buf ≡ slice (w .from) e buf ++ (feed ∷ slice (suc e) (w .to) buf)
+  cut =
+      slice-parts (w .from) e (w .to) buf (omega (arith, at)) (omega (arith, h)) (g .within)
+      ∙ ap (λ (l : List ℕ). slice (w .from) e buf ++ l) (slice-cons e (w .to) buf 0 h (g .within) ∙ ap (λ (b : ℕ). b ∷ slice (suc e) (w .to) buf) here)
+
+  line-clear : hasNoFeed (slice (w .from) e buf) ≡ true
+  line-clear =
+      ap hasNoFeed (sym (ap (take (indexOf feed (seen w buf))) cut ∙ take-at (slice (w .from) e buf) (feed ∷ slice (suc e) (w .to) buf) (indexOf feed (seen w buf)) (length-slice (w .from) e buf (omega (arith, h, g .within)) ∙ omega (arith, at))))
+      ∙ no-feed-before (seen w buf)
+
+  rest-is : inHand (record { from = e + 1; to = w .to }) buf ≡ slice (suc e) (w .to) buf
+  rest-is = in-hand (e + 1) (w .to) buf (omega (arith, h)) (g .within) ∙ ap (λ (n : ℕ). slice n (w .to) buf) (add-one e)
+
+  parted : Parted (h₀ ++ g .input) (g .passed) (slice (w .from) e buf) (inHand (record { from = e + 1; to = w .to }) buf)
+  parted = record {
+    tail = feed ∷ slice (suc e) (w .to) buf;
+    whole = g .whole ∙ ap (λ (l : List ℕ). g .passed ++ l) cut;
+    passed-no-feed = g .no-feed;
+    line-no-feed = line-clear;
+    behind = inl (ap (λ (l : List ℕ). feed ∷ l) (sym rest-is));
+  }
+
+  pub found : Came h₀ (lineOf (w .from) e (w .«given_up») (e + 1) (w .to)) buf
+  found = by (w .«given_up») (g .none-passed) (g .many)
+    where
+      by : (b : Bool) → (b ≡ false → g .passed ≡ []) → (b ≡ true → length buf ≤ length (g .passed)) → Came h₀ (lineOf (w .from) e b (e + 1) (w .to)) buf
+      by true none many = record {
+        ordered = omega (arith, at);
+        inside = omega (arith, h, g .within);
+        input = g .input;
+        told = record { passed = g .passed; many = many refl; parts = parted };
+      }
+      by false none many = record {
+        ordered = omega (arith, at);
+        inside = omega (arith, h, g .within);
+        input = g .input;
+        told = subst (λ (l : List ℕ). Parted (h₀ ++ g .input) l (slice (w .from) e buf) (inHand (record { from = e + 1; to = w .to }) buf)) (none refl) parted;
+      }
+
+-- no line feed is seen
+pub none-seen : (ys : List ℕ) → length ys ≤ indexOf feed ys → hasNoFeed ys ≡ true
+none-seen ys h = ap hasNoFeed (sym (take-all (indexOf feed ys) ys h)) ∙ no-feed-before ys
+
+-- room by the place of the window
+module _ (w : Window) (xs ys : List ℕ) (front : w .from ≡ 0) where
+  pub full-roomy : w .to ≡ length xs → ys ≡ xs → Roomy w xs (record { from = 0; to = 0; «given_up» = true }) ys
+  full-roomy h e = record {
+    front = refl;
+    within = omega arith;
+    kept = inr (refl, refl, (λ i. slice (front i) (h i) xs) ∙ take-length xs);
+  }
+
+  pub same-roomy : w .to ≤ length xs → ys ≡ xs → Roomy w xs w ys
+  same-roomy h e = record { front = front; within = omega (arith, h, ap length e); kept = inl (refl, ap (seen w) e) }
+
+pub moved-roomy : (w : Window) (xs ys : List ℕ) → w .from ≤ w .to → w .to ≤ length xs → length ys ≡ length xs → take (w .to - w .from) ys ≡ slice (w .from) (w .to) xs → Roomy w xs (record { from = 0; to = w .to - w .from; «given_up» = w .«given_up» }) ys
+moved-roomy w xs ys o h l e = record { front = refl; within = omega (arith, h, l); kept = inl (refl, e) }
+
+-- ---- room is made, and more is read
+module _ (h₀ buf : List ℕ) (w : Window) (turns : ℕ) (g : Looking h₀ buf w turns) (clear : hasNoFeed (seen w buf) ≡ true) where
+  pub roomed : (r : Window) (ys : List ℕ) → Roomy w buf r ys → length ys ≡ length buf → Looking h₀ ys r turns × (hasNoFeed (seen r ys) ≡ true)
+  roomed r ys k l = by (k .kept)
+    where
+      by : ((r .«given_up» ≡ w .«given_up») × (seen r ys ≡ seen w buf)) ⊎ ((r .«given_up» ≡ true) × (r .to ≡ 0) × (seen w buf ≡ buf)) → Looking h₀ ys r turns × (hasNoFeed (seen r ys) ≡ true)
+      by (inl q) = (
+        record {
+          ordered = omega (arith, k .front);
+          within = k .within;
+          input = g .input;
+          passed = g .passed;
+          whole = g .whole ∙ ap (λ (z : List ℕ). g .passed ++ z) (sym (q .1));
+          no-feed = g .no-feed;
+          none-passed = λ e. g .none-passed (sym (q .0) ∙ e);
+          many = λ e. omega (arith, l, g .many (sym (q .0) ∙ e));
+          reads = g .reads;
+        },
+        ap hasNoFeed (q .1) ∙ clear,
+      )
+      by (inr q) =
+          let nothing : seen r ys ≡ [] = (λ i. slice (k .front i) (q .1 i) ys) in (
+            record {
+              ordered = omega (arith, k .front, q .1);
+              within = k .within;
+              input = g .input;
+              passed = g .passed ++ seen w buf;
+              whole = g .whole ∙ sym (ap (λ (z : List ℕ). (g .passed ++ seen w buf) ++ z) nothing ∙ append-nil (g .passed ++ seen w buf));
+              no-feed = no-feed-append (g .passed) (seen w buf) (g .no-feed) clear;
+              none-passed = λ e. absurd (true≢false (sym (q .0) ∙ e));
+              many = λ e. omega (arith, l, length-append (g .passed) (seen w buf), ap length (q .2));
+              reads = g .reads;
+            },
+            ap hasNoFeed nothing ∙ nil-clear,
+          )
+
+module _ (h₀ ys zs : List ℕ) (r : Window) (turns : ℕ) (g : Looking h₀ ys r turns) (same-length : length zs ≡ length ys) (same : take (r .to) zs ≡ take (r .to) ys) where
+  pub more-read : (more : ℕ) → r .to < more → more ≤ length zs → 0 < turns → Looking h₀ zs (record { from = r .from; to = more; «given_up» = r .«given_up» }) (turns - 1)
+  more-read more h k t =
+      let new : List ℕ = slice (r .to) more zs in
+      let n : length new ≡ more - r .to = length-slice (r .to) more zs k in
+      record {
+        ordered = omega (arith, h, g .ordered);
+        within = k;
+        input = g .input ++ new;
+        passed = g .passed;
+        whole =
+            sym (append-assoc (h₀) (g .input) new)
+            ∙ ap (λ (l : List ℕ). l ++ new) (g .whole)
+            ∙ append-assoc (g .passed) (seen r ys) new
+            ∙ ap (λ (l : List ℕ). g .passed ++ l) (ap (λ (l : List ℕ). drop (r .from) l ++ new) (sym same) ∙ sym (slice-parts (r .from) (r .to) more zs (g .ordered) (omega (arith, h)) k));
+        no-feed = g .no-feed;
+        none-passed = g .none-passed;
+        many = λ e. omega (arith, same-length, g .many e);
+        reads = omega (arith, g .reads, t, h, n, length-append (g .input) new);
+      }
+
+  -- the input ended
+  module _ (front : r .from ≡ 0) (clear : hasNoFeed (seen r ys) ≡ true) where
+    line-is : seen r ys ≡ slice 0 (r .to) zs
+    line-is = (λ i. drop (front i) (sym same i))
+
+    last-parted : Parted (h₀ ++ g .input) (g .passed) (slice 0 (r .to) zs) (inHand (record { from = 0; to = 0 }) zs)
+    last-parted = record {
+      tail = [];
+      whole = g .whole ∙ ap (λ (l : List ℕ). g .passed ++ l) (line-is ∙ sym (append-nil (slice 0 (r .to) zs)));
+      passed-no-feed = g .no-feed;
+      line-no-feed = ap hasNoFeed (sym line-is) ∙ clear;
+      behind = inr (refl, no-bytes zs);
+    }
+
+    pub ended : Came h₀ (lastLine r) zs
+    ended = by (r .«given_up») (g .none-passed) (g .many)
+      where
+        inside : r .to ≤ length zs
+        inside = omega (arith, same-length, g .within)
+
+        by : (b : Bool) → (b ≡ false → g .passed ≡ []) → (b ≡ true → length ys ≤ length (g .passed)) → Came h₀ (cond b (lineOf 0 (r .to) true 0 0) (cond (eqb (r .to) 0) (record { start = 0; end = 0; kind = kind.End; rest = record { from = 0; to = 0 } }) (lineOf 0 (r .to) false 0 0))) zs
+        by true none many = record {
+          ordered = omega arith;
+          inside = inside;
+          input = g .input;
+          told = record { passed = g .passed; many = omega (arith, same-length, many refl); parts = last-parted };
+        }
+        by false none many = whole (eqb (r .to) 0) refl
+          where
+            whole : (b : Bool) → eqb (r .to) 0 ≡ b → Came h₀ (cond b (record { start = 0; end = 0; kind = kind.End; rest = record { from = 0; to = 0 } }) (lineOf 0 (r .to) false 0 0)) zs
+            whole true e = record {
+              ordered = omega arith;
+              inside = omega arith;
+              input = g .input;
+              told = inl (g .whole ∙ (λ i. none refl i ++ (line-is ∙ ap (λ (n : ℕ). slice 0 n zs) (eqb-true (r .to) 0 e)) i));
+            }
+            whole false e = record {
+              ordered = omega arith;
+              inside = inside;
+              input = g .input;
+              told = subst (λ (l : List ℕ). Parted (h₀ ++ g .input) l (slice 0 (r .to) zs) (inHand (record { from = 0; to = 0 }) zs)) (none refl) last-parted;
+            }
+
+-- the last line by its tests
+module _ (w : Window) where
+  abbrev none-left : Line
+  none-left = record { start = 0; end = 0; kind = kind.End; rest = record { from = 0; to = 0 } }
+
+  pub last-too-long : w .«given_up» ≡ true → lineOf 0 (w .to) true 0 0 ≡ lastLine w
+  last-too-long e = sym (ap (λ (b : Bool). cond b (lineOf 0 (w .to) true 0 0) (cond (eqb (w .to) 0) none-left (lineOf 0 (w .to) false 0 0))) e)
+
+  pub last-none : w .«given_up» ≡ false → w .to ≡ 0 → none-left ≡ lastLine w
+  last-none e z = sym (λ i. cond (e i) (lineOf 0 (w .to) true 0 0) (cond (eq-eqb (w .to) 0 z i) none-left (lineOf 0 (w .to) false 0 0)))
+
+  pub last-whole : w .«given_up» ≡ false → (w .to ≡ 0 → ⊥) → lineOf 0 (w .to) false 0 0 ≡ lastLine w
+  last-whole e z = sym (λ i. cond (e i) (lineOf 0 (w .to) true 0 0) (cond (ne-eqb (w .to) 0 z i) none-left (lineOf 0 (w .to) false 0 0)))
+
+-- no turn is left
+pub used-up : (h₀ buf : List ℕ) (w : Window) (turns : ℕ) → Looking h₀ buf w turns → turns ≤ 0 → Came h₀ (record { start = 0; end = 0; kind = kind.End; rest = record { from = 0; to = 0 } }) buf
+used-up h₀ buf w turns g t = record {
+  ordered = omega arith;
+  inside = omega arith;
+  input = g .input;
+  told = inr (omega (arith, t, g .reads, length-append (h₀) (g .input)));
+}

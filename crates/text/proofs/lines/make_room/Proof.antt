@@ -1,0 +1,35 @@
+-- `text::lines::make_room` meets its contract.
+use mathlib.Core.Path.{refl}
+use borrow.Author.Needs.{needs}
+use Rattle.text.proofs.LineLaws.{full-roomy, same-roomy, moved-roomy}
+use Rattle.text.proofs.lines.make_room.Statement.{statement}
+use Rattle.text.proofs.lines.make_room.Tie as tie
+
+returns : tie.Need-returns
+returns c =
+    let s = c .before .before .before .args in
+    full-roomy (s .w) (s .buf .now) (s .buf .now) (c .before .if1 .taken) (c .if2 .taken) refl
+
+returns-2 : tie.Need-returns-2
+returns-2 c =
+    let s = c .before .before .before in
+    same-roomy (s .args .w) (s .args .buf .now) (s .args .buf .now) (c .before .if1 .taken) (s .pre .1) refl
+
+to-front-requires : tie.Need-to-front-requires
+to-front-requires c κs = search needs
+
+sub-t11 : tie.Need-sub-t11
+sub-t11 c = search needs
+
+same-length : tie.Need-same-length
+same-length c = search needs
+
+returns-3 : tie.Need-returns-3
+returns-3 c =
+    let f = c .before .before in
+    let s = f .before .before .before .before in
+    moved-roomy (s .args .w) (s .args .buf .now) (f .to-front .last .0) (s .pre .0) (s .pre .1) (same-length c) (f .to-front .ensures)
+
+pub make-room-spec : {M : Type 1} → statement M
+make-room-spec =
+    tie.close (tie.spec returns returns-2 to-front-requires sub-t11 same-length returns-3)
