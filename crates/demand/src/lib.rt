@@ -2,6 +2,7 @@
 // the peers report.
 
 pub mod allocation;
+pub mod boundary;
 pub mod decay;
 pub mod demand;
 pub mod hot_set;
