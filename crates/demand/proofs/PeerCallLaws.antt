@@ -11,15 +11,18 @@ use Rattle.demand.specs.declared.peer_demand.ChangeAnswer.the-variants a
 use Rattle.gcra.specs.Questions.{Question, passes, firstNo}
 use Rattle.gcra.proofs.Answers.{Numbered, answer-no, answer-passed, not-passed, passed-none}
 use Rattle.demand.specs.PeerState.{PeersState, PeerTables, haveRoom, stateOf, isValid, Stores}
-use Rattle.demand.specs.PeerCalls.{peersQuestions, reportQuestions, Changes}
+use Rattle.demand.specs.PeerCalls.{peersQuestions, reportQuestions, Changes, Unchanged}
 use Rattle.demand.specs.PeerSteps.{Valid}
+
+pub unchanged : (p : PeerDemand) (t : PeerTables) → Unchanged p p t t
+unchanged p t = record { value = refl; peers = refl; snapshotKeys = refl; contested = refl }
 
 module _ (qs : List Question) (change : PeersState → PeersState) (p : PeerDemand) (t : PeerTables) where
   -- a 'no' changes nothing
   pub changes-not : (n : ℕ) → n ≡ firstNo qs → (n ≡ 0 → ⊥) → Changes qs change p t (record { answer = change-answer.No n; peers = p }) t
   changes-not n e h = record {
     answered = answer-no tt qs n e h;
-    kept = λ l. record { value = refl; peers = refl; snapshotKeys = refl; contested = refl };
+    kept = λ l. unchanged p t;
     stored = λ l. absurd (true≢false (sym l ∙ not-passed qs n e h));
   }
 

@@ -94,7 +94,7 @@ module _ (p : PeerDemand) (t t′ : PeerTables) (r : PeersChanged) (before : pas
 
   pub applied-again : (id at : ℕ) (report : DemandReport) → Widths id at report → all fitsWidths (report .keys) ≡ true → Applies p t id report at r t′ → passes (peersQuestions (r .peers) t′) ≡ true
   applied-again id at report ws fit c =
-      changed-again (reportQuestions p t id report) (changes.apply changes.implausibleJump id report at) p t r t′ c before
+      changed-again (reportQuestions p t id report) (changes.apply changes.implausibleJump id report at) p t r t′ (c .applied) before
       (λ e.
       let d = passed-says p t id report (record { questions = none-passed (reportQuestions p t id report) e }) in
       apply-valid changes.implausibleJump id at report (stateOf p t) ws fit (d .count) (d .demands) (d .place) was-valid)

@@ -124,9 +124,10 @@ pub record Changes (qs : List Question) (change : PeersState → PeersState) (p 
   pub kept : passes qs ≡ false → Unchanged p (r .peers) t t′
   pub stored : passes qs ≡ true → Becomes change p t (r .peers) t′
 
-abbrev pub Applies : PeerDemand → PeerTables → ℕ → DemandReport → ℕ → PeersChanged → PeerTables → Type 0
-Applies p t id report at r t′ =
-    Changes (reportQuestions p t id report) (changes.apply changes.implausibleJump id report at) p t r t′
+-- 'A report that passes every question but whose origin is not the sender changes nothing', not a word of the tables
+pub record Applies (p : PeerDemand) (t : PeerTables) (id : ℕ) (report : DemandReport) (at : ℕ) (r : PeersChanged) (t′ : PeerTables) : Type 0 where
+  pub applied : Changes (reportQuestions p t id report) (changes.apply changes.implausibleJump id report at) p t r t′
+  pub ignored : eqb (report .origin) id ≡ false → Unchanged p (r .peers) t t′
 
 abbrev pub Forgets : PeerDemand → PeerTables → ℕ → PeersChanged → PeerTables → Type 0
 Forgets p t id r t′ = Changes (peersQuestions p t) (changes.forget id) p t r t′
