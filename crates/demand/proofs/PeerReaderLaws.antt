@@ -109,7 +109,7 @@ module _ (n : ℕ) (xs : List ℕ) (ready : PeersReady n xs) where
   snapshot-missing id i e = ap snapshotIn (peer-of-id id (records 12 n xs) ∙ ap (mapped peerOf) (word-missing id (records 12 n xs) (ready .ascend) long-peers i e))
 
   pub peer-round : all arePeerWords (records 12 n xs) ≡ true → (i : ℕ) → i < n → getD xs (i * 12 + 5) 0 < 2 ^ 16
-  unfolding arePeerWords isPeer
+  unfolding isPeer
   peer-round pass i h =
       let r : List ℕ = getD (records 12 n xs) i [] in
       let e = all-index arePeerWords [] (records 12 n xs) pass i (omega (arith, h, length-records 12 n xs)) in

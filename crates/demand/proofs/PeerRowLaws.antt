@@ -31,13 +31,6 @@ pub first-at : (w n : ℕ) (xs : List ℕ) (i : ℕ) → i < n → 1 ≤ w → f
 first-at w n xs i h k = word-at w n xs i 0 h k ∙ ap (λ (m : ℕ). getD xs m 0) (add-zero (i * w))
 
 -- tests of record i are those of the words at its place
-pub peer-record : (n : ℕ) (xs : List ℕ) (i : ℕ) → i < n → arePeerWords (drop (i * 12) xs) ≡ arePeerWords (getD (records 12 n xs) i [])
-unfolding arePeerWords
-peer-record n xs i h = sym (ap arePeerWords (record-at 12 n xs i h) ∙ (λ k. isPeer (word 1 (omega arith) k) (word 2 (omega arith) k) (word 3 (omega arith) k) (word 4 (omega arith) k) (word 5 (omega arith) k) (word 6 (omega arith) k) (word 7 (omega arith) k) (word 8 (omega arith) k) (word 9 (omega arith) k) (word 10 (omega arith) k) (word 11 (omega arith) k)))
-  where
-    word : (j : ℕ) → j < 12 → getD (take 12 (drop (i * 12) xs)) j 0 ≡ getD (drop (i * 12) xs) j 0
-    word j l = getD-take 12 (drop (i * 12) xs) j 0 l
-
 pub key-record : (w n : ℕ) (xs : List ℕ) (i : ℕ) → i < n → 4 ≤ w → areKeyWords w (drop (i * w) xs) ≡ areKeyWords w (getD (records w n xs) i [])
 unfolding areKeyWords
 key-record w n xs i h four = sym (ap (areKeyWords w) (record-at w n xs i h) ∙ (λ k. isDemand (word 2 (omega arith) k) && (leb (word 3 (omega arith) k) 1 && round k)))

@@ -154,7 +154,7 @@ same-peer a b c d e f g h i j k l =
 
 -- a peer's record is exact and valid where its words pass
 peer-words : (a b c d e f g h i j k l : ℕ) → PeerIs (a ∷ b ∷ c ∷ d ∷ e ∷ f ∷ g ∷ h ∷ i ∷ j ∷ k ∷ l ∷ [])
-unfolding validPeer peerOf isPeer arePeerWords
+unfolding validPeer peerOf isPeer
 peer-words a b c d e f g h i j k l word =
     let r : List ℕ = a ∷ b ∷ c ∷ d ∷ e ∷ f ∷ g ∷ h ∷ i ∷ j ∷ k ∷ l ∷ [] in
     let es : List ℕ = take h (i ∷ j ∷ k ∷ l ∷ []) in
@@ -266,13 +266,6 @@ unfolding isPastEpoch
 further-epoch count i epoch h = sym (ap (λ (b : Bool). cond b (ltb epoch (2 ^ 32)) (eqb epoch 0)) (le-ltb i count h))
 
 -- the words at a place of a table
-pub peer-words-at : (t : List ℕ) (at : ℕ) → isPeer (getD t (at + 1) 0) (getD t (at + 2) 0) (getD t (at + 3) 0) (getD t (at + 4) 0) (getD t (at + 5) 0) (getD t (at + 6) 0) (getD t (at + 7) 0) (getD t (at + 8) 0) (getD t (at + 9) 0) (getD t (at + 10) 0) (getD t (at + 11) 0) ≡ arePeerWords (drop at t)
-unfolding arePeerWords
-peer-words-at t at = sym (λ n. isPeer (word 1 n) (word 2 n) (word 3 n) (word 4 n) (word 5 n) (word 6 n) (word 7 n) (word 8 n) (word 9 n) (word 10 n) (word 11 n))
-  where
-    word : (i : ℕ) → getD (drop at t) i 0 ≡ getD t (at + i) 0
-    word i = getD-drop at t i 0
-
 pub key-words-at : (t : List ℕ) (at w : ℕ) → (isDemand (getD t (at + 2) 0) && (leb (getD t (at + 3) 0) 1 && (leb w 4 || ltb (getD t (at + 4) 0) (2 ^ 16)))) ≡ areKeyWords w (drop at t)
 unfolding areKeyWords
 key-words-at t at w = sym (λ n. isDemand (getD-drop at t 2 0 n) && (leb (getD-drop at t 3 0 n) 1 && (leb w 4 || ltb (getD-drop at t 4 0 n) (2 ^ 16))))

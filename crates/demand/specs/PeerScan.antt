@@ -35,7 +35,7 @@ isPeer held until taken epoch round heardAt count a b c d =
     isTime held until
     && (isSnapshot taken epoch round heardAt && (isPast count a b c d && (ltb 0 taken || eqb count 0)))
 
-unfoldable pub arePeerWords : List ℕ → Bool
+abbrev pub arePeerWords : List ℕ → Bool
 arePeerWords r =
     isPeer (getD r 1 0) (getD r 2 0) (getD r 3 0) (getD r 4 0) (getD r 5 0) (getD r 6 0) (getD r 7 0) (getD r 8 0) (getD r 9 0) (getD r 10 0) (getD r 11 0)
 

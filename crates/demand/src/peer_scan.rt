@@ -103,23 +103,23 @@ fn is_peer(
     count == 0
 }
 
-// Whether the words at `at` are those of a valid peer.
-fn are_peer_words(t: &[u64], at: usize) -> bool
-    requires { ⌜ at + 12 ≤ length (now t) ⌝ }
-    ensures { λ r. ⌜ r ≡ arePeerWords (drop at (now (t .entry))) ⌝ }
+// Whether the words are those of a valid peer.
+fn are_peer_words(words: &[u64]) -> bool
+    requires { ⌜ length (now words) ≡ 12 ⌝ }
+    ensures { λ r. ⌜ r ≡ arePeerWords (now (words .entry)) ⌝ }
 {
     is_peer(
-        t[at + 1],
-        t[at + 2],
-        t[at + 3],
-        t[at + 4],
-        t[at + 5],
-        t[at + 6],
-        t[at + 7],
-        t[at + 8],
-        t[at + 9],
-        t[at + 10],
-        t[at + 11],
+        words[1],
+        words[2],
+        words[3],
+        words[4],
+        words[5],
+        words[6],
+        words[7],
+        words[8],
+        words[9],
+        words[10],
+        words[11],
     )
 }
 
@@ -147,7 +147,8 @@ fn are_all_peer_words(t: &[u64], n: usize) -> bool
 {
     let mut i = 0;
     while i < n {
-        if !are_peer_words(t, i * PEER_WORDS) {
+        let at = i * PEER_WORDS;
+        if !are_peer_words(&t[at..at + PEER_WORDS]) {
             return false;
         }
         i += 1;

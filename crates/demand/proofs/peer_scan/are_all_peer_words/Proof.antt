@@ -1,14 +1,16 @@
 -- `are_all_peer_words` meets its contract.
-use Prim.Native.Nat.{_+_, _-_, _*_, _≤_}
-use mathlib.Core.Path.{_≡_, refl, sym, _∙_}
+use Prim.Native.Nat.{ℕ, _+_, _-_, _*_, _≤_}
+use mathlib.Core.Path.{_≡_, refl, sym, ap, _∙_}
+use mathlib.Core.List.{[]}
 use native.Mathlib.Omega.{arith}
-use lib.ListN.{length, drop}
+use lib.ListN.{length, length-take, length-drop, take, drop, getD}
 use borrow.Author.Tests.{not-true, not-false}
 use Rattle.records.specs.Records.{records}
-use Rattle.records.proofs.RecordLaws.{row}
+use Rattle.records.proofs.RecordLaws.{row, record-at}
 use Rattle.demand.specs.PeerLists.{all}
 use Rattle.demand.specs.PeerScan.{arePeerWords}
-use Rattle.demand.proofs.PeerRowLaws.{peer-record, scan-fails, scan-goes, scan-ends}
+use Rattle.demand.proofs.PeerRowLaws.{scan-fails, scan-goes, scan-ends}
+use borrow.Author.Needs.{needs}
 use Rattle.demand.proofs.peer_scan.are_all_peer_words.Statement.{statement}
 use Rattle.demand.proofs.peer_scan.are_all_peer_words.Tie as tie
 
@@ -27,18 +29,43 @@ inside c =
 loop-holds : tie.Need-loop-holds Inv-loop μ-loop
 loop-holds c = (omega arith, refl)
 
+mul-at : tie.Need-mul-at Inv-loop μ-loop
+mul-at c = omega (arith, inside c)
+
+add-are-peer-words : tie.Need-add-are-peer-words Inv-loop μ-loop
+add-are-peer-words c = omega (arith, inside c)
+
 mul-are-peer-words : tie.Need-mul-are-peer-words Inv-loop μ-loop
 mul-are-peer-words c = omega (arith, inside c)
 
+sub-are-peer-words : tie.Need-sub-are-peer-words Inv-loop μ-loop
+sub-are-peer-words c = search needs
+
+part-are-peer-words-start : tie.Need-part-are-peer-words-start Inv-loop μ-loop
+part-are-peer-words-start c = omega (arith, inside c)
+
+part-are-peer-words-end : tie.Need-part-are-peer-words-end Inv-loop μ-loop
+part-are-peer-words-end c = omega (arith, inside c)
+
 are-peer-words-requires : tie.Need-are-peer-words-requires Inv-loop μ-loop
-are-peer-words-requires c κs = omega (arith, inside c)
+are-peer-words-requires c κs =
+    let s = c .before .before .before .before .args in
+    let at = c .before .before .loop .i * 12 in
+    length-take (at + 12 - at) (drop at (s .t .now)) ∙ omega (arith, length-drop at (s .t .now), inside (c .before))
+
+-- the lent words are the record of the turn
+record-told : (c : tie.After-are-peer-words Inv-loop μ-loop) → let s = c .before .before .before .before .before .args in arePeerWords (getD (records 12 (s .n) (s .t .now)) (c .before .before .before .loop .i) []) ≡ c .are-peer-words .result
+record-told c =
+    let s = c .before .before .before .before .before .args in
+    let i = c .before .before .before .loop .i in
+    let twelve : 12 ≡ i * 12 + 12 - i * 12 = omega arith in
+    ap arePeerWords (record-at 12 (s .n) (s .t .now) i (omega arith) ∙ ap (λ (k : ℕ). take k (drop (i * 12) (s .t .now))) twelve) ∙ sym (c .are-peer-words .ensures)
 
 returns : tie.Need-returns Inv-loop μ-loop
 returns c =
-    let s = c .before .before .before .before .before .args in
-    let st = c .before .before .before .before .before in
-    let l = c .before .before .before .loop in
-    scan-fails arePeerWords 12 (s .n) (s .t .now) (l .i) (l .inv .1) (omega arith) (sym (peer-record (s .n) (s .t .now) (l .i) (omega arith)) ∙ sym (c .before .are-peer-words .ensures) ∙ not-true (c .before .are-peer-words .result) (c .if1 .taken))
+    let s = c .before .before .before .before .before .before .args in
+    let l = c .before .before .before .before .loop in
+    scan-fails arePeerWords 12 (s .n) (s .t .now) (l .i) (l .inv .1) (omega arith) (record-told (c .before) ∙ not-true (c .before .are-peer-words .result) (c .if1 .taken))
 
 add-i : tie.Need-add-i Inv-loop μ-loop
 add-i c = omega arith
@@ -48,10 +75,9 @@ loop-less c = omega arith
 
 loop-again : tie.Need-loop-again Inv-loop μ-loop
 loop-again c =
-    let s = c .before .before .before .before .before .args in
-    let st = c .before .before .before .before .before in
-    let l = c .before .before .before .loop in
-    (omega arith, scan-goes arePeerWords 12 (s .n) (s .t .now) (l .i) (l .inv .1) (omega arith) (sym (peer-record (s .n) (s .t .now) (l .i) (omega arith)) ∙ sym (c .before .are-peer-words .ensures) ∙ not-false (c .before .are-peer-words .result) (c .if1 .left)))
+    let s = c .before .before .before .before .before .before .args in
+    let l = c .before .before .before .before .loop in
+    (omega arith, scan-goes arePeerWords 12 (s .n) (s .t .now) (l .i) (l .inv .1) (omega arith) (record-told (c .before) ∙ not-false (c .before .are-peer-words .result) (c .if1 .left)))
 
 returns-2 : tie.Need-returns-2 Inv-loop μ-loop
 returns-2 c =
@@ -66,7 +92,12 @@ are-all-peer-words-spec =
     Inv-loop
     μ-loop
     loop-holds
+    mul-at
+    add-are-peer-words
     mul-are-peer-words
+    sub-are-peer-words
+    part-are-peer-words-start
+    part-are-peer-words-end
     are-peer-words-requires
     returns
     add-i
