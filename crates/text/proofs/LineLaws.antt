@@ -1,12 +1,12 @@
 -- Looking for a line in a buffer, read by read.
 use Prim.Native.Nat.{ℕ, suc, _+_, _-_, _^_, _≤_, _<_}
 use mathlib.Core.Path.{_≡_, refl, sym, ap, _∙_, subst}
-use mathlib.Core.Logic.{_⊎_, inl, inr}
-use mathlib.Core.Bool.{Bool, true, false, cond, not, _&&_, true≢false}
+use mathlib.Core.Logic.{inl, inr, ⊎-elim}
+use mathlib.Core.Bool.{Bool, true, false, cond, not, _&&_, _||_, true≢false}
 use mathlib.Core.List.{List, [], _∷_, _++_, append-assoc, append-nil}
 use native.Mathlib.Omega.{arith}
-use borrow.Author.Tests.{leb-true, le-leb, lt-leb, eqb-true, eqb-false, eq-eqb, ne-eqb}
-use lib.Dec.{eqb, leb}
+use borrow.Author.Tests.{ltb-false, le-leb, eqb-true, eqb-false}
+use lib.Dec.{eqb, leb, ltb}
 use lib.ListN.{length, take, drop, getD, set, length-set, length-append, take-append-drop}
 use native.Mathlib.Numerals.{add-one}
 use lib.Seq.{take-add, drop-at, getD-set-same, getD-set-other, take-at, take-all, slice, slice-cons, length-slice, take-take, take-length, drop-append-le, length-take-le, ext-getD, getD-take, getD-drop}
@@ -14,7 +14,7 @@ use Rattle.text.specs.declared.lines.Kind.the-variants as kind
 use Rattle.text.specs.declared.lines.Line.{Line}
 use Rattle.text.specs.declared.lines.Lines.{Lines}
 use Rattle.text.specs.declared.lines.Window.{Window}
-use Rattle.text.specs.Input.{indexOf, feed, hasNoFeed, inHand, Parted, Came, seen, noWindow, windowOf, Roomy, lineOf, lastLine}
+use Rattle.text.specs.Input.{indexOf, feed, hasNoFeed, inHand, Parted, Told, Came, seen, Held, Roomy, lineOf, noLine, lastLine}
 
 split : {P : Type 0} (b : Bool) → (b ≡ true → P) → (b ≡ false → P) → P
 split true y n = y refl
@@ -24,11 +24,15 @@ both : (a b : Bool) → (a && b) ≡ true → (a ≡ true) × (b ≡ true)
 both true b e = (refl, e)
 both false b e = absurd (true≢false (sym e))
 
+neither : (a b : Bool) → (a || b) ≡ false → (a ≡ false) × (b ≡ false)
+neither true b e = absurd (true≢false e)
+neither false b e = (refl, e)
+
 pub strictly : (a b : ℕ) → a ≤ b → (b ≡ a → ⊥) → a < b
 strictly a b h n = omega arith
 
 -- ---- parts of a list
-pub slice-parts : {A : Type 0} (a b c : ℕ) (l : List A) → a ≤ b → b ≤ c → c ≤ length l → slice a c l ≡ slice a b l ++ slice b c l
+slice-parts : {A : Type 0} (a b c : ℕ) (l : List A) → a ≤ b → b ≤ c → c ≤ length l → slice a c l ≡ slice a b l ++ slice b c l
 slice-parts {A = A} a b c l h k m =
     ap (drop a) (sym (take-append-drop b (take c l)))
     ∙ drop-append-le a (take b (take c l)) (drop b (take c l)) (omega (arith, h, k, length-take-le b (take c l) (omega (arith, k, length-take-le c l m))))
@@ -62,14 +66,14 @@ feed-or x xs f g = split (eqb x feed)
     (λ e. g (ap not e) (ap (λ (b : Bool). cond b 0 (suc (indexOf feed xs))) e))
 
 -- no line feed before the first one, and one there
-pub no-feed-before : (xs : List ℕ) → hasNoFeed (take (indexOf feed xs) xs) ≡ true
+no-feed-before : (xs : List ℕ) → hasNoFeed (take (indexOf feed xs) xs) ≡ true
 unfolding hasNoFeed indexOf
 no-feed-before [] = refl
 no-feed-before (x ∷ xs) = feed-or x xs
     (λ e h. ap (λ (n : ℕ). hasNoFeed (take n (x ∷ xs))) h)
     (λ e h. ap (λ (n : ℕ). hasNoFeed (take n (x ∷ xs))) h ∙ (λ i. e i && no-feed-before xs i))
 
-pub feed-there : (xs : List ℕ) → indexOf feed xs < length xs → getD xs (indexOf feed xs) 0 ≡ feed
+feed-there : (xs : List ℕ) → indexOf feed xs < length xs → getD xs (indexOf feed xs) 0 ≡ feed
 feed-there [] h = absurd (omega arith)
 feed-there (x ∷ xs) h = feed-or x xs
     (λ e k. ap (λ (n : ℕ). getD (x ∷ xs) n 0) k ∙ e)
@@ -107,7 +111,7 @@ all-moved from to xs ys h k m =
 -- ---- a line that is looked for: what was in hand and read is what was passed over and what is seen
 pub record Looking (h₀ buf : List ℕ) (w : Window) (turns : ℕ) : Type 0 where
   pub ordered : w .from ≤ w .to
-  pub within : w .to ≤ length buf
+  pub inside : w .to ≤ length buf
   pub input : List ℕ
   pub passed : List ℕ
   pub whole : h₀ ++ input ≡ passed ++ seen w buf
@@ -116,67 +120,54 @@ pub record Looking (h₀ buf : List ℕ) (w : Window) (turns : ℕ) : Type 0 whe
   pub many : w .«given_up» ≡ true → length buf ≤ length passed
   pub reads : 2 ^ 64 - 1 ≤ turns + length input
 
--- nothing is in hand where the window is empty
-no-bytes : (xs : List ℕ) → inHand (record { from = 0; to = 0 }) xs ≡ []
-unfolding inHand
-no-bytes xs = ap (λ (b : Bool). cond (leb 0 0 && b) (slice 0 0 xs) []) (le-leb 0 (length xs) (omega arith))
-
+-- ---- the bytes in hand
 in-hand : (from to : ℕ) (xs : List ℕ) → from ≤ to → to ≤ length xs → inHand (record { from = from; to = to }) xs ≡ slice from to xs
 unfolding inHand
 in-hand from to xs h k = (λ i. cond (le-leb from to h i && le-leb to (length xs) k i) (slice from to xs) [])
 
-pub looks : (buf : List ℕ) (w : Window) → w .from ≤ w .to → w .to ≤ length buf → w .«given_up» ≡ false → Looking (seen w buf) buf w (2 ^ 64 - 1)
-looks buf w o k e = record {
-  ordered = o;
-  within = k;
-  input = [];
-  passed = [];
-  whole = append-nil (seen w buf);
-  no-feed = nil-clear;
-  none-passed = λ h. refl;
-  many = λ h. absurd (true≢false (sym h ∙ e));
-  reads = omega arith;
-}
+no-bytes : (xs : List ℕ) → inHand (record { from = 0; to = 0 }) xs ≡ []
+no-bytes xs = in-hand 0 0 xs (omega arith) (omega arith)
 
--- the window by its tests
-module _ (s : Lines) (len : ℕ) where
-  abbrev held : Window
-  held = record { from = s .from; to = s .to; «given_up» = false }
+module _ (s : Lines) (xs : List ℕ) where
+  pub held : s .from ≤ s .to → s .to ≤ length xs → Held s xs (record { from = s .from; to = s .to; «given_up» = false })
+  held h k = record { ordered = h; inside = k; bytes = sym (in-hand (s .from) (s .to) xs h k); none-given-up = refl }
 
-  pub reversed : s .to < s .from → noWindow ≡ windowOf s len
-  unfolding windowOf
-  reversed h = sym (ap (λ (b : Bool). cond (b && leb (s .to) len) held noWindow) (lt-leb (s .from) (s .to) h))
+  pub none-held : (leb (s .from) (s .to) && leb (s .to) (length xs)) ≡ false → Held s xs (record { from = 0; to = 0; «given_up» = false })
+  unfolding inHand
+  none-held e = record {
+    ordered = omega arith;
+    inside = omega arith;
+    bytes = sym (ap (λ (b : Bool). cond b (slice (s .from) (s .to) xs) []) e);
+    none-given-up = refl;
+  }
 
-  pub outside : s .from ≤ s .to → len < s .to → noWindow ≡ windowOf s len
-  unfolding windowOf
-  outside h k = sym (λ i. cond (le-leb (s .from) (s .to) h i && lt-leb (s .to) len k i) held noWindow)
+  pub looks : (w : Window) → Held s xs w → Looking (seen w xs) xs w (2 ^ 64 - 1)
+  looks w h = record {
+    ordered = h .ordered;
+    inside = h .inside;
+    input = [];
+    passed = [];
+    whole = append-nil (seen w xs);
+    no-feed = nil-clear;
+    none-passed = λ e. refl;
+    many = λ e. absurd (true≢false (sym e ∙ h .none-given-up));
+    reads = omega arith;
+  }
 
-  pub inside-it : s .from ≤ s .to → s .to ≤ len → held ≡ windowOf s len
-  unfolding windowOf
-  inside-it h k = sym (λ i. cond (le-leb (s .from) (s .to) h i && le-leb (s .to) len k i) held noWindow)
+-- ---- what is told of a line
+-- by whether its first bytes were given up
+told-of : {bytes passed line rest : List ℕ} (long : ℕ) (b : Bool) → (b ≡ false → passed ≡ []) → (b ≡ true → long ≤ length passed) → Parted bytes passed line rest → Told (cond b kind.TooLong kind.Whole) long bytes line rest
+told-of {passed = passed} long true none many p = record { passed = passed; many = many refl; parts = p }
+told-of {bytes = bytes} {line = line} {rest = rest} long false none many p = subst (λ (l : List ℕ). Parted bytes l line rest) (none refl) p
 
-  pub window-seen : (xs : List ℕ) → length xs ≡ len → seen (windowOf s len) xs ≡ inHand s xs
-  unfolding windowOf inHand
-  window-seen xs l = by (leb (s .from) (s .to) && leb (s .to) len) refl
-    where
-      by : (b : Bool) → (leb (s .from) (s .to) && leb (s .to) len) ≡ b → seen (cond b held noWindow) xs ≡ cond (leb (s .from) (s .to) && leb (s .to) (length xs)) (slice (s .from) (s .to) xs) []
-      by true e = sym (ap (λ (n : ℕ). cond (leb (s .from) (s .to) && leb (s .to) n) (slice (s .from) (s .to) xs) []) l ∙ ap (λ (b : Bool). cond b (slice (s .from) (s .to) xs) []) e)
-      by false e = sym (ap (λ (n : ℕ). cond (leb (s .from) (s .to) && leb (s .to) n) (slice (s .from) (s .to) xs) []) l ∙ ap (λ (b : Bool). cond b (slice (s .from) (s .to) xs) []) e)
-
-  pub window-within : (windowOf s len .from ≤ windowOf s len .to) × (windowOf s len .to ≤ len) × (windowOf s len .«given_up» ≡ false)
-  unfolding windowOf
-  window-within = by (leb (s .from) (s .to) && leb (s .to) len) refl
-    where
-      by : (b : Bool) → (leb (s .from) (s .to) && leb (s .to) len) ≡ b → (cond b held noWindow .from ≤ cond b held noWindow .to) × (cond b held noWindow .to ≤ len) × (cond b held noWindow .«given_up» ≡ false)
-      by true e =
-          let b = both (leb (s .from) (s .to)) (leb (s .to) len) e in
-          (leb-true (s .from) (s .to) (b .0), leb-true (s .to) len (b .1), refl)
-      by false e = (omega arith, omega arith, refl)
+-- the line itself for one that equals it, and the bytes in hand likewise
+pub came : {h₀ h₁ : List ℕ} {l r : Line} {ys : List ℕ} → h₀ ≡ h₁ → r ≡ l → Came h₀ l ys → Came h₁ r ys
+came p q k = rw (← p, q) k
 
 -- ---- a line feed is seen
 module _ (h₀ buf : List ℕ) (w : Window) (turns : ℕ) (g : Looking h₀ buf w turns) (e : ℕ) (at : e ≡ w .from + indexOf feed (seen w buf)) (h : e < w .to) where
   long : length (seen w buf) ≡ w .to - w .from
-  long = length-slice (w .from) (w .to) buf (g .within)
+  long = length-slice (w .from) (w .to) buf (g .inside)
 
   index-less : indexOf feed (seen w buf) < length (seen w buf)
   index-less = omega (arith, at, h, long, g .ordered)
@@ -189,16 +180,16 @@ module _ (h₀ buf : List ℕ) (w : Window) (turns : ℕ) (g : Looking h₀ buf 
 
   cut : seen w buf ≡ slice (w .from) e buf ++ (feed ∷ slice (suc e) (w .to) buf)
   cut =
-      slice-parts (w .from) e (w .to) buf (omega (arith, at)) (omega (arith, h)) (g .within)
-      ∙ ap (λ (l : List ℕ). slice (w .from) e buf ++ l) (slice-cons e (w .to) buf 0 h (g .within) ∙ ap (λ (b : ℕ). b ∷ slice (suc e) (w .to) buf) here)
+      slice-parts (w .from) e (w .to) buf (omega (arith, at)) (omega (arith, h)) (g .inside)
+      ∙ ap (λ (l : List ℕ). slice (w .from) e buf ++ l) (slice-cons e (w .to) buf 0 h (g .inside) ∙ ap (λ (b : ℕ). b ∷ slice (suc e) (w .to) buf) here)
 
   line-clear : hasNoFeed (slice (w .from) e buf) ≡ true
   line-clear =
-      ap hasNoFeed (sym (ap (take (indexOf feed (seen w buf))) cut ∙ take-at (slice (w .from) e buf) (feed ∷ slice (suc e) (w .to) buf) (indexOf feed (seen w buf)) (length-slice (w .from) e buf (omega (arith, h, g .within)) ∙ omega (arith, at))))
+      ap hasNoFeed (sym (ap (take (indexOf feed (seen w buf))) cut ∙ take-at (slice (w .from) e buf) (feed ∷ slice (suc e) (w .to) buf) (indexOf feed (seen w buf)) (length-slice (w .from) e buf (omega (arith, h, g .inside)) ∙ omega (arith, at))))
       ∙ no-feed-before (seen w buf)
 
   rest-is : inHand (record { from = e + 1; to = w .to }) buf ≡ slice (suc e) (w .to) buf
-  rest-is = in-hand (e + 1) (w .to) buf (omega (arith, h)) (g .within) ∙ ap (λ (n : ℕ). slice n (w .to) buf) (add-one e)
+  rest-is = in-hand (e + 1) (w .to) buf (omega (arith, h)) (g .inside) ∙ ap (λ (n : ℕ). slice n (w .to) buf) (add-one e)
 
   parted : Parted (h₀ ++ g .input) (g .passed) (slice (w .from) e buf) (inHand (record { from = e + 1; to = w .to }) buf)
   parted = record {
@@ -210,21 +201,12 @@ module _ (h₀ buf : List ℕ) (w : Window) (turns : ℕ) (g : Looking h₀ buf 
   }
 
   pub found : Came h₀ (lineOf (w .from) e (w .«given_up») (e + 1) (w .to)) buf
-  found = by (w .«given_up») (g .none-passed) (g .many)
-    where
-      by : (b : Bool) → (b ≡ false → g .passed ≡ []) → (b ≡ true → length buf ≤ length (g .passed)) → Came h₀ (lineOf (w .from) e b (e + 1) (w .to)) buf
-      by true none many = record {
-        ordered = omega (arith, at);
-        inside = omega (arith, h, g .within);
-        input = g .input;
-        told = record { passed = g .passed; many = many refl; parts = parted };
-      }
-      by false none many = record {
-        ordered = omega (arith, at);
-        inside = omega (arith, h, g .within);
-        input = g .input;
-        told = subst (λ (l : List ℕ). Parted (h₀ ++ g .input) l (slice (w .from) e buf) (inHand (record { from = e + 1; to = w .to }) buf)) (none refl) parted;
-      }
+  found = record {
+    ordered = omega (arith, at);
+    inside = omega (arith, h, g .inside);
+    input = g .input;
+    told = told-of (length buf) (w .«given_up») (g .none-passed) (g .many) parted;
+  }
 
 -- no line feed is seen
 pub none-seen : (ys : List ℕ) → length ys ≤ indexOf feed ys → hasNoFeed ys ≡ true
@@ -235,26 +217,24 @@ module _ (w : Window) (xs ys : List ℕ) (front : w .from ≡ 0) where
   pub full-roomy : w .to ≡ length xs → ys ≡ xs → Roomy w xs (record { from = 0; to = 0; «given_up» = true }) ys
   full-roomy h e = record {
     front = refl;
-    within = omega arith;
+    inside = omega arith;
     kept = inr (refl, refl, (λ i. slice (front i) (h i) xs) ∙ take-length xs);
   }
 
   pub same-roomy : w .to ≤ length xs → ys ≡ xs → Roomy w xs w ys
-  same-roomy h e = record { front = front; within = omega (arith, h, ap length e); kept = inl (refl, ap (seen w) e) }
+  same-roomy h e = record { front = front; inside = omega (arith, h, ap length e); kept = inl (refl, ap (seen w) e) }
 
 pub moved-roomy : (w : Window) (xs ys : List ℕ) → w .from ≤ w .to → w .to ≤ length xs → length ys ≡ length xs → take (w .to - w .from) ys ≡ slice (w .from) (w .to) xs → Roomy w xs (record { from = 0; to = w .to - w .from; «given_up» = w .«given_up» }) ys
-moved-roomy w xs ys o h l e = record { front = refl; within = omega (arith, h, l); kept = inl (refl, e) }
+moved-roomy w xs ys o h l e = record { front = refl; inside = omega (arith, h, l); kept = inl (refl, e) }
 
 -- ---- room is made, and more is read
 module _ (h₀ buf : List ℕ) (w : Window) (turns : ℕ) (g : Looking h₀ buf w turns) (clear : hasNoFeed (seen w buf) ≡ true) where
   pub roomed : (r : Window) (ys : List ℕ) → Roomy w buf r ys → length ys ≡ length buf → Looking h₀ ys r turns × (hasNoFeed (seen r ys) ≡ true)
-  roomed r ys k l = by (k .kept)
-    where
-      by : ((r .«given_up» ≡ w .«given_up») × (seen r ys ≡ seen w buf)) ⊎ ((r .«given_up» ≡ true) × (r .to ≡ 0) × (seen w buf ≡ buf)) → Looking h₀ ys r turns × (hasNoFeed (seen r ys) ≡ true)
-      by (inl q) = (
+  roomed r ys k l = ⊎-elim
+      (λ q. (
         record {
           ordered = omega (arith, k .front);
-          within = k .within;
+          inside = k .inside;
           input = g .input;
           passed = g .passed;
           whole = g .whole ∙ ap (λ (z : List ℕ). g .passed ++ z) (sym (q .1));
@@ -264,22 +244,23 @@ module _ (h₀ buf : List ℕ) (w : Window) (turns : ℕ) (g : Looking h₀ buf 
           reads = g .reads;
         },
         ap hasNoFeed (q .1) ∙ clear,
-      )
-      by (inr q) =
-          let nothing : seen r ys ≡ [] = (λ i. slice (k .front i) (q .1 i) ys) in (
-            record {
-              ordered = omega (arith, k .front, q .1);
-              within = k .within;
-              input = g .input;
-              passed = g .passed ++ seen w buf;
-              whole = g .whole ∙ sym (ap (λ (z : List ℕ). (g .passed ++ seen w buf) ++ z) nothing ∙ append-nil (g .passed ++ seen w buf));
-              no-feed = no-feed-append (g .passed) (seen w buf) (g .no-feed) clear;
-              none-passed = λ e. absurd (true≢false (sym (q .0) ∙ e));
-              many = λ e. omega (arith, l, length-append (g .passed) (seen w buf), ap length (q .2));
-              reads = g .reads;
-            },
-            ap hasNoFeed nothing ∙ nil-clear,
-          )
+      ))
+      (λ q.
+      let nothing : seen r ys ≡ [] = (λ i. slice (k .front i) (q .1 i) ys) in (
+        record {
+          ordered = omega (arith, k .front, q .1);
+          inside = k .inside;
+          input = g .input;
+          passed = g .passed ++ seen w buf;
+          whole = g .whole ∙ sym (ap (λ (z : List ℕ). (g .passed ++ seen w buf) ++ z) nothing ∙ append-nil (g .passed ++ seen w buf));
+          no-feed = no-feed-append (g .passed) (seen w buf) (g .no-feed) clear;
+          none-passed = λ e. absurd (true≢false (sym (q .0) ∙ e));
+          many = λ e. omega (arith, l, length-append (g .passed) (seen w buf), ap length (q .2));
+          reads = g .reads;
+        },
+        ap hasNoFeed nothing ∙ nil-clear,
+      ))
+      (k .kept)
 
 module _ (h₀ ys zs : List ℕ) (r : Window) (turns : ℕ) (g : Looking h₀ ys r turns) (same-length : length zs ≡ length ys) (same : take (r .to) zs ≡ take (r .to) ys) where
   pub more-read : (more : ℕ) → r .to < more → more ≤ length zs → 0 < turns → Looking h₀ zs (record { from = r .from; to = more; «given_up» = r .«given_up» }) (turns - 1)
@@ -288,7 +269,7 @@ module _ (h₀ ys zs : List ℕ) (r : Window) (turns : ℕ) (g : Looking h₀ ys
       let n : length new ≡ more - r .to = length-slice (r .to) more zs k in
       record {
         ordered = omega (arith, h, g .ordered);
-        within = k;
+        inside = k;
         input = g .input ++ new;
         passed = g .passed;
         whole =
@@ -317,50 +298,27 @@ module _ (h₀ ys zs : List ℕ) (r : Window) (turns : ℕ) (g : Looking h₀ ys
     }
 
     pub ended : Came h₀ (lastLine r) zs
-    ended = by (r .«given_up») (g .none-passed) (g .many)
+    ended = by (r .«given_up» || ltb 0 (r .to)) refl
       where
-        inside : r .to ≤ length zs
-        inside = omega (arith, same-length, g .within)
-
-        by : (b : Bool) → (b ≡ false → g .passed ≡ []) → (b ≡ true → length ys ≤ length (g .passed)) → Came h₀ (cond b (lineOf 0 (r .to) true 0 0) (cond (eqb (r .to) 0) (record { start = 0; end = 0; kind = kind.End; rest = record { from = 0; to = 0 } }) (lineOf 0 (r .to) false 0 0))) zs
-        by true none many = record {
+        by : (b : Bool) → (r .«given_up» || ltb 0 (r .to)) ≡ b → Came h₀ (cond b (lineOf 0 (r .to) (r .«given_up») 0 0) noLine) zs
+        by true e = record {
           ordered = omega arith;
-          inside = inside;
+          inside = omega (arith, same-length, g .inside);
           input = g .input;
-          told = record { passed = g .passed; many = omega (arith, same-length, many refl); parts = last-parted };
+          told = told-of (length zs) (r .«given_up») (g .none-passed) (λ t. omega (arith, same-length, g .many t)) last-parted;
         }
-        by false none many = whole (eqb (r .to) 0) refl
-          where
-            whole : (b : Bool) → eqb (r .to) 0 ≡ b → Came h₀ (cond b (record { start = 0; end = 0; kind = kind.End; rest = record { from = 0; to = 0 } }) (lineOf 0 (r .to) false 0 0)) zs
-            whole true e = record {
+        by false e =
+            let n = neither (r .«given_up») (ltb 0 (r .to)) e in
+            let z : r .to ≡ 0 = omega (arith, ltb-false 0 (r .to) (n .1)) in
+            record {
               ordered = omega arith;
               inside = omega arith;
               input = g .input;
-              told = inl (g .whole ∙ (λ i. none refl i ++ (line-is ∙ ap (λ (n : ℕ). slice 0 n zs) (eqb-true (r .to) 0 e)) i));
+              told = inl (g .whole ∙ (λ i. g .none-passed (n .0) i ++ (line-is ∙ ap (λ (m : ℕ). slice 0 m zs) z) i));
             }
-            whole false e = record {
-              ordered = omega arith;
-              inside = inside;
-              input = g .input;
-              told = subst (λ (l : List ℕ). Parted (h₀ ++ g .input) l (slice 0 (r .to) zs) (inHand (record { from = 0; to = 0 }) zs)) (none refl) last-parted;
-            }
-
--- the last line by its tests
-module _ (w : Window) where
-  abbrev none-left : Line
-  none-left = record { start = 0; end = 0; kind = kind.End; rest = record { from = 0; to = 0 } }
-
-  pub last-too-long : w .«given_up» ≡ true → lineOf 0 (w .to) true 0 0 ≡ lastLine w
-  last-too-long e = sym (ap (λ (b : Bool). cond b (lineOf 0 (w .to) true 0 0) (cond (eqb (w .to) 0) none-left (lineOf 0 (w .to) false 0 0))) e)
-
-  pub last-none : w .«given_up» ≡ false → w .to ≡ 0 → none-left ≡ lastLine w
-  last-none e z = sym (λ i. cond (e i) (lineOf 0 (w .to) true 0 0) (cond (eq-eqb (w .to) 0 z i) none-left (lineOf 0 (w .to) false 0 0)))
-
-  pub last-whole : w .«given_up» ≡ false → (w .to ≡ 0 → ⊥) → lineOf 0 (w .to) false 0 0 ≡ lastLine w
-  last-whole e z = sym (λ i. cond (e i) (lineOf 0 (w .to) true 0 0) (cond (ne-eqb (w .to) 0 z i) none-left (lineOf 0 (w .to) false 0 0)))
 
 -- no turn is left
-pub used-up : (h₀ buf : List ℕ) (w : Window) (turns : ℕ) → Looking h₀ buf w turns → turns ≤ 0 → Came h₀ (record { start = 0; end = 0; kind = kind.End; rest = record { from = 0; to = 0 } }) buf
+pub used-up : (h₀ buf : List ℕ) (w : Window) (turns : ℕ) → Looking h₀ buf w turns → turns ≤ 0 → Came h₀ noLine buf
 used-up h₀ buf w turns g t = record {
   ordered = omega arith;
   inside = omega arith;

@@ -1,32 +1,33 @@
--- What a digit does to a numeral.
-use mathlib.Core.Path.{_≡_, refl, sym, ap, _∙_}
+-- Numerals: what a digit does to one that is read, and the digits of one that is written.
+use mathlib.Core.Path.{_≡_, refl, ap, _∙_}
 use Prim.Native.Nat.{ℕ, _+_, _-_, _*_, _/_, _^_, _≤_, _<_}
 use native.Mathlib.Nat.{le-div-iff-mul-le, div-lt-iff-lt-mul, mul-comm}
 use native.Mathlib.Omega.{arith}
 use native.Mathlib.Numerals.{add-one}
 use mathlib.Core.Bool.{Bool, true, false, _&&_, cond}
-use mathlib.Core.List.{List, _∷_}
+use mathlib.Core.List.{List}
 use lib.Dec.{leb, ltb}
 use lib.ListN.{length, drop, getD, drop-of-length-le}
 use lib.Seq.{drop-cons}
 use borrow.Author.Tests.{lt-ltb, le-ltb, le-leb, lt-leb}
-use Rattle.text.specs.declared.Number.{Number}
 use Rattle.text.specs.declared.Number.the-variants.{Value, Unfit}
+use Rattle.io.specs.Digits.{digits, Fewest}
 use Rattle.text.specs.Numbers.{digit, numeral, ifFits}
+use Rattle.text.specs.Output.{written, end, Spelled}
 
 -- ---- `digit`, by the two tests of its definition
 digit-by : (b : ℕ) (p q : Bool) → (leb 48 b && leb b 57) ≡ p → (leb 97 b && leb b 102) ≡ q → cond p (b - 48) (cond q (b - 87) 16) ≡ digit b
 unfolding digit
-digit-by b p q h k = sym (ap (λ (t : Bool). cond t (b - 48) (cond (leb 97 b && leb b 102) (b - 87) 16)) h ∙ ap (λ (t : Bool). cond p (b - 48) (cond t (b - 87) 16)) k)
+digit-by b p q h k = rw (h, k)
 
 inside : (l b h : ℕ) → l ≤ b → b ≤ h → (leb l b && leb b h) ≡ true
-inside l b h p q = ap (λ (t : Bool). t && leb b h) (le-leb l b p) ∙ le-leb b h q
+inside l b h p q = rw (le-leb l b p) (le-leb b h q)
 
 under : (l b h : ℕ) → b < l → (leb l b && leb b h) ≡ false
-under l b h p = ap (λ (t : Bool). t && leb b h) (lt-leb l b p)
+under l b h p = rw (lt-leb l b p)
 
 over : (l b h : ℕ) → l ≤ b → h < b → (leb l b && leb b h) ≡ false
-over l b h p q = ap (λ (t : Bool). t && leb b h) (le-leb l b p) ∙ lt-leb b h q
+over l b h p q = rw (le-leb l b p) (lt-leb b h q)
 
 pub digit-below : (b : ℕ) → b < 48 → 16 ≡ digit b
 digit-below b h = digit-by b false false (under 48 b 57 h) (under 97 b 102 (omega arith))
@@ -62,15 +63,11 @@ no-room base n d B h =
 
 at-digit : (base n i : ℕ) (s : List ℕ) → i < length s → numeral base n (drop i s) ≡ ifFits (ltb (digit (getD s i 0)) base && ltb (base * n + digit (getD s i 0)) (2 ^ 64)) (numeral base (base * n + digit (getD s i 0)) (drop (i + 1) s))
 unfolding numeral
-at-digit base n i s h = ap (numeral base n) (drop-cons s i 0 h ∙ ap (λ (j : ℕ). getD s i 0 ∷ drop j s) (sym (add-one i)))
+at-digit base n i s h = rw (add-one, drop-cons s i 0)
 
 module _ (base n i : ℕ) (s : List ℕ) (d : ℕ) (I : i < length s) (e : d ≡ digit (getD s i 0)) where
   by-tests : (p q : Bool) → ltb d base ≡ p → ltb (base * n + d) (2 ^ 64) ≡ q → numeral base n (drop i s) ≡ ifFits (p && q) (numeral base (base * n + d) (drop (i + 1) s))
-  by-tests p q h k =
-      at-digit base n i s I
-      ∙ ap (λ (z : ℕ). ifFits (ltb z base && ltb (base * n + z) (2 ^ 64)) (numeral base (base * n + z) (drop (i + 1) s))) (sym e)
-      ∙ ap (λ (t : Bool). ifFits (t && ltb (base * n + d) (2 ^ 64)) (numeral base (base * n + d) (drop (i + 1) s))) h
-      ∙ ap (λ (t : Bool). ifFits (p && t) (numeral base (base * n + d) (drop (i + 1) s))) k
+  by-tests p q h k = at-digit base n i s I ∙ rw (← e, h, k)
 
   pub no-digit : base ≤ d → numeral base n (drop i s) ≡ Unfit
   no-digit h = by-tests false (ltb (base * n + d) (2 ^ 64)) (le-ltb d base h) refl
@@ -86,9 +83,6 @@ pub at-end : (base n i : ℕ) (s : List ℕ) → length s ≤ i → numeral base
 unfolding numeral
 at-end base n i s h = ap (numeral base n) (drop-of-length-le s h)
 
--- ---- where the length is wrong, and where it is right
-pub unless-fits : (t : Bool) (n : Number) → t ≡ false → Unfit ≡ ifFits t n
-unless-fits t n h = sym (ap (λ (b : Bool). ifFits b n) h)
-
-pub where-fits : (t : Bool) (n : Number) → t ≡ true → n ≡ ifFits t n
-where-fits t n h = sym (ap (λ (b : Bool). ifFits b n) h)
+-- ---- the digits of a number, put as text
+pub spelled : {base least n at r k : ℕ} {s xs ys : List ℕ} → Fewest base least n k × (s ≡ digits base k n) → (r ≡ end at s xs) × (ys ≡ written at s xs) → Spelled base least n at r xs ys
+spelled {k = k} d p = record { count = k; fewest = d .0; text = rw (d .1) at (p .1); ends = rw (d .1) at (p .0) }

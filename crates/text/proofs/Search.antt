@@ -1,5 +1,5 @@
 -- Looking for a byte, place by place.
-use mathlib.Core.Path.{_≡_, sym, ap, _∙_}
+use mathlib.Core.Path.{_≡_, ap, _∙_}
 use Prim.Native.Nat.{ℕ, suc, _+_, _≤_, _<_}
 use native.Mathlib.Nat.{add-zero}
 use native.Mathlib.Numerals.{add-one}
@@ -14,10 +14,7 @@ use Rattle.text.specs.Input.{indexOf}
 
 here : (b i : ℕ) (s : List ℕ) (t : Bool) → i < length s → eqb (getD s i 0) b ≡ t → indexOf b (drop i s) ≡ cond t 0 (suc (indexOf b (drop (i + 1) s)))
 unfolding indexOf
-here b i s t h e =
-    ap (indexOf b) (drop-cons s i 0 h)
-    ∙ ap (λ (p : Bool). cond p 0 (suc (indexOf b (drop (suc i) s)))) e
-    ∙ ap (λ (j : ℕ). cond t 0 (suc (indexOf b (drop j s)))) (sym (add-one i))
+here b i s t h e = rw (add-one, drop-cons s i 0, e)
 
 pub found : (b i : ℕ) (s : List ℕ) → i < length s → getD s i 0 ≡ b → i + indexOf b (drop i s) ≡ i
 found b i s h e = ap (λ (k : ℕ). i + k) (here b i s true h (eq-eqb (getD s i 0) b e)) ∙ add-zero i

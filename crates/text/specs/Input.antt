@@ -1,10 +1,10 @@
 -- Lines in a buffer.
-use Prim.Native.Nat.{ℕ, suc, _+_, _-_, _^_, _≤_}
+use Prim.Native.Nat.{ℕ, suc, _-_, _^_, _≤_}
 use mathlib.Core.Path.{_≡_}
 use mathlib.Core.Logic.{_⊎_}
-use mathlib.Core.Bool.{Bool, true, false, cond, not, _&&_}
+use mathlib.Core.Bool.{Bool, true, false, cond, not, _&&_, _||_}
 use mathlib.Core.List.{List, [], _∷_, _++_}
-use lib.Dec.{eqb, leb}
+use lib.Dec.{eqb, leb, ltb}
 use lib.ListN.{length}
 use lib.Seq.{slice}
 use Rattle.text.specs.declared.lines.Kind.{Kind}
@@ -22,6 +22,7 @@ indexOf b (x ∷ xs) = cond (eqb x b) 0 (suc (indexOf b xs))
 abbrev pub feed : ℕ
 feed = 10
 
+-- whether no byte is a line feed
 unfoldable pub hasNoFeed : List ℕ → Bool
 hasNoFeed [] = true
 hasNoFeed (x ∷ xs) = not (eqb x feed) && hasNoFeed xs
@@ -54,8 +55,7 @@ Told kind.Whole long bytes line rest = Parted bytes [] line rest
 Told kind.TooLong long bytes line rest = TooLong long bytes line rest
 Told kind.End long bytes line rest = (bytes ≡ []) ⊎ (2 ^ 64 - 1 ≤ length bytes)
 
--- A line of the bytes that were in hand and those that the input gave, which no contract can say; it lies in the buffer, and so does
--- what is in hand behind it.
+-- what came, of the bytes that were in hand and some that the input gave: no contract can say which. A line lies within the buffer.
 pub record Came (bytes : List ℕ) (l : Line) (ys : List ℕ) : Type 0 where
   pub ordered : l .start ≤ l .end
   pub inside : l .end ≤ length ys
@@ -64,32 +64,32 @@ pub record Came (bytes : List ℕ) (l : Line) (ys : List ℕ) : Type 0 where
 
 -- ---- while a line is looked for
 
--- what is in hand, in a window of the buffer
+-- the bytes in a window of the buffer
 abbrev pub seen : Window → List ℕ → List ℕ
 seen w xs = slice (w .from) (w .to) xs
 
--- the window of the bytes in hand
-abbrev pub noWindow : Window
-noWindow = record { from = 0; to = 0; «given_up» = false }
-
-unfoldable pub windowOf : Lines → ℕ → Window
-windowOf s len =
-    cond (leb (s .from) (s .to) && leb (s .to) len) (record { from = s .from; to = s .to; «given_up» = false }) noWindow
+-- a window on the bytes in hand, of which none is given up yet
+pub record Held (s : Lines) (xs : List ℕ) (w : Window) : Type 0 where
+  pub ordered : w .from ≤ w .to
+  pub inside : w .to ≤ length xs
+  pub bytes : seen w xs ≡ inHand s xs
+  pub none-given-up : w .«given_up» ≡ false
 
 -- room was made: the bytes in hand are at the front, or they filled the buffer and are given up
 pub record Roomy (w : Window) (xs : List ℕ) (r : Window) (ys : List ℕ) : Type 0 where
   pub front : r .from ≡ 0
-  pub within : r .to ≤ length ys
+  pub inside : r .to ≤ length ys
   pub kept : ((r .«given_up» ≡ w .«given_up») × (seen r ys ≡ seen w xs)) ⊎ ((r .«given_up» ≡ true) × (r .to ≡ 0) × (seen w xs ≡ xs))
 
--- a line start..end with bytes from..to in hand behind it
+-- a line start..end, too long where its first bytes were given up, with bytes from..to in hand behind it
 abbrev pub lineOf : ℕ → ℕ → Bool → ℕ → ℕ → Line
 lineOf start end givenUp from to =
     record { start = start; end = end; kind = cond givenUp kind.TooLong kind.Whole; rest = record { from = from; to = to } }
 
--- at the end of the input: what is in hand, or nothing
+-- no line: the input ended
+abbrev pub noLine : Line
+noLine = record { start = 0; end = 0; kind = kind.End; rest = record { from = 0; to = 0 } }
+
+-- where the input ends: a last line of what is in hand, or none where nothing is and nothing was given up
 abbrev pub lastLine : Window → Line
-lastLine w =
-    cond (w .«given_up») (lineOf 0 (w .to) true 0 0)
-    (cond (eqb (w .to) 0) (record { start = 0; end = 0; kind = kind.End; rest = record { from = 0; to = 0 } })
-    (lineOf 0 (w .to) false 0 0))
+lastLine w = cond (w .«given_up» || ltb 0 (w .to)) (lineOf 0 (w .to) (w .«given_up») 0 0) noLine

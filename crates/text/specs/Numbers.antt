@@ -11,6 +11,7 @@ use Rattle.text.specs.declared.Number.the-variants.{Value, Unfit}
 unfoldable pub digit : ℕ → ℕ
 digit b = cond (leb 48 b && leb b 57) (b - 48) (cond (leb 97 b && leb b 102) (b - 87) 16)
 
+-- the number, where the test holds
 abbrev pub ifFits : Bool → Number → Number
 ifFits true n = n
 ifFits false n = Unfit
@@ -22,11 +23,9 @@ numeral base n [] = Value n
 numeral base n (b ∷ bs) = ifFits (ltb (digit b) base && ltb (base * n + digit b) (2 ^ 64)) (numeral base (base * n + digit b) bs)
 
 -- at least one decimal digit
-unfoldable pub decimalNumber : List ℕ → Number
-unfolding numeral
+abbrev pub decimalNumber : List ℕ → Number
 decimalNumber s = ifFits (ltb 0 (length s)) (numeral 10 0 s)
 
 -- exactly so many hexadecimal digits
-unfoldable pub hexNumber : ℕ → List ℕ → Number
-unfolding numeral
+abbrev pub hexNumber : ℕ → List ℕ → Number
 hexNumber digits s = ifFits (eqb (length s) digits) (numeral 16 0 s)

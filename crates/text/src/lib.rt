@@ -6,7 +6,7 @@ ghost use mathlib.Core.Path.{_≡_};
 ghost use Prim.Native.Nat.{_≤_, _<_, min, max};
 ghost use lib.ListN.{length};
 ghost use Rattle.text.specs.Input.{indexOf};
-ghost use Rattle.text.specs.Numbers.{digit, numeral, decimalNumber, hexNumber};
+ghost use Rattle.text.specs.Numbers.{digit, ifFits, numeral, decimalNumber, hexNumber};
 ghost use Rattle.text.specs.Output.{written, end, Spelled, flushed};
 
 pub enum Number {
@@ -66,24 +66,30 @@ fn numeral(s: &[u8], base: u64) -> Number
     Number::Value(n)
 }
 
+// The number that s spells in a base up to 16, where its length is right.
+fn numeral_if(right: bool, s: &[u8], base: u64) -> Number
+    requires { ⌜ (0 < base) × (base ≤ 16) ⌝ }
+    ensures { λ r. ⌜ r ≡ ifFits right (numeral base 0 (now (s .entry))) ⌝ }
+{
+    if right {
+        numeral(s, base)
+    } else {
+        Number::Unfit
+    }
+}
+
 // The whole number that s spells in decimal digits, at least one.
 pub fn decimal(s: &[u8]) -> Number
     ensures { λ r. ⌜ r ≡ decimalNumber (now (s .entry)) ⌝ }
 {
-    if s.len() == 0 {
-        return Number::Unfit;
-    }
-    numeral(s, 10)
+    numeral_if(0 < s.len(), s, 10)
 }
 
 // The number that s spells in exactly so many hexadecimal digits, letters small.
 pub fn hex(s: &[u8], digits: usize) -> Number
     ensures { λ r. ⌜ r ≡ hexNumber digits (now (s .entry)) ⌝ }
 {
-    if s.len() != digits {
-        return Number::Unfit;
-    }
-    numeral(s, 16)
+    numeral_if(s.len() == digits, s, 16)
 }
 
 // Writes s at index at and answers where it ends; where there is no room it writes nothing and

@@ -4,7 +4,7 @@ ghost use mathlib.Core.Path.{_≡_};
 ghost use Prim.Native.Nat.{_+_, _-_, _≤_};
 ghost use lib.ListN.{length, take};
 ghost use lib.Seq.{slice};
-ghost use Rattle.text.specs.Input.{indexOf, feed, inHand, noWindow, windowOf, Roomy, lineOf, lastLine, Came};
+ghost use Rattle.text.specs.Input.{indexOf, feed, inHand, Held, Roomy, lineOf, noLine, lastLine, Came};
 
 // Bytes from..to of the buffer are read and not yet handed out.
 pub struct Lines {
@@ -95,21 +95,25 @@ fn make_room(buf: &mut [u8], w: Window) -> Window
 fn line_of(start: usize, end: usize, given_up: bool, from: usize, to: usize) -> Line
     ensures { λ r. ⌜ r ≡ lineOf start end «given_up» from to ⌝ }
 {
+    let kind = if given_up { Kind::TooLong } else { Kind::Whole };
     let rest = Lines { from, to };
-    if given_up {
-        Line {
-            start,
-            end,
-            kind: Kind::TooLong,
-            rest,
-        }
-    } else {
-        Line {
-            start,
-            end,
-            kind: Kind::Whole,
-            rest,
-        }
+    Line {
+        start,
+        end,
+        kind,
+        rest,
+    }
+}
+
+// No line: the input ended.
+fn no_line() -> Line
+    ensures { λ r. ⌜ r ≡ noLine ⌝ }
+{
+    Line {
+        start: 0,
+        end: 0,
+        kind: Kind::End,
+        rest: Lines { from: 0, to: 0 },
     }
 }
 
@@ -117,19 +121,11 @@ fn line_of(start: usize, end: usize, given_up: bool, from: usize, to: usize) -> 
 fn last_line(w: Window) -> Line
     ensures { λ r. ⌜ r ≡ lastLine w ⌝ }
 {
-    let to = w.to;
-    if w.given_up {
-        return line_of(0, to, true, 0, 0);
+    if w.given_up || 0 < w.to {
+        line_of(0, w.to, w.given_up, 0, 0)
+    } else {
+        no_line()
     }
-    if to == 0 {
-        return Line {
-            start: 0,
-            end: 0,
-            kind: Kind::End,
-            rest: Lines { from: 0, to: 0 },
-        };
-    }
-    line_of(0, to, false, 0, 0)
 }
 
 // What stands in the buffer before the first line is read.
@@ -139,33 +135,24 @@ pub fn start() -> Lines
     Lines { from: 0, to: 0 }
 }
 
-// No bytes.
-fn nothing() -> Window
-    ensures { λ r. ⌜ r ≡ noWindow ⌝ }
-{
-    Window {
-        from: 0,
-        to: 0,
-        given_up: false,
-    }
-}
-
 // The bytes in hand, none where the numbers do not lie within the buffer.
-fn in_hand(s: Lines, len: usize) -> Window
-    ensures { λ r. ⌜ r ≡ windowOf s len ⌝ }
+fn in_hand(buf: &[u8], s: Lines) -> Window
+    ensures { λ r. ⌜ Held s (now (buf .entry)) r ⌝ }
 {
     let from = s.from;
     let to = s.to;
-    if to < from {
-        return nothing();
-    }
-    if len < to {
-        return nothing();
-    }
-    Window {
-        from,
-        to,
-        given_up: false,
+    if from <= to && to <= buf.len() {
+        Window {
+            from,
+            to,
+            given_up: false,
+        }
+    } else {
+        Window {
+            from: 0,
+            to: 0,
+            given_up: false,
+        }
     }
 }
 
@@ -174,7 +161,7 @@ fn in_hand(s: Lines, len: usize) -> Window
 pub fn next_line(buf: &mut [u8], s: Lines) -> Line
     ensures { λ r. ⌜ Came (inHand s (now (buf .entry))) r (now (buf .exit)) ⌝ }
 {
-    let mut w = in_hand(s, buf.len());
+    let mut w = in_hand(buf, s);
     let mut turns = u64::MAX;
     while 0 < turns {
         let from = w.from;
@@ -191,10 +178,5 @@ pub fn next_line(buf: &mut [u8], s: Lines) -> Line
         w.to = more;
         turns -= 1;
     }
-    Line {
-        start: 0,
-        end: 0,
-        kind: Kind::End,
-        rest: Lines { from: 0, to: 0 },
-    }
+    no_line()
 }

@@ -4,15 +4,6 @@ use Rattle.text.proofs.Numerals.{digit-below, digit-decimal, digit-betw
 use Rattle.text.proofs.digit.Statement.{statement}
 use Rattle.text.proofs.digit.Tie as tie
 
-cast-result : tie.Need-cast-result
-cast-result c = search needs
-
-cast-result-2 : tie.Need-cast-result-2
-cast-result-2 c = search needs
-
-add-result : tie.Need-add-result
-add-result c = search needs
-
 returns : tie.Need-returns
 returns c = digit-below (c .before .args .b) (c .if1 .taken)
 
@@ -29,14 +20,4 @@ returns-5 : tie.Need-returns-5
 returns-5 c = digit-above (c .before .before .before .before .args .b) (c .if4 .left)
 
 pub digit-spec : {M : Type 1} → statement M
-digit-spec =
-    tie.close
-    (tie.spec
-    cast-result
-    cast-result-2
-    add-result
-    returns
-    returns-2
-    returns-3
-    returns-4
-    returns-5)
+digit-spec = tie.close (tie.spec (λ c. search needs) (λ c. search needs) (λ c. search needs) returns returns-2 returns-3 returns-4 returns-5)

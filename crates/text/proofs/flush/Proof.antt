@@ -1,7 +1,6 @@
 -- `text::flush` meets its contract.
-use mathlib.Core.Path.{_≡_, sym, ap}
+use mathlib.Core.Path.{_≡_, sym}
 use Prim.Native.Nat.{ℕ, _+_, _≤_, _<_}
-use mathlib.Core.Bool.{Bool, cond}
 use mathlib.Core.List.{List}
 use native.Mathlib.Omega.{arith}
 use lib.ListN.{length}
@@ -14,17 +13,14 @@ use Rattle.text.proofs.flush.Tie as tie
 
 kept : (at room : ℕ) (xs : List ℕ) → at + room ≤ length xs → at ≡ flushed at room xs
 unfolding flushed
-kept at room xs h = sym (ap (λ (t : Bool). cond t at 0) (le-leb (at + room) (length xs) h))
+kept at room xs h = rw (le-leb (at + room) (length xs) h)
 
 emptied : (at room : ℕ) (xs : List ℕ) → length xs < at + room → 0 ≡ flushed at room xs
 unfolding flushed
-emptied at room xs h = sym (ap (λ (t : Bool). cond t at 0) (lt-leb (at + room) (length xs) h))
+emptied at room xs h = rw (lt-leb (at + room) (length xs) h)
 
 returns : tie.Need-returns
 returns c = let t = c .before .before .args in emptied (t .at) (t .room) (t .out .now) (omega arith)
-
-sub-if2 : tie.Need-sub-if2
-sub-if2 c = search needs
 
 returns-2 : tie.Need-returns-2
 returns-2 c = let t = c .before .before .before .args in kept (t .at) (t .room) (t .out .now) (omega arith)
@@ -32,13 +28,8 @@ returns-2 c = let t = c .before .before .before .args in kept (t .at) (t .room) 
 slice-aggregate-write-all : tie.Need-slice-aggregate-write-all
 slice-aggregate-write-all c = let t = c .before .before .before .before .args in sym (length-take-le (t .at) (t .out .now) (omega arith))
 
-write-all-requires : tie.Need-write-all-requires
-write-all-requires c κs = search needs
-
 returns-3 : tie.Need-returns-3
 returns-3 c = let t = c .before .before .before .before .before .args in emptied (t .at) (t .room) (t .out .now) (omega arith)
 
 pub flush-spec : {M : Type 1} → statement M
-flush-spec =
-    tie.close
-    (tie.spec returns sub-if2 returns-2 slice-aggregate-write-all write-all-requires returns-3)
+flush-spec = tie.close (tie.spec returns (λ c. search needs) returns-2 slice-aggregate-write-all (λ c κs. search needs) returns-3)

@@ -18,12 +18,6 @@ abbrev μ-loop : tie.MeasureT-loop
 loop-holds : tie.Need-loop-holds Inv-loop μ-loop
 loop-holds c = (omega arith, refl)
 
-shared-slice-read-digit : tie.Need-shared-slice-read-digit Inv-loop μ-loop
-shared-slice-read-digit c = omega arith
-
-digit-requires : tie.Need-digit-requires Inv-loop μ-loop
-digit-requires c κs = tt
-
 -- what is known of the digit read
 module _ (c : tie.After-digit Inv-loop μ-loop) where
   abbrev loop : tie.At-loop Inv-loop μ-loop
@@ -56,12 +50,6 @@ module _ (c : tie.After-digit Inv-loop μ-loop) where
 returns : tie.Need-returns Inv-loop μ-loop
 returns c = let a = c .before in sym (so-far a ∙ no-digit (base a) (n a) (loop a .loop .i) (s a) (d a) (inside a) (a .digit .ensures) (c .if1 .taken))
 
-sub-if2 : tie.Need-sub-if2 Inv-loop μ-loop
-sub-if2 c = omega arith
-
-div-if2 : tie.Need-div-if2 Inv-loop μ-loop
-div-if2 c = omega arith
-
 returns-2 : tie.Need-returns-2 Inv-loop μ-loop
 returns-2 c =
     let a = c .before .before in
@@ -72,12 +60,6 @@ mul-n c = let a = c .before .before in omega (arith, room a (c .before .if1 .lef
 
 add-n : tie.Need-add-n Inv-loop μ-loop
 add-n c = let a = c .before .before in omega (arith, room a (c .before .if1 .left) (c .if2 .left))
-
-add-i : tie.Need-add-i Inv-loop μ-loop
-add-i c = omega arith
-
-loop-less : tie.Need-loop-less Inv-loop μ-loop
-loop-less c = omega arith
 
 loop-again : tie.Need-loop-again Inv-loop μ-loop
 loop-again c =
@@ -97,15 +79,15 @@ numeral-spec =
     Inv-loop
     μ-loop
     loop-holds
-    shared-slice-read-digit
-    digit-requires
+    (λ c. omega arith)
+    (λ c κs. tt)
     returns
-    sub-if2
-    div-if2
+    (λ c. omega arith)
+    (λ c. omega arith)
     returns-2
     mul-n
     add-n
-    add-i
-    loop-less
+    (λ c. omega arith)
+    (λ c. omega arith)
     loop-again
     returns-3)

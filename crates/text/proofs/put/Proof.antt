@@ -20,34 +20,24 @@ abbrev μ-loop : tie.MeasureT-loop
 μ-loop out₀ at s i₀ out i = length s - i
 
 -- by whether there is room
-unfit : (at : ℕ) (s xs : List ℕ) → length xs < at + length s → (at ≡ end at s xs) × (xs ≡ written at s xs)
+by-room : (at : ℕ) (s xs : List ℕ) (b : Bool) → leb (at + length s) (length xs) ≡ b → (cond b (at + length s) at ≡ end at s xs) × (cond b (paste xs at s (length s)) xs ≡ written at s xs)
 unfolding written end
-unfit at s xs h = (sym (ap (λ (t : Bool). cond t (at + length s) at) no), sym (ap (λ (t : Bool). cond t (paste xs at s (length s)) xs) no))
-  where
-    no : leb (at + length s) (length xs) ≡ false
-    no = lt-leb (at + length s) (length xs) h
+by-room at s xs b h = (rw h, rw h)
+
+unfit : (at : ℕ) (s xs : List ℕ) → length xs < at + length s → (at ≡ end at s xs) × (xs ≡ written at s xs)
+unfit at s xs h = by-room at s xs false (lt-leb (at + length s) (length xs) h)
 
 fit : (at : ℕ) (s xs : List ℕ) → at + length s ≤ length xs → (at + length s ≡ end at s xs) × (paste xs at s (length s) ≡ written at s xs)
-unfolding written end
-fit at s xs h = (sym (ap (λ (t : Bool). cond t (at + length s) at) yes), sym (ap (λ (t : Bool). cond t (paste xs at s (length s)) xs) yes))
-  where
-    yes : leb (at + length s) (length xs) ≡ true
-    yes = le-leb (at + length s) (length xs) h
+fit at s xs h = by-room at s xs true (le-leb (at + length s) (length xs) h)
 
 returns : tie.Need-returns Inv-loop μ-loop
 returns c = let t = c .before .args in unfit (t .at) (t .s .now) (t .out .now) (omega arith)
-
-sub-if2 : tie.Need-sub-if2 Inv-loop μ-loop
-sub-if2 c = omega arith
 
 returns-2 : tie.Need-returns-2 Inv-loop μ-loop
 returns-2 c = let t = c .before .before .args in unfit (t .at) (t .s .now) (t .out .now) (omega arith)
 
 loop-holds : tie.Need-loop-holds Inv-loop μ-loop
 loop-holds c = let t = c .before .before .args in (omega arith, omega arith, paste-zero (t .out .now) (t .at) (t .s .now))
-
-shared-slice-read-out : tie.Need-shared-slice-read-out Inv-loop μ-loop
-shared-slice-read-out c = omega arith
 
 -- the loop's buffer is as long as the one lent
 module _ (l : tie.At-loop Inv-loop μ-loop) where
@@ -63,12 +53,6 @@ add-out c = omega (arith, long (c .before .before))
 slice-write-out : tie.Need-slice-write-out Inv-loop μ-loop
 slice-write-out c = omega (arith, long (c .before .before))
 
-add-i : tie.Need-add-i Inv-loop μ-loop
-add-i c = omega arith
-
-loop-less : tie.Need-loop-less Inv-loop μ-loop
-loop-less c = omega arith
-
 loop-again : tie.Need-loop-again Inv-loop μ-loop
 loop-again c =
     let l = c .before .before in
@@ -79,9 +63,6 @@ loop-again c =
           ∙ paste-suc (a .out .now) (a .at) (a .s .now) (l .loop .i) 0 (omega arith) (omega arith)
           ∙ ap (paste (a .out .now) (a .at) (a .s .now)) (sym (add-one (l .loop .i))),
     )
-
-add-result : tie.Need-add-result Inv-loop μ-loop
-add-result c = omega arith
 
 same-length : tie.Need-same-length Inv-loop μ-loop
 same-length c = long (c .before)
@@ -101,15 +82,15 @@ put-spec =
     Inv-loop
     μ-loop
     returns
-    sub-if2
+    (λ c. omega arith)
     returns-2
     loop-holds
-    shared-slice-read-out
+    (λ c. omega arith)
     add-out
     slice-write-out
-    add-i
-    loop-less
+    (λ c. omega arith)
+    (λ c. omega arith)
     loop-again
-    add-result
+    (λ c. omega arith)
     same-length
     returns-3)

@@ -10,21 +10,6 @@ use Rattle.text.proofs.LineLaws.{part-slice}
 use Rattle.text.proofs.lines.line_end.Statement.{statement}
 use Rattle.text.proofs.lines.line_end.Tie as tie
 
-sub-index-of : tie.Need-sub-index-of
-sub-index-of c = search needs
-
-part-index-of-start : tie.Need-part-index-of-start
-part-index-of-start c = search needs
-
-part-index-of-end : tie.Need-part-index-of-end
-part-index-of-end c = search needs
-
-index-of-requires : tie.Need-index-of-requires
-index-of-requires c κs = search needs
-
-add-result : tie.Need-add-result
-add-result c = search needs
-
 returns : tie.Need-returns
 returns c =
     let s = c .before .before .before in
@@ -35,12 +20,4 @@ returns c =
     )
 
 pub line-end-spec : {M : Type 1} → statement M
-line-end-spec =
-    tie.close
-    (tie.spec
-    sub-index-of
-    part-index-of-start
-    part-index-of-end
-    index-of-requires
-    add-result
-    returns)
+line-end-spec = tie.close (tie.spec (λ c. search needs) (λ c. search needs) (λ c. search needs) (λ c κs. search needs) (λ c. search needs) returns)

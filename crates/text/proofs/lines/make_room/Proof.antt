@@ -15,12 +15,6 @@ returns-2 c =
     let s = c .before .before .before in
     same-roomy (s .args .w) (s .args .buf .now) (s .args .buf .now) (c .before .if1 .taken) (s .pre .1) refl
 
-to-front-requires : tie.Need-to-front-requires
-to-front-requires c κs = search needs
-
-sub-t11 : tie.Need-sub-t11
-sub-t11 c = search needs
-
 same-length : tie.Need-same-length
 same-length c = search needs
 
@@ -31,5 +25,4 @@ returns-3 c =
     moved-roomy (s .args .w) (s .args .buf .now) (f .to-front .last .0) (s .pre .0) (s .pre .1) (same-length c) (f .to-front .ensures)
 
 pub make-room-spec : {M : Type 1} → statement M
-make-room-spec =
-    tie.close (tie.spec returns returns-2 to-front-requires sub-t11 same-length returns-3)
+make-room-spec = tie.close (tie.spec returns returns-2 (λ c κs. search needs) (λ c. search needs) same-length returns-3)

@@ -1,17 +1,14 @@
 -- `text::lines::next_line` meets its contract. The measure is the number of turns that are left.
-use mathlib.Core.Path.{_≡_, refl, sym, ap, _∙_, subst}
+use mathlib.Core.Path.{_≡_, refl, _∙_}
 use mathlib.Core.Bool.{true}
 use mathlib.Core.List.{List}
-use Prim.Native.Nat.{ℕ, _-_, _^_, _<_}
+use Prim.Native.Nat.{ℕ, _<_}
 use native.Mathlib.Omega.{arith}
 use borrow.Author.Needs.{needs}
 use lib.ListN.{length}
 use lib.Seq.{length-slice}
-use Rattle.text.specs.declared.lines.Kind.the-variants as kind
-use Rattle.text.specs.declared.lines.Line.{Line}
-use Rattle.text.specs.declared.lines.Window.{Window}
-use Rattle.text.specs.Input.{seen, inHand, hasNoFeed, Came}
-use Rattle.text.proofs.LineLaws.{strictly, Looking, looks, window-seen, window-within, found, none-seen, roomed, more-read, ended, used-up}
+use Rattle.text.specs.Input.{seen, inHand, hasNoFeed}
+use Rattle.text.proofs.LineLaws.{strictly, Looking, looks, came, found, none-seen, roomed, more-read, ended, used-up}
 use Rattle.text.proofs.lines.next_line.Statement.{statement}
 use Rattle.text.proofs.lines.next_line.Tie as tie
 
@@ -21,17 +18,13 @@ Inv-loop buf₀ w₀ turns₀ buf w turns = Looking (seen w₀ buf₀) buf w tur
 abbrev μ-loop : tie.MeasureT-loop
 μ-loop buf₀ w₀ turns₀ buf w turns = turns
 
-in-hand-requires : tie.Need-in-hand-requires Inv-loop μ-loop
-in-hand-requires c κs = search needs
-
 loop-holds : tie.Need-loop-holds Inv-loop μ-loop
-loop-holds c =
-    let s = c .before .before .args in
-    let len : ℕ = length (s .buf .now) in
-    let k = window-within (s .s) len in
-    (subst (λ (w : Window). Looking (seen w (s .buf .now)) (s .buf .now) w (2 ^ 64 - 1)) (sym (c .in-hand .ensures)) (looks (s .buf .now) _ (k .0) (k .1) (k .2)), refl)
+loop-holds c = let a = c .before .before .before .args in (looks (a .s) (a .buf .now) (c .in-hand .result) (c .in-hand .ensures), refl)
 
 -- from each place to the one before it
+abbrev start-of : tie.At-loop Inv-loop μ-loop → tie.Start Inv-loop μ-loop
+start-of l = l .before .before .before .before
+
 abbrev loop-of : tie.After-line-end Inv-loop μ-loop → tie.At-loop Inv-loop μ-loop
 loop-of c = c .before .before .before
 
@@ -49,22 +42,16 @@ last-of c = c .before .before .before .before
 
 -- the bytes in the first window are those in hand
 abbrev first-hand : tie.At-loop Inv-loop μ-loop → List ℕ
-first-hand l = seen (l .before .in-hand .result) (l .before .before .before .args .buf .now)
+first-hand l = seen (l .before .in-hand .result) (start-of l .args .buf .now)
 
-hand : (l : tie.At-loop Inv-loop μ-loop) → let s = l .before .before .before .args in first-hand l ≡ inHand (s .s) (s .buf .now)
-hand l =
-    let a = l .before in
-    let s = a .before .before .args in
-    ap (λ (w : Window). seen w (s .buf .now)) (a .in-hand .ensures) ∙ window-seen (s .s) (length (s .buf .now)) (s .buf .now) refl
+hand : (l : tie.At-loop Inv-loop μ-loop) → first-hand l ≡ inHand (start-of l .args .s) (start-of l .args .buf .now)
+hand l = l .before .in-hand .ensures .bytes
 
 line-end-requires : tie.Need-line-end-requires Inv-loop μ-loop
-line-end-requires c κs = let l = c .before .before in (l .loop .inv .0 .ordered, l .loop .inv .0 .within)
+line-end-requires c κs = let l = c .before .before in (l .loop .inv .0 .ordered, l .loop .inv .0 .inside)
 
 add-line-of : tie.Need-add-line-of Inv-loop μ-loop
-add-line-of c = omega (arith, c .if1 .taken, loop-of (c .before) .loop .inv .0 .within)
-
-line-of-requires : tie.Need-line-of-requires Inv-loop μ-loop
-line-of-requires c κs = search needs
+add-line-of c = omega (arith, c .if1 .taken, loop-of (c .before) .loop .inv .0 .inside)
 
 same-length : tie.Need-same-length Inv-loop μ-loop
 same-length c = loop-of (c .before .before) .loop .inv .1
@@ -74,12 +61,11 @@ returns c =
     let t = c .before in
     let e = t .before in
     let l = loop-of e in
-    subst (λ (h : List ℕ). Came h (c .line-of .result) (l .loop .buf)) (hand l)
-    (subst (λ (r : Line). Came (first-hand l) r (l .loop .buf)) (sym (c .line-of .ensures))
-    (found (first-hand l) (l .loop .buf) (l .loop .w) (l .loop .turns) (l .loop .inv .0) (e .line-end .result) (e .line-end .ensures .0) (t .if1 .taken)))
+    came (hand l) (c .line-of .ensures)
+    (found (first-hand l) (l .loop .buf) (l .loop .w) (l .loop .turns) (l .loop .inv .0) (e .line-end .result) (e .line-end .ensures .0) (t .if1 .taken))
 
 make-room-requires : tie.Need-make-room-requires Inv-loop μ-loop
-make-room-requires c κs = let l = loop-of (c .before .before) in (l .loop .inv .0 .ordered, l .loop .inv .0 .within)
+make-room-requires c κs = let l = loop-of (c .before .before) in (l .loop .inv .0 .ordered, l .loop .inv .0 .inside)
 
 -- no line feed is seen, and room is made
 clear : (c : tie.Else1 Inv-loop μ-loop) → let l = loop-of (c .before) in hasNoFeed (seen (l .loop .w) (l .loop .buf)) ≡ true
@@ -87,7 +73,7 @@ clear c =
     let e = c .before in
     let l = loop-of e in
     let g = l .loop .inv .0 in
-    none-seen (seen (l .loop .w) (l .loop .buf)) (omega (arith, c .if1 .left, e .line-end .ensures .0, g .ordered, length-slice (l .loop .w .from) (l .loop .w .to) (l .loop .buf) (g .within)))
+    none-seen (seen (l .loop .w) (l .loop .buf)) (omega (arith, c .if1 .left, e .line-end .ensures .0, g .ordered, length-slice (l .loop .w .from) (l .loop .w .to) (l .loop .buf) (g .inside)))
 
 same-room : (c : tie.After-make-room Inv-loop μ-loop) → length (c .make-room .last .0) ≡ length (loop-of (else-of c .before) .loop .buf)
 same-room c = search needs
@@ -98,17 +84,14 @@ room c =
     roomed (first-hand l) (l .loop .buf) (l .loop .w) (l .loop .turns) (l .loop .inv .0) (clear (else-of c)) (c .make-room .result) (c .make-room .last .0) (c .make-room .ensures) (same-room c)
 
 read-more-requires : tie.Need-read-more-requires Inv-loop μ-loop
-read-more-requires c κs = room (c .before .before .before) .0 .within
+read-more-requires c κs = room (c .before .before .before) .0 .inside
 
 -- more is read, or nothing
 same-more : (c : tie.After-read-more Inv-loop μ-loop) → length (c .read-more .last .0) ≡ length (room-of c .make-room .last .0)
 same-more c = search needs
 
-same-read : (c : tie.After-read-more Inv-loop μ-loop) → let l = loop-of (else-of (room-of c) .before) in length (c .read-more .last .0) ≡ length (l .before .before .before .args .buf .now)
+same-read : (c : tie.After-read-more Inv-loop μ-loop) → let l = loop-of (else-of (room-of c) .before) in length (c .read-more .last .0) ≡ length (start-of l .args .buf .now)
 same-read c = same-more c ∙ same-room (room-of c) ∙ loop-of (else-of (room-of c) .before) .loop .inv .1
-
-last-line-requires : tie.Need-last-line-requires Inv-loop μ-loop
-last-line-requires c κs = search needs
 
 same-length-2 : tie.Need-same-length-2 Inv-loop μ-loop
 same-length-2 c = same-read (last-of (c .before))
@@ -118,9 +101,8 @@ returns-2 c =
     let d = last-of (c .before) in
     let m = room-of d in
     let l = loop-of (else-of m .before) in
-    subst (λ (h : List ℕ). Came h (c .last-line .result) (d .read-more .last .0)) (hand l)
-    (subst (λ (r : Line). Came (first-hand l) r (d .read-more .last .0)) (sym (c .last-line .ensures))
-    (ended (first-hand l) (m .make-room .last .0) (d .read-more .last .0) (m .make-room .result) (l .loop .turns) (room m .0) (same-more d) (d .read-more .ensures .1) (m .make-room .ensures .front) (room m .1)))
+    came (hand l) (c .last-line .ensures)
+    (ended (first-hand l) (m .make-room .last .0) (d .read-more .last .0) (m .make-room .result) (l .loop .turns) (room m .0) (same-more d) (d .read-more .ensures .1) (m .make-room .ensures .front) (room m .1))
 
 turns-left : (c : tie.Else2 Inv-loop μ-loop) → 0 < loop-of (else-of (room-of (read-of c)) .before) .loop .turns
 turns-left c = else-of (room-of (read-of c)) .before .before .before .loop-test .taken
@@ -142,12 +124,12 @@ loop-again c =
     )
 
 same-length-3 : tie.Need-same-length-3 Inv-loop μ-loop
-same-length-3 c = c .before .loop .inv .1
+same-length-3 c = c .before .before .loop .inv .1
 
 returns-3 : tie.Need-returns-3 Inv-loop μ-loop
 returns-3 c =
-    let l = c .before in
-    subst (λ (h : List ℕ). Came h (record { start = 0; end = 0; kind = kind.End; rest = record { from = 0; to = 0 } }) (l .loop .buf)) (hand l) (used-up (first-hand l) (l .loop .buf) (l .loop .w) (l .loop .turns) (l .loop .inv .0) (c .loop-test .left))
+    let l = c .before .before in
+    came (hand l) (c .no-line .ensures) (used-up (first-hand l) (l .loop .buf) (l .loop .w) (l .loop .turns) (l .loop .inv .0) (c .before .loop-test .left))
 
 pub next-line-spec : {M : Type 1} → statement M
 next-line-spec =
@@ -155,20 +137,21 @@ next-line-spec =
     (tie.spec
     Inv-loop
     μ-loop
-    in-hand-requires
+    (λ c κs. search needs)
     loop-holds
     line-end-requires
     add-line-of
-    line-of-requires
+    (λ c κs. search needs)
     same-length
     returns
     make-room-requires
     read-more-requires
-    last-line-requires
+    (λ c κs. search needs)
     same-length-2
     returns-2
     sub-turns
     loop-less
     loop-again
+    (λ c κs. search needs)
     same-length-3
     returns-3)

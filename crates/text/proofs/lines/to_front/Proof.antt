@@ -18,17 +18,8 @@ loop-holds c = (omega arith, c .pre .0, none-moved (c .args .from) (c .args .buf
 slice-read-buf : tie.Need-slice-read-buf Inv-loop μ-loop
 slice-read-buf c = let l = c .before .before in omega (arith, c .before .loop-test .taken, l .loop .inv .2 .as-long, l .before .pre .1)
 
-sub-buf : tie.Need-sub-buf Inv-loop μ-loop
-sub-buf c = omega arith
-
 slice-write-buf : tie.Need-slice-write-buf Inv-loop μ-loop
-slice-write-buf c = let l = c .before .before in omega (arith, c .before .loop-test .taken, l .loop .inv .2 .as-long, l .before .pre .1)
-
-add-i : tie.Need-add-i Inv-loop μ-loop
-add-i c = omega arith
-
-loop-less : tie.Need-loop-less Inv-loop μ-loop
-loop-less c = omega arith
+slice-write-buf c = omega (arith, slice-read-buf c)
 
 loop-again : tie.Need-loop-again Inv-loop μ-loop
 loop-again c =
@@ -54,10 +45,10 @@ to-front-spec =
     μ-loop
     loop-holds
     slice-read-buf
-    sub-buf
+    (λ c. omega arith)
     slice-write-buf
-    add-i
-    loop-less
+    (λ c. omega arith)
+    (λ c. omega arith)
     loop-again
     same-length
     returns)
