@@ -7,9 +7,6 @@ use Rattle.float.proofs.Order.{below-is}
 use Rattle.float.proofs.below.Statement.{statement}
 use Rattle.float.proofs.below.Tie as tie
 
-is-negative-requires : tie.Need-is-negative-requires
-is-negative-requires c κs = search needs
-
 returns : tie.Need-returns
 returns c = let s = c .before .args in below-is (s .x) (s .y) true (eq (s .x) (s .y)) (c .if1 .taken) refl
 
@@ -22,4 +19,4 @@ returns-3 : tie.Need-returns-3
 returns-3 c = let s = c .before .before .args in below-is (s .x) (s .y) false false (c .before .if1 .left) (c .if2 .left)
 
 pub below-spec : {M : Type 1} → statement M
-below-spec = tie.close (tie.spec is-negative-requires returns returns-2 returns-3)
+below-spec = tie.close (tie.spec (λ c κs. search needs) returns returns-2 returns-3)

@@ -12,8 +12,5 @@ returns : tie.Need-returns
 unfolding ofBits div
 returns c = nan-read binary32 (c .before .args .b) (c .if1 .taken)
 
-returns-2 : tie.Need-returns-2
-returns-2 c = search needs
-
 pub f32-from-bits-spec : {M : Type 1} → statement M
-f32-from-bits-spec = tie.close (tie.spec float-from-bits-result returns returns-2)
+f32-from-bits-spec = tie.close (tie.spec float-from-bits-result returns (λ c. search needs))

@@ -10,9 +10,6 @@ truncating-f64-to-u64-requires : tie.Need-truncating-f64-to-u64-requires
 unfolding ofBits neg
 truncating-f64-to-u64-requires c κs = (yes (c .if2 .taken), yes (c .before .if1 .taken))
 
-returns : tie.Need-returns
-returns c = search needs
-
 returns-2 : tie.Need-returns-2
 unfolding ofBits neg
 returns-2 c = negative-zero (c .before .before .args .x) (c .before .if1 .taken) (c .if2 .left)
@@ -26,4 +23,4 @@ unfolding ofBits
 returns-4 c = neither-zero (c .before .before .args .x) (c .before .if1 .left) (c .if3 .left)
 
 pub f64-to-u64-spec : {M : Type 1} → statement M
-f64-to-u64-spec = tie.close (tie.spec truncating-f64-to-u64-requires returns returns-2 returns-3 returns-4)
+f64-to-u64-spec = tie.close (tie.spec truncating-f64-to-u64-requires (λ c. search needs) returns-2 returns-3 returns-4)

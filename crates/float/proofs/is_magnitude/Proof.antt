@@ -9,12 +9,6 @@ use Rattle.float.proofs.Tests.{yes}
 use Rattle.float.proofs.is_magnitude.Statement.{statement}
 use Rattle.float.proofs.is_magnitude.Tie as tie
 
-to-bits-requires : tie.Need-to-bits-requires
-to-bits-requires c κs = search needs
-
-is-magnitude-bits-requires : tie.Need-is-magnitude-bits-requires
-is-magnitude-bits-requires c κs = search needs
-
 returns : tie.Need-returns
 returns c =
     c .is-magnitude-bits .ensures
@@ -22,4 +16,4 @@ returns c =
     ∙ magnitude-of binary64 (c .before .before .args .x) (yes (c .before .before .good .0 .1))
 
 pub is-magnitude-spec : {M : Type 1} → statement M
-is-magnitude-spec = tie.close (tie.spec to-bits-requires is-magnitude-bits-requires returns)
+is-magnitude-spec = tie.close (tie.spec (λ c κs. search needs) (λ c κs. search needs) returns)

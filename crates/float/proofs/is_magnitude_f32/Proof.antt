@@ -9,12 +9,6 @@ use Rattle.float.proofs.Tests.{yes}
 use Rattle.float.proofs.is_magnitude_f32.Statement.{statement}
 use Rattle.float.proofs.is_magnitude_f32.Tie as tie
 
-f32-to-bits-requires : tie.Need-f32-to-bits-requires
-f32-to-bits-requires c κs = search needs
-
-is-magnitude-bits-f32-requires : tie.Need-is-magnitude-bits-f32-requires
-is-magnitude-bits-f32-requires c κs = search needs
-
 returns : tie.Need-returns
 returns c =
     c .is-magnitude-bits-f32 .ensures
@@ -22,4 +16,4 @@ returns c =
     ∙ magnitude-of binary32 (c .before .before .args .x) (yes (c .before .before .good .0 .1))
 
 pub is-magnitude-f32-spec : {M : Type 1} → statement M
-is-magnitude-f32-spec = tie.close (tie.spec f32-to-bits-requires is-magnitude-bits-f32-requires returns)
+is-magnitude-f32-spec = tie.close (tie.spec (λ c κs. search needs) (λ c κs. search needs) returns)

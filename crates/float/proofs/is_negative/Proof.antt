@@ -9,13 +9,10 @@ use Rattle.float.proofs.Tests.{yes}
 use Rattle.float.proofs.is_negative.Statement.{statement}
 use Rattle.float.proofs.is_negative.Tie as tie
 
-to-bits-requires : tie.Need-to-bits-requires
-to-bits-requires c κs = search needs
-
 returns : tie.Need-returns
 returns c =
     ap (λ (b : ℕ). leb (top binary64) b) (c .to-bits .ensures)
     ∙ sign-bit binary64 (c .before .args .x) (yes (c .before .good .0 .1))
 
 pub is-negative-spec : {M : Type 1} → statement M
-is-negative-spec = tie.close (tie.spec to-bits-requires returns)
+is-negative-spec = tie.close (tie.spec (λ c κs. search needs) returns)

@@ -7,9 +7,6 @@ use Rattle.float.proofs.Order.{chosen-first, chosen-second, chosen-thir
 use Rattle.float.proofs.min.Statement.{statement}
 use Rattle.float.proofs.min.Tie as tie
 
-below-requires : tie.Need-below-requires
-below-requires c κs = search needs
-
 returns : tie.Need-returns
 unfolding minimumNumber
 returns c = let s = c .before .args in chosen-first (s .a) (s .b) (below (s .b) (s .a)) (c .if1 .taken)
@@ -31,4 +28,4 @@ returns-4 c =
     chosen-third (s .a) (s .b) (below (s .b) (s .a)) false (c .before .before .before .if1 .left) (c .before .before .if2 .left) (sym (c .before .below .ensures) ∙ c .if3 .left)
 
 pub min-spec : {M : Type 1} → statement M
-min-spec = tie.close (tie.spec below-requires returns returns-2 returns-3 returns-4)
+min-spec = tie.close (tie.spec (λ c κs. search needs) returns returns-2 returns-3 returns-4)

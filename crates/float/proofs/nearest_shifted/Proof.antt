@@ -9,23 +9,8 @@ use Rattle.float.proofs.FromInteger.{back-le, rest-is, half-is, quotien
 use Rattle.float.proofs.nearest_shifted.Statement.{statement}
 use Rattle.float.proofs.nearest_shifted.Tie as tie
 
-shr-q : tie.Need-shr-q
-shr-q c = search needs
-
-shl-r : tie.Need-shl-r
-shl-r c = search needs
-
 sub-r : tie.Need-sub-r
 sub-r c = back-le (c .args .n) (2 ^ c .args .k)
-
-sub-half : tie.Need-sub-half
-sub-half c = search needs
-
-cast-half : tie.Need-cast-half
-cast-half c = search needs
-
-shl-half : tie.Need-shl-half
-shl-half c = search needs
 
 -- what is known from the start: the rest, the half, and a bound on the quotient
 module _ (c : tie.Start) where
@@ -69,12 +54,12 @@ pub nearest-shifted-spec : {M : Type 1} → statement M
 nearest-shifted-spec =
     tie.close
     (tie.spec
-    shr-q
-    shl-r
+    (λ c. search needs)
+    (λ c. search needs)
     sub-r
-    sub-half
-    cast-half
-    shl-half
+    (λ c. search needs)
+    (λ c. search needs)
+    (λ c. search needs)
     add-result
     add-result-2
     returns

@@ -12,8 +12,5 @@ returns : tie.Need-returns
 unfolding toBits
 returns c = nan-pattern binary64 (c .before .args .x) (c .if1 .taken)
 
-returns-2 : tie.Need-returns-2
-returns-2 c = search needs
-
 pub to-bits-spec : {M : Type 1} → statement M
-to-bits-spec = tie.close (tie.spec float-to-bits-result returns returns-2)
+to-bits-spec = tie.close (tie.spec float-to-bits-result returns (λ c. search needs))

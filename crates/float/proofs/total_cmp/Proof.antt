@@ -7,12 +7,6 @@ use Rattle.float.proofs.Order.{total-cmp-is}
 use Rattle.float.proofs.total_cmp.Statement.{statement}
 use Rattle.float.proofs.total_cmp.Tie as tie
 
-total-less-requires : tie.Need-total-less-requires
-total-less-requires c κs = search needs
-
-total-less-requires-2 : tie.Need-total-less-requires-2
-total-less-requires-2 c κs = search needs
-
 returns : tie.Need-returns
 returns c = let s = c .before .before .args in total-cmp-is (s .a) (s .b) true (totalLess (s .b) (s .a)) (sym (c .before .total-less .ensures) ∙ c .if1 .taken) refl
 
@@ -27,4 +21,4 @@ returns-3 c =
     total-cmp-is (s .a) (s .b) false false (sym (c .before .before .before .total-less .ensures) ∙ c .before .before .if1 .left) (sym (c .before .total-less2 .ensures) ∙ c .if2 .left)
 
 pub total-cmp-spec : {M : Type 1} → statement M
-total-cmp-spec = tie.close (tie.spec total-less-requires total-less-requires-2 returns returns-2 returns-3)
+total-cmp-spec = tie.close (tie.spec (λ c κs. search needs) (λ c κs. search needs) returns returns-2 returns-3)

@@ -7,12 +7,6 @@ use Rattle.float.specs.Order.{place, totalLess}
 use Rattle.float.proofs.total_less.Statement.{statement}
 use Rattle.float.proofs.total_less.Tie as tie
 
-total-place-requires : tie.Need-total-place-requires
-total-place-requires c κs = search needs
-
-total-place-requires-2 : tie.Need-total-place-requires-2
-total-place-requires-2 c κs = search needs
-
 returns : tie.Need-returns
 unfolding totalLess
 returns c =
@@ -20,4 +14,4 @@ returns c =
     ∙ ap (λ (z : ℕ). ltb (place (c .before .before .args .a)) z) (c .total-place2 .ensures)
 
 pub total-less-spec : {M : Type 1} → statement M
-total-less-spec = tie.close (tie.spec total-place-requires total-place-requires-2 returns)
+total-less-spec = tie.close (tie.spec (λ c κs. search needs) (λ c κs. search needs) returns)

@@ -5,12 +5,6 @@ use Rattle.float.proofs.Order.{place-clear, place-set}
 use Rattle.float.proofs.total_place.Statement.{statement}
 use Rattle.float.proofs.total_place.Tie as tie
 
-add-result : tie.Need-add-result
-add-result c = search needs
-
-sub-result : tie.Need-sub-result
-sub-result c = search needs
-
 returns : tie.Need-returns
 returns c = sym (place-clear (c .before .args .b) (c .if1 .taken))
 
@@ -18,4 +12,4 @@ returns-2 : tie.Need-returns-2
 returns-2 c = sym (place-set (c .before .args .b) (c .if1 .left))
 
 pub total-place-spec : {M : Type 1} → statement M
-total-place-spec = tie.close (tie.spec add-result sub-result returns returns-2)
+total-place-spec = tie.close (tie.spec (λ c. search needs) (λ c. search needs) returns returns-2)

@@ -16,12 +16,6 @@ use Rattle.float.proofs.u64_to_f64.Tie as tie
 int-to-float-result : tie.Need-int-to-float-result
 int-to-float-result c = small-in (c .before .before .args .n) (c .before .before .fits .n .fits) (c .before .if1 .taken)
 
-sub-k : tie.Need-sub-k
-sub-k c = search needs
-
-nearest-shifted-requires : tie.Need-nearest-shifted-requires
-nearest-shifted-requires c κs = search needs
-
 -- n has 53 + k digits
 some : (n : ℕ) → leadingZeros 64 n < 11 → 0 < n
 some n h = elim (eq-zero-or-pos n) [ inl z ↦ absurd (no (leadingZeros 64 n) h (ap (leadingZeros 64) z ∙ leading-of-zero 64)) | inr p ↦ p ]
@@ -69,25 +63,16 @@ float-from-bits-result c = pattern-no-nan (bits c) (1074 + k c) (closest (n c) (
 returns-2 : tie.Need-returns-2
 returns-2 c = big-is (n c) (top c .0) (k c) (bits c) (top c .2) (top c .3) (places c) (few c) (bits-are c)
 
-cast-result : tie.Need-cast-result
-cast-result c = search needs
-
-add-result : tie.Need-add-result
-add-result c = search needs
-
-returns : tie.Need-returns
-returns c = search needs
-
 pub u64-to-f64-spec : {M : Type 1} → statement M
 u64-to-f64-spec =
     tie.close
     (tie.spec
     int-to-float-result
-    sub-k
-    nearest-shifted-requires
-    cast-result
-    add-result
+    (λ c. search needs)
+    (λ c κs. search needs)
+    (λ c. search needs)
+    (λ c. search needs)
     add-result-2
     float-from-bits-result
-    returns
+    (λ c. search needs)
     returns-2)

@@ -5,17 +5,8 @@ use Rattle.gcra.proofs.Checks.{attempt-deny, attempt-allow}
 use Rattle.gcra.proofs.attempt.Statement.{statement}
 use Rattle.gcra.proofs.attempt.Tie as tie
 
-saturating-sub-requires : tie.Need-saturating-sub-requires
-saturating-sub-requires c κs = search needs
-
 returns : tie.Need-returns
 returns c = let h = c .before .saturating-sub .ensures in rw h (sym (attempt-deny _ _ _ (rw h at (c .if1 .taken))))
-
-max-requires : tie.Need-max-requires
-max-requires c κs = search needs
-
-saturating-add-requires : tie.Need-saturating-add-requires
-saturating-add-requires c κs = search needs
 
 returns-2 : tie.Need-returns-2
 returns-2 c =
@@ -25,4 +16,4 @@ returns-2 c =
 pub attempt-spec : {M : Type 1} → statement M
 attempt-spec =
     tie.close
-    (tie.spec saturating-sub-requires returns max-requires saturating-add-requires returns-2)
+    (tie.spec (λ c κs. search needs) returns (λ c κs. search needs) (λ c κs. search needs) returns-2)

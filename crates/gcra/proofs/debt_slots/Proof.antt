@@ -5,15 +5,6 @@ use Rattle.gcra.specs.Rate.{debtSlots}
 use Rattle.gcra.proofs.debt_slots.Statement.{statement}
 use Rattle.gcra.proofs.debt_slots.Tie as tie
 
-saturating-sub-requires : tie.Need-saturating-sub-requires
-saturating-sub-requires c κs = search needs
-
-u64-to-f64-requires : tie.Need-u64-to-f64-requires
-u64-to-f64-requires c κs = search needs
-
-u64-to-f64-requires-2 : tie.Need-u64-to-f64-requires-2
-u64-to-f64-requires-2 c κs = search needs
-
 returns : tie.Need-returns
 unfolding debtSlots
 returns c =
@@ -24,24 +15,6 @@ returns c =
       c .before .u64-to-f642 .ensures,
       c .before .before .before .saturating-sub .ensures,
     )
-
-cast-u64-to-f64 : tie.Need-cast-u64-to-f64
-cast-u64-to-f64 c = search needs
-
-u64-to-f64-requires-3 : tie.Need-u64-to-f64-requires-3
-u64-to-f64-requires-3 c κs = search needs
-
-cast-u64-to-f64-2 : tie.Need-cast-u64-to-f64-2
-cast-u64-to-f64-2 c = search needs
-
-u64-to-f64-requires-4 : tie.Need-u64-to-f64-requires-4
-u64-to-f64-requires-4 c κs = search needs
-
-max-requires : tie.Need-max-requires
-max-requires c κs = search needs
-
-max-requires-2 : tie.Need-max-requires-2
-max-requires-2 c κs = search needs
 
 returns-2 : tie.Need-returns-2
 unfolding debtSlots
@@ -63,14 +36,14 @@ pub debt-slots-spec : {M : Type 1} → statement M
 debt-slots-spec =
     tie.close
     (tie.spec
-    saturating-sub-requires
-    u64-to-f64-requires
-    u64-to-f64-requires-2
+    (λ c κs. search needs)
+    (λ c κs. search needs)
+    (λ c κs. search needs)
     returns
-    cast-u64-to-f64
-    u64-to-f64-requires-3
-    cast-u64-to-f64-2
-    u64-to-f64-requires-4
-    max-requires
-    max-requires-2
+    (λ c. search needs)
+    (λ c κs. search needs)
+    (λ c. search needs)
+    (λ c κs. search needs)
+    (λ c κs. search needs)
+    (λ c κs. search needs)
     returns-2)

@@ -28,12 +28,6 @@ capped n b h l = let p : 0 < b - 1 = omega arith in omega (arith, div-lt-iff-lt-
 returns : tie.Need-returns
 returns c = none (c .before .args .interval) (c .before .args .burst) (c .if1 .taken)
 
-sub-slots : tie.Need-sub-slots
-sub-slots c = search needs
-
-div-if2 : tie.Need-div-if2
-div-if2 c = search needs
-
 mul-result : tie.Need-mul-result
 mul-result c = record { fits = omega (arith, some (c .before .before .args .interval) (c .before .before .args .burst) (search needs) (c .if2 .taken)) }
 
@@ -44,4 +38,4 @@ returns-3 : tie.Need-returns-3
 returns-3 c = capped (c .before .before .args .interval) (c .before .before .args .burst) (search needs) (c .if2 .left)
 
 pub tau-spec : {M : Type 1} → statement M
-tau-spec = tie.close (tie.spec returns sub-slots div-if2 mul-result returns-2 returns-3)
+tau-spec = tie.close (tie.spec returns (λ c. search needs) (λ c. search needs) mul-result returns-2 returns-3)

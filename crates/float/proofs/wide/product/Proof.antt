@@ -29,14 +29,8 @@ add-high c = omega (arith, sizes (c .fits .a) (c .fits .b))
 add-high-2 : tie.Need-add-high-2
 add-high-2 c = omega (arith, sizes (c .fits .a) (c .fits .b))
 
-mul-low : tie.Need-mul-low
-mul-low c = search needs
-
 mul-low-2 : tie.Need-mul-low-2
 mul-low-2 c = omega (arith, sizes (c .fits .a) (c .fits .b))
-
-add-low : tie.Need-add-low
-add-low c = search needs
 
 returns : tie.Need-returns
 returns c = (upper-is (c .args .a) (c .args .b), lower-is (c .args .a) (c .args .b))
@@ -53,7 +47,7 @@ product-spec =
     mul-high
     add-high
     add-high-2
-    mul-low
+    (λ c. search needs)
     mul-low-2
-    add-low
+    (λ c. search needs)
     returns)

@@ -6,20 +6,8 @@ use Rattle.gcra.proofs.Rates.{same-keeps, other-carries, carried-unset,
 use Rattle.gcra.proofs.Gcra.changed.Statement.{statement}
 use Rattle.gcra.proofs.Gcra.changed.Tie as tie
 
-same-requires : tie.Need-same-requires
-same-requires c κs = search needs
-
 returns : tie.Need-returns
 returns c = same-keeps _ _ _ (sym (c .before .same .ensures) ∙ c .if1 .taken)
-
-enum-told : tie.Need-enum-told
-enum-told c = search needs
-
-enum-known-tat : tie.Need-enum-known-tat
-enum-known-tat c = search needs
-
-carry-tat-requires : tie.Need-carry-tat-requires
-carry-tat-requires c κs = search needs
 
 returns-2 : tie.Need-returns-2
 returns-2 c =
@@ -38,10 +26,10 @@ pub changed-spec : {M : Type 1} → statement M
 changed-spec =
     tie.close
     (tie.spec
-    same-requires
+    (λ c κs. search needs)
     returns
-    enum-told
-    enum-known-tat
-    carry-tat-requires
+    (λ c. search needs)
+    (λ c. search needs)
+    (λ c κs. search needs)
     returns-2
     returns-3)

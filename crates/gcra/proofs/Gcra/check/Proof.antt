@@ -6,16 +6,10 @@ use Rattle.gcra.proofs.Answers.{alone-no, alone-yes, alone-kept, alone-
 use Rattle.gcra.proofs.Gcra.check.Statement.{statement}
 use Rattle.gcra.proofs.Gcra.check.Tie as tie
 
-is-valid-requires : tie.Need-is-valid-requires
-is-valid-requires c κs = search needs
-
 returns : tie.Need-returns
 returns c =
     let n = told-no (c .before .is-valid .ensures) (c .if1 .taken) in
     record { decided = alone-no 2 _ n; left = alone-kept 2 _ _ n }
-
-checked-requires : tie.Need-checked-requires
-checked-requires c κs = search needs
 
 returns-2 : tie.Need-returns-2
 unfolding checked
@@ -24,4 +18,4 @@ returns-2 c =
     rw (c .checked .ensures) record { decided = alone-yes 2 _ y; left = alone-changed 2 _ _ y }
 
 pub check-spec : {M : Type 1} → statement M
-check-spec = tie.close (tie.spec is-valid-requires returns checked-requires returns-2)
+check-spec = tie.close (tie.spec (λ c κs. search needs) returns (λ c κs. search needs) returns-2)

@@ -13,18 +13,6 @@ attempted : (c : tie.After-attempt)
     → c .attempt .result ≡ attempt (parameters (start c .args .self .quota)) (tatAt (start c .args .self .tat) (start c .args .now)) (start c .args .now)
 attempted c = cc
 
-t-and-tau-requires : tie.Need-t-and-tau-requires
-t-and-tau-requires c κs = search needs
-
-or-reading-requires : tie.Need-or-reading-requires
-or-reading-requires c κs = search needs
-
-attempt-requires : tie.Need-attempt-requires
-attempt-requires c κs = search needs
-
-is-allow-requires : tie.Need-is-allow-requires
-is-allow-requires c κs = search needs
-
 returns : tie.Need-returns
 returns c = checked-allow _ _ _ (attempted (c .before .before)) (sym (c .before .is-allow .ensures) ∙ c .if1 .taken)
 
@@ -35,9 +23,9 @@ pub checked-spec : {M : Type 1} → statement M
 checked-spec =
     tie.close
     (tie.spec
-    t-and-tau-requires
-    or-reading-requires
-    attempt-requires
-    is-allow-requires
+    (λ c κs. search needs)
+    (λ c κs. search needs)
+    (λ c κs. search needs)
+    (λ c κs. search needs)
     returns
     returns-2)

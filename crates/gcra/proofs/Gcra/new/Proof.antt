@@ -6,9 +6,6 @@ use Rattle.gcra.proofs.Answers.{alone-no, alone-yes}
 use Rattle.gcra.proofs.Gcra.new.Statement.{statement}
 use Rattle.gcra.proofs.Gcra.new.Tie as tie
 
-is-valid-requires : tie.Need-is-valid-requires
-is-valid-requires c κs = search needs
-
 returns : tie.Need-returns
 unfolding gcraNew
 returns c = alone-no 2 _ (told-no (c .before .is-valid .ensures) (c .if1 .taken))
@@ -18,4 +15,4 @@ unfolding gcraNew
 returns-2 c = alone-yes 2 _ (told-yes (c .before .is-valid .ensures) (c .if1 .left))
 
 pub new-spec : {M : Type 1} → statement M
-new-spec = tie.close (tie.spec is-valid-requires returns returns-2)
+new-spec = tie.close (tie.spec (λ c κs. search needs) returns returns-2)

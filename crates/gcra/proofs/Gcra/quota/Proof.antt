@@ -6,9 +6,6 @@ use Rattle.gcra.proofs.Answers.{alone-no, alone-yes}
 use Rattle.gcra.proofs.Gcra.quota.Statement.{statement}
 use Rattle.gcra.proofs.Gcra.quota.Tie as tie
 
-is-valid-requires : tie.Need-is-valid-requires
-is-valid-requires c κs = search needs
-
 returns : tie.Need-returns
 unfolding gcraQuota
 returns c = alone-no 2 _ (told-no (c .before .is-valid .ensures) (c .if1 .taken))
@@ -18,4 +15,4 @@ unfolding gcraQuota
 returns-2 c = alone-yes 2 _ (told-yes (c .before .is-valid .ensures) (c .if1 .left))
 
 pub quota-spec : {M : Type 1} → statement M
-quota-spec = tie.close (tie.spec is-valid-requires returns returns-2)
+quota-spec = tie.close (tie.spec (λ c κs. search needs) returns returns-2)

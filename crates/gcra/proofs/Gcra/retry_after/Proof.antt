@@ -22,27 +22,9 @@ decided c = stepped-decision (start c .args .self) (start c .args .now) (c .atte
 valid : (c : tie.After-attempt) → validQuota unitNanos (start c .args .self .quota) ≡ true
 valid c = told-yes (c .before .before .before .before .is-valid .ensures) (c .before .before .before .if1 .left)
 
-is-valid-requires : tie.Need-is-valid-requires
-is-valid-requires c κs = search needs
-
 returns : tie.Need-returns
 unfolding gcraRetryAfter
 returns c = alone-no 2 _ (told-no (c .before .is-valid .ensures) (c .if1 .taken))
-
-t-and-tau-requires : tie.Need-t-and-tau-requires
-t-and-tau-requires c κs = search needs
-
-or-reading-requires : tie.Need-or-reading-requires
-or-reading-requires c κs = search needs
-
-attempt-requires : tie.Need-attempt-requires
-attempt-requires c κs = search needs
-
-enum-told : tie.Need-enum-told
-enum-told c = search needs
-
-enum-known-decision : tie.Need-enum-known-decision
-enum-known-decision c = search needs
 
 sub-t14 : tie.Need-sub-t14
 unfolding decision
@@ -69,13 +51,13 @@ pub retry-after-spec : {M : Type 1} → statement M
 retry-after-spec =
     tie.close
     (tie.spec
-    is-valid-requires
+    (λ c κs. search needs)
     returns
-    t-and-tau-requires
-    or-reading-requires
-    attempt-requires
-    enum-told
-    enum-known-decision
+    (λ c κs. search needs)
+    (λ c κs. search needs)
+    (λ c κs. search needs)
+    (λ c. search needs)
+    (λ c. search needs)
     sub-t14
     returns-2
     returns-3)

@@ -24,20 +24,11 @@ module _ (g : Gcra) (q : Quota) (now : ℕ) where
   sets : {h : Gcra} → (validQuota unitNanos (g .quota) && validQuota unitNanos q) ≡ true → h ≡ setQuota g q now → GcraSets g q now (record { answer = Done; gcra = h })
   sets y e = record { set = alone-yes 2 tt y; left = e ∙ alone-changed 2 g (setQuota g q now) y }
 
-is-valid-requires : tie.Need-is-valid-requires
-is-valid-requires c κs = search needs
-
 returns : tie.Need-returns
 returns c = refuses _ _ _ (rw (told-no (c .before .is-valid .ensures) (c .if1 .taken)))
 
-is-valid-requires-2 : tie.Need-is-valid-requires-2
-is-valid-requires-2 c κs = search needs
-
 returns-2 : tie.Need-returns-2
 returns-2 c = refuses-new _ _ _ (told-no (c .before .is-valid2 .ensures) (c .if2 .taken))
-
-changed-requires : tie.Need-changed-requires
-changed-requires c κs = search needs
 
 returns-3 : tie.Need-returns-3
 returns-3 c =
@@ -48,4 +39,4 @@ returns-3 c =
 pub set-quota-spec : {M : Type 1} → statement M
 set-quota-spec =
     tie.close
-    (tie.spec is-valid-requires returns is-valid-requires-2 returns-2 changed-requires returns-3)
+    (tie.spec (λ c κs. search needs) returns (λ c κs. search needs) returns-2 (λ c κs. search needs) returns-3)

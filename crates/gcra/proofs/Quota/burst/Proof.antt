@@ -6,19 +6,13 @@ use Rattle.gcra.proofs.Cases.{told-no, told-yes}
 use Rattle.gcra.proofs.Quota.burst.Statement.{statement}
 use Rattle.gcra.proofs.Quota.burst.Tie as tie
 
-is-valid-requires : tie.Need-is-valid-requires
-is-valid-requires c κs = search needs
-
 returns : tie.Need-returns
 unfolding quotaBurst
 returns c = alone-no 2 _ (told-no (c .before .is-valid .ensures) (c .if1 .taken))
-
-cast-t5 : tie.Need-cast-t5
-cast-t5 c = search needs
 
 returns-2 : tie.Need-returns-2
 unfolding quotaBurst
 returns-2 c = alone-yes 2 _ (told-yes (c .before .before .is-valid .ensures) (c .before .if1 .left))
 
 pub burst-spec : {M : Type 1} → statement M
-burst-spec = tie.close (tie.spec is-valid-requires returns cast-t5 returns-2)
+burst-spec = tie.close (tie.spec (λ c κs. search needs) returns (λ c. search needs) returns-2)

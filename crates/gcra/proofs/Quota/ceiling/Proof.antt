@@ -11,9 +11,6 @@ use Rattle.gcra.proofs.Validity.{valid-quota}
 use Rattle.gcra.proofs.Quota.ceiling.Statement.{statement}
 use Rattle.gcra.proofs.Quota.ceiling.Tie as tie
 
-is-valid-requires : tie.Need-is-valid-requires
-is-valid-requires c κs = search needs
-
 returns : tie.Need-returns
 unfolding quotaCeiling answer
 returns c = rw (told-no (c .before .is-valid .ensures) (c .if1 .taken))
@@ -21,9 +18,6 @@ returns c = rw (told-no (c .before .is-valid .ensures) (c .if1 .taken))
 returns-2 : tie.Need-returns-2
 unfolding quotaCeiling answer
 returns-2 c = rw (told-yes (c .before .before .is-valid .ensures) (c .before .if1 .left), lt-leb _ _ (c .if2 .taken))
-
-cast-t6 : tie.Need-cast-t6
-cast-t6 c = search needs
 
 div-t7 : tie.Need-div-t7
 div-t7 c = let v = valid-quota _ _ (told-yes (c .before .before .before .before .is-valid .ensures) (c .before .before .before .if1 .left)) in v .least
@@ -37,4 +31,4 @@ returns-3 c = rw (told-yes (c .before .before .before .before .is-valid .ensures
 
 pub ceiling-spec : {M : Type 1} → statement M
 ceiling-spec =
-    tie.close (tie.spec is-valid-requires returns returns-2 cast-t6 div-t7 add-t8 returns-3)
+    tie.close (tie.spec (λ c κs. search needs) returns returns-2 (λ c. search needs) div-t7 add-t8 returns-3)

@@ -4,15 +4,9 @@ use Rattle.gcra.specs.Packed.{decode}
 use Rattle.gcra.proofs.Quota.decode.Statement.{statement}
 use Rattle.gcra.proofs.Quota.decode.Tie as tie
 
-interval-of-requires : tie.Need-interval-of-requires
-interval-of-requires c κs = search needs
-
-tau-requires : tie.Need-tau-requires
-tau-requires c κs = search needs
-
 returns : tie.Need-returns
 unfolding decode
 returns c = cc
 
 pub decode-spec : {M : Type 1} → statement M
-decode-spec = tie.close (tie.spec interval-of-requires tau-requires returns)
+decode-spec = tie.close (tie.spec (λ c κs. search needs) (λ c κs. search needs) returns)

@@ -4,20 +4,11 @@ use Rattle.gcra.proofs.Encoding.{first-unit, second-unit, third-unit}
 use Rattle.gcra.proofs.Quota.encode_interval.Statement.{statement}
 use Rattle.gcra.proofs.Quota.encode_interval.Tie as tie
 
-div-ceil-requires : tie.Need-div-ceil-requires
-div-ceil-requires c κs = search needs
-
 returns : tie.Need-returns
 returns c = first-unit _ _ (c .before .div-ceil .ensures) (c .if1 .taken)
 
-div-ceil-requires-2 : tie.Need-div-ceil-requires-2
-div-ceil-requires-2 c κs = search needs
-
 returns-2 : tie.Need-returns-2
 returns-2 c = second-unit _ _ (c .before .before .before .div-ceil .ensures) (c .before .before .if1 .left) (c .before .div-ceil2 .ensures) (c .if2 .taken)
-
-div-ceil-requires-3 : tie.Need-div-ceil-requires-3
-div-ceil-requires-3 c κs = search needs
 
 returns-3 : tie.Need-returns-3
 returns-3 c =
@@ -28,9 +19,9 @@ pub encode-interval-spec : {M : Type 1} → statement M
 encode-interval-spec =
     tie.close
     (tie.spec
-    div-ceil-requires
+    (λ c κs. search needs)
     returns
-    div-ceil-requires-2
+    (λ c κs. search needs)
     returns-2
-    div-ceil-requires-3
+    (λ c κs. search needs)
     returns-3)

@@ -6,9 +6,6 @@ use Rattle.gcra.proofs.Encoding.{value-small}
 use Rattle.gcra.proofs.Quota.interval_of.Statement.{statement}
 use Rattle.gcra.proofs.Quota.interval_of.Tie as tie
 
-unit-nanos-requires : tie.Need-unit-nanos-requires
-unit-nanos-requires c κs = search needs
-
 mul-result : tie.Need-mul-result
 mul-result c =
     let w = c .before .args .packed in
@@ -18,4 +15,4 @@ returns : tie.Need-returns
 returns c = cc
 
 pub interval-of-spec : {M : Type 1} → statement M
-interval-of-spec = tie.close (tie.spec unit-nanos-requires mul-result returns)
+interval-of-spec = tie.close (tie.spec (λ c κs. search needs) mul-result returns)

@@ -7,15 +7,9 @@ use Rattle.gcra.proofs.Validity.{unpack-fits}
 use Rattle.gcra.proofs.Quota.is_packed.Statement.{statement}
 use Rattle.gcra.proofs.Quota.is_packed.Tie as tie
 
-unpacks-requires : tie.Need-unpacks-requires
-unpacks-requires c κs = search needs
-
 returns : tie.Need-returns
 unfolding validWord
 returns c = rw (told-no (c .before .unpacks .ensures) (c .if1 .taken))
-
-unpack-in-requires : tie.Need-unpack-in-requires
-unpack-in-requires c κs = search needs
 
 pack-in-requires : tie.Need-pack-in-requires
 pack-in-requires c κs = let f = unpack-fits _ units-accepted _ (c .unpack-in .ensures) in (units-accepted, f .0, f .1)
@@ -26,4 +20,4 @@ returns-2 c = rw (told-yes (c .before .before .before .unpacks .ensures) (c .bef
 
 pub is-packed-spec : {M : Type 1} → statement M
 is-packed-spec =
-    tie.close (tie.spec unpacks-requires returns unpack-in-requires pack-in-requires returns-2)
+    tie.close (tie.spec (λ c κs. search needs) returns (λ c κs. search needs) pack-in-requires returns-2)

@@ -11,9 +11,6 @@ returns : tie.Need-returns
 unfolding validQuota
 returns c = rw (lt-leb 1 (c .before .args .self .interval) (c .if1 .taken))
 
-max-interval-requires : tie.Need-max-interval-requires
-max-interval-requires c κs = search needs
-
 returns-2 : tie.Need-returns-2
 unfolding validQuota
 returns-2 c =
@@ -23,15 +20,9 @@ returns-2 c =
       lt-leb (s .self .interval) (maxInterval (s .units)) (rw (c .before .max-interval .ensures) at (c .if2 .taken)),
     )
 
-burst-fits-requires : tie.Need-burst-fits-requires
-burst-fits-requires c κs = search needs
-
 returns-3 : tie.Need-returns-3
 unfolding validQuota
 returns-3 c = rw (told-no (c .before .burst-fits .ensures) (c .if3 .taken), and-false)
-
-rounded-requires : tie.Need-rounded-requires
-rounded-requires c κs = search needs
 
 returns-4 : tie.Need-returns-4
 unfolding validQuota
@@ -49,9 +40,9 @@ is-valid-spec =
     tie.close
     (tie.spec
     returns
-    max-interval-requires
+    (λ c κs. search needs)
     returns-2
-    burst-fits-requires
+    (λ c κs. search needs)
     returns-3
-    rounded-requires
+    (λ c κs. search needs)
     returns-4)

@@ -18,18 +18,9 @@ returns : tie.Need-returns
 unfolding quotaNew answer
 returns c = rw (c .if1 .taken)
 
-burst-fits-requires : tie.Need-burst-fits-requires
-burst-fits-requires c κs = search needs
-
 returns-2 : tie.Need-returns-2
 unfolding quotaNew answer
 returns-2 c = rw (rate-above (c .before .before), told-no (c .before .burst-fits .ensures) (c .if2 .taken))
-
-div-ceil-requires : tie.Need-div-ceil-requires
-div-ceil-requires c κs = search needs
-
-with-interval-requires : tie.Need-with-interval-requires
-with-interval-requires c κs = search needs
 
 returns-3 : tie.Need-returns-3
 unfolding quotaNew answer
@@ -46,8 +37,8 @@ new-spec =
     tie.close
     (tie.spec
     returns
-    burst-fits-requires
+    (λ c κs. search needs)
     returns-2
-    div-ceil-requires
-    with-interval-requires
+    (λ c κs. search needs)
+    (λ c κs. search needs)
     returns-3)

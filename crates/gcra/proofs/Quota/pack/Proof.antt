@@ -8,9 +8,6 @@ use Rattle.gcra.proofs.Validity.{valid-quota}
 use Rattle.gcra.proofs.Quota.pack.Statement.{statement}
 use Rattle.gcra.proofs.Quota.pack.Tie as tie
 
-is-valid-requires : tie.Need-is-valid-requires
-is-valid-requires c κs = search needs
-
 returns : tie.Need-returns
 unfolding quotaPack
 returns c = alone-no 2 _ (told-no (c .before .is-valid .ensures) (c .if1 .taken))
@@ -23,4 +20,4 @@ unfolding quotaPack
 returns-2 c = rw (c .pack-in .ensures) (alone-yes 2 _ (told-yes (c .before .before .is-valid .ensures) (c .before .if1 .left)))
 
 pub pack-spec : {M : Type 1} → statement M
-pack-spec = tie.close (tie.spec is-valid-requires returns pack-in-requires returns-2)
+pack-spec = tie.close (tie.spec (λ c κs. search needs) returns pack-in-requires returns-2)

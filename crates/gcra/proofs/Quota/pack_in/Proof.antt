@@ -13,9 +13,6 @@ sizes c =
     let t = encode-takes _ _ (c .before .pre .0) (c .before .pre .1) in
     rw (c .encode-interval .ensures) (t .fits, t .code)
 
-encode-interval-requires : tie.Need-encode-interval-requires
-encode-interval-requires c κs = search needs
-
 mul-result : tie.Need-mul-result
 mul-result c = record { fits = omega (arith, sizes (c .before)) }
 
@@ -24,9 +21,6 @@ mul-result-2 c = record { fits = omega (arith, sizes (c .before .before)) }
 
 add-result : tie.Need-add-result
 add-result c = record { fits = omega (arith, sizes (c .before .before)) }
-
-cast-result : tie.Need-cast-result
-cast-result c = search needs
 
 add-result-2 : tie.Need-add-result-2
 add-result-2 c = record { fits = omega (arith, sizes (c .before .before .before)) }
@@ -39,10 +33,10 @@ pub pack-in-spec : {M : Type 1} → statement M
 pack-in-spec =
     tie.close
     (tie.spec
-    encode-interval-requires
+    (λ c κs. search needs)
     mul-result
     mul-result-2
     add-result
-    cast-result
+    (λ c. search needs)
     add-result-2
     returns)

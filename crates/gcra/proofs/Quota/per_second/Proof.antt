@@ -8,21 +8,9 @@ use Rattle.gcra.proofs.Rates.{second-is}
 use Rattle.gcra.proofs.Quota.per_second.Statement.{statement}
 use Rattle.gcra.proofs.Quota.per_second.Tie as tie
 
-burst-fits-requires : tie.Need-burst-fits-requires
-burst-fits-requires c κs = search needs
-
 returns : tie.Need-returns
 unfolding quotaPerSecond
 returns c = alone-no 4 _ (told-no (c .before .burst-fits .ensures) (c .if1 .taken))
-
-ceil-requires : tie.Need-ceil-requires
-ceil-requires c κs = search needs
-
-quotient-nanos-requires : tie.Need-quotient-nanos-requires
-quotient-nanos-requires c κs = search needs
-
-with-interval-requires : tie.Need-with-interval-requires
-with-interval-requires c κs = search needs
 
 returns-2 : tie.Need-returns-2
 unfolding quotaPerSecond perSecond
@@ -34,9 +22,9 @@ pub per-second-spec : {M : Type 1} → statement M
 per-second-spec =
     tie.close
     (tie.spec
-    burst-fits-requires
+    (λ c κs. search needs)
     returns
-    ceil-requires
-    quotient-nanos-requires
-    with-interval-requires
+    (λ c κs. search needs)
+    (λ c κs. search needs)
+    (λ c κs. search needs)
     returns-2)

@@ -11,20 +11,8 @@ use Rattle.gcra.proofs.Quota.quotient_nanos.Tie as tie
 finite-here : (c : tie.Else1) → finite (c .before .before .before .args .quotient) ≡ true
 finite-here c = told-yes (c .before .is-finite .ensures) (c .if1 .left)
 
-max-interval-requires : tie.Need-max-interval-requires
-max-interval-requires c κs = search needs
-
-is-finite-requires : tie.Need-is-finite-requires
-is-finite-requires c κs = search needs
-
 returns : tie.Need-returns
 returns c = c .before .before .max-interval .ensures ∙ not-finite _ _ (told-no (c .before .is-finite .ensures) (c .if1 .taken))
-
-f64-to-u64-requires : tie.Need-f64-to-u64-requires
-f64-to-u64-requires c κs = search needs
-
-min-requires : tie.Need-min-requires
-min-requires c κs = search needs
 
 returns-2 : tie.Need-returns-2
 returns-2 c =
@@ -43,11 +31,11 @@ pub quotient-nanos-spec : {M : Type 1} → statement M
 quotient-nanos-spec =
     tie.close
     (tie.spec
-    max-interval-requires
-    is-finite-requires
+    (λ c κs. search needs)
+    (λ c κs. search needs)
     returns
-    f64-to-u64-requires
-    min-requires
+    (λ c κs. search needs)
+    (λ c κs. search needs)
     returns-2
     returns-3
     returns-4)

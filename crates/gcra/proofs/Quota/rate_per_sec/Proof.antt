@@ -8,19 +8,13 @@ use Rattle.gcra.proofs.Rates.{second-is}
 use Rattle.gcra.proofs.Quota.rate_per_sec.Statement.{statement}
 use Rattle.gcra.proofs.Quota.rate_per_sec.Tie as tie
 
-is-valid-requires : tie.Need-is-valid-requires
-is-valid-requires c κs = search needs
-
 returns : tie.Need-returns
 unfolding quotaRate
 returns c = alone-no 2 _ (told-no (c .before .is-valid .ensures) (c .if1 .taken))
-
-u64-to-f64-requires : tie.Need-u64-to-f64-requires
-u64-to-f64-requires c κs = search needs
 
 returns-2 : tie.Need-returns-2
 unfolding quotaRate ratePerSec
 returns-2 c = rw (second-is, c .u64-to-f64 .ensures) (alone-yes 2 _ (told-yes (c .before .before .is-valid .ensures) (c .before .if1 .left)))
 
 pub rate-per-sec-spec : {M : Type 1} → statement M
-rate-per-sec-spec = tie.close (tie.spec is-valid-requires returns u64-to-f64-requires returns-2)
+rate-per-sec-spec = tie.close (tie.spec (λ c κs. search needs) returns (λ c κs. search needs) returns-2)

@@ -12,12 +12,6 @@ use Rattle.gcra.proofs.Quota.rounded.Tie as tie
 small : (u : Units) (n : ℕ) → Accepted u → n ≤ maxInterval u → (e : Encoded) (w : ℕ) → e ≡ encode u n → w ≡ width u (e .unit) → e .value * w < 2 ^ 64
 small u n a l e w h k = rw (k, h) (value-small u a (encode u n .value) (encode u n .unit) (encode-takes u n a l .fits))
 
-encode-interval-requires : tie.Need-encode-interval-requires
-encode-interval-requires c κs = search needs
-
-unit-nanos-requires : tie.Need-unit-nanos-requires
-unit-nanos-requires c κs = search needs
-
 mul-result : tie.Need-mul-result
 mul-result c =
     let s = c .before .before .before in
@@ -28,4 +22,4 @@ unfolding rounded
 returns c = cc
 
 pub rounded-spec : {M : Type 1} → statement M
-rounded-spec = tie.close (tie.spec encode-interval-requires unit-nanos-requires mul-result returns)
+rounded-spec = tie.close (tie.spec (λ c κs. search needs) (λ c κs. search needs) mul-result returns)

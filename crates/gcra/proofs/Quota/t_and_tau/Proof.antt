@@ -3,14 +3,8 @@ use borrow.Author.Needs.{needs}
 use Rattle.gcra.proofs.Quota.t_and_tau.Statement.{statement}
 use Rattle.gcra.proofs.Quota.t_and_tau.Tie as tie
 
-cast-tau : tie.Need-cast-tau
-cast-tau c = search needs
-
-tau-requires : tie.Need-tau-requires
-tau-requires c κs = search needs
-
 returns : tie.Need-returns
 returns c = cc
 
 pub t-and-tau-spec : {M : Type 1} → statement M
-t-and-tau-spec = tie.close (tie.spec cast-tau tau-requires returns)
+t-and-tau-spec = tie.close (tie.spec (λ c. search needs) (λ c κs. search needs) returns)

@@ -6,19 +6,13 @@ use Rattle.gcra.proofs.Answers.{alone-no, alone-yes}
 use Rattle.gcra.proofs.Quota.unpack.Statement.{statement}
 use Rattle.gcra.proofs.Quota.unpack.Tie as tie
 
-unpacks-requires : tie.Need-unpacks-requires
-unpacks-requires c κs = search needs
-
 returns : tie.Need-returns
 unfolding quotaUnpack
 returns c = alone-no 14 _ (told-no (c .before .unpacks .ensures) (c .if1 .taken))
-
-unpack-in-requires : tie.Need-unpack-in-requires
-unpack-in-requires c κs = search needs
 
 returns-2 : tie.Need-returns-2
 unfolding quotaUnpack
 returns-2 c = rw (c .unpack-in .ensures) (alone-yes 14 _ (told-yes (c .before .before .unpacks .ensures) (c .before .if1 .left)))
 
 pub unpack-spec : {M : Type 1} → statement M
-unpack-spec = tie.close (tie.spec unpacks-requires returns unpack-in-requires returns-2)
+unpack-spec = tie.close (tie.spec (λ c κs. search needs) returns (λ c κs. search needs) returns-2)

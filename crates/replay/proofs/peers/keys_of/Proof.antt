@@ -13,27 +13,6 @@ Inv-loop line from count keys₀ at₀ i₀ keys at i = (i ≤ count) × (length
 abbrev μ-loop : tie.MeasureT-loop
 μ-loop line from count keys₀ at₀ i₀ keys at i = count - i
 
-loop-holds : tie.Need-loop-holds Inv-loop μ-loop
-loop-holds c = search needs
-
-listed-of-requires : tie.Need-listed-of-requires Inv-loop μ-loop
-listed-of-requires c κs = search needs
-
-returns : tie.Need-returns Inv-loop μ-loop
-returns c = search needs
-
-mul-keys : tie.Need-mul-keys Inv-loop μ-loop
-mul-keys c = search needs
-
-array-set-from-keys : tie.Need-array-set-from-keys Inv-loop μ-loop
-array-set-from-keys c = search needs
-
-add-i : tie.Need-add-i Inv-loop μ-loop
-add-i c = search needs
-
-loop-less : tie.Need-loop-less Inv-loop μ-loop
-loop-less c = search needs
-
 loop-again : tie.Need-loop-again Inv-loop μ-loop
 loop-again c =
     ⊎-elim
@@ -41,21 +20,18 @@ loop-again c =
     (λ w. (search needs, ap length (w .1) ∙ search needs))
     (c .if2 .came)
 
-returns-2 : tie.Need-returns-2 Inv-loop μ-loop
-returns-2 c = search needs
-
 pub keys-of-spec : {M : Type 1} → statement M
 keys-of-spec =
     tie.close
     (tie.spec
     Inv-loop
     μ-loop
-    loop-holds
-    listed-of-requires
-    returns
-    mul-keys
-    array-set-from-keys
-    add-i
-    loop-less
+    (λ c. search needs)
+    (λ c κs. search needs)
+    (λ c. search needs)
+    (λ c. search needs)
+    (λ c. search needs)
+    (λ c. search needs)
+    (λ c. search needs)
     loop-again
-    returns-2)
+    (λ c. search needs))
