@@ -1,5 +1,4 @@
 -- Bounds on products, over variables alone. Each is a sum of the given bounds times something, once both sides are written as sums of products.
-use mathlib.Core.Path.{_≡_, ap}
 use Prim.Native.Nat.{ℕ, zero, _+_, _*_, _≤_, _<_}
 use native.Mathlib.Nat.{mul-assoc, mul-comm, mul-left-comm, mul-add, add-mul, mul-one, one-mul, mul-le-mul, mul-le-mul-left, mul-le-mul-right, le-of-mul-le-mul-right}
 use native.Mathlib.Omega.{arith}
@@ -31,21 +30,19 @@ term-high s y c r T T' n d R ε ε' hs h₁ h₂ h₃ hT hy hε =
     )))
     hs
 
--- A sum P of rounded terms against the exact sum hi / d, in s parts: what holds before a term holds after it, with the term's own error.
+-- A sum P of rounded terms against the exact sum (p - q) / d, in s parts: what holds before a term holds after it, with the term's own error.
 
-pub minus-high : (s hi lo d n c P T R ε : ℕ) → lo + R ≡ hi * (n * c) → s * hi ≤ (P + T + ε) * d → T * (d * (n * c)) ≤ s * R → s * lo ≤ (P + ε) * (d * (n * c))
-minus-high s hi lo d n c P T R ε e h t =
-    simp sums (omega (arith, simp sums at (ap (λ (x : ℕ). s * x) e), simp sums at (mul-le-mul-right (n * c) h), simp sums at t))
+pub minus-high : (s p q d n c P T R ε : ℕ) → s * p ≤ (P + T + ε) * d + s * q → T * (d * (n * c)) ≤ s * R → s * (p * (n * c)) ≤ (P + ε) * (d * (n * c)) + s * (q * (n * c) + R)
+minus-high s p q d n c P T R ε h t = simp sums (omega (arith, simp sums at (mul-le-mul-right (n * c) h), simp sums at t))
 
-pub plus-high : (s lo d n c P T R ε ε' : ℕ) → s * lo ≤ (P + ε) * d → s * R ≤ (T + ε') * (d * (n * c)) → s * (lo * (n * c) + R) ≤ (P + T + (ε + ε')) * (d * (n * c))
-plus-high s lo d n c P T R ε ε' h t = simp sums (omega (arith, simp sums at (mul-le-mul-right (n * c) h), simp sums at t))
+pub plus-high : (s p q d n c P T R ε ε' : ℕ) → s * p ≤ (P + ε) * d + s * q → s * R ≤ (T + ε') * (d * (n * c)) → s * (p * (n * c) + R) ≤ (P + T + (ε + ε')) * (d * (n * c)) + s * (q * (n * c))
+plus-high s p q d n c P T R ε ε' h t = simp sums (omega (arith, simp sums at (mul-le-mul-right (n * c) h), simp sums at t))
 
-pub minus-low : (s hi lo d n c P T R δ ε' : ℕ) → lo + R ≡ hi * (n * c) → (P + T) * d ≤ s * hi + δ * d → s * R ≤ (T + ε') * (d * (n * c)) → P * (d * (n * c)) ≤ s * lo + (δ + ε') * (d * (n * c))
-minus-low s hi lo d n c P T R δ ε' e h t =
-    simp sums (omega (arith, simp sums at (ap (λ (x : ℕ). s * x) e), simp sums at (mul-le-mul-right (n * c) h), simp sums at t))
+pub minus-low : (s p q d n c P T R δ ε' : ℕ) → (P + T) * d + s * q ≤ s * p + δ * d → s * R ≤ (T + ε') * (d * (n * c)) → P * (d * (n * c)) + s * (q * (n * c) + R) ≤ s * (p * (n * c)) + (δ + ε') * (d * (n * c))
+minus-low s p q d n c P T R δ ε' h t = simp sums (omega (arith, simp sums at (mul-le-mul-right (n * c) h), simp sums at t))
 
-pub plus-low : (s lo d n c P T R δ : ℕ) → P * d ≤ s * lo + δ * d → T * (d * (n * c)) ≤ s * R → (P + T) * (d * (n * c)) ≤ s * (lo * (n * c) + R) + δ * (d * (n * c))
-plus-low s lo d n c P T R δ h t = simp sums (omega (arith, simp sums at (mul-le-mul-right (n * c) h), simp sums at t))
+pub plus-low : (s p q d n c P T R δ : ℕ) → P * d + s * q ≤ s * p + δ * d → T * (d * (n * c)) ≤ s * R → (P + T) * (d * (n * c)) + s * (q * (n * c)) ≤ s * (p * (n * c) + R) + δ * (d * (n * c))
+plus-low s p q d n c P T R δ h t = simp sums (omega (arith, simp sums at (mul-le-mul-right (n * c) h), simp sums at t))
 
 -- A power, one factor more: E' is E * F / s, rounded down, and F is within a of s * h / b.
 

@@ -1,7 +1,7 @@
 -- Finite sums and convolutions of sequences of whole numbers.
 use mathlib.Core.Path.{_≡_, refl, sym, ap, _∙_}
 use Prim.Native.Nat.{ℕ, zero, suc, _+_, _*_, _≤_, _<_, zero-le}
-use native.Mathlib.Nat.{le-refl, le-trans, le-of-eq, le-add-right, add-le-add, mul-le-mul-left, mul-add, add-mul, mul-assoc, mul-left-comm, one-mul, zero-mul, mul-zero, add-zero, zero-add, suc-add, suc-mul}
+use native.Mathlib.Nat.{le-refl, le-trans, le-of-eq, le-add-right, add-le-add, mul-le-mul-left, mul-add, add-mul, mul-assoc, mul-left-comm, zero-mul, mul-zero, add-zero, zero-add, suc-add}
 use native.Mathlib.Omega.{arith}
 use Rattle.demand.proofs.Bounds.{sums}
 
@@ -174,25 +174,6 @@ conv-at-least f g M n (suc m) h =
     longer : (j m n : ℕ) → j ≤ m + n → j ≤ suc m + n
     longer j m n h = omega arith
 
--- where g is at most M above the index n, the terms of f up to m apart from the rest
-pub conv-split : (f g : Sequence) (M n m : ℕ) → ((j : ℕ) → n < j → j ≤ suc (m + n) → g j ≤ M) → conv f g (suc (m + n)) ≤ total f m * M + conv (λ (i : ℕ). f (suc (m + i))) g n
-unfolding conv total
-conv-split f g M n zero h =
-    add-le-add (mul-le-mul-left (f 0) (h (suc (0 + n)) (omega arith) (le-refl (suc (0 + n)))))
-    (le-of-eq (ap (conv (tail f) g) (zero-add n) ∙ conv-same-left (tail f) (λ (i : ℕ). f (suc (0 + i))) g n (λ i l. ap (λ (k : ℕ). f (suc k)) (sym (zero-add i)))))
-conv-split f g M n (suc m) h =
-    le-trans
-    (add-le-add (mul-le-mul-left (f 0) (h (suc (suc m + n)) (omega arith) (le-refl (suc (suc m + n)))))
-    (le-trans (le-of-eq (ap (conv (tail f) g) (suc-add m n))) (conv-split (tail f) g M n m (λ j k l. h j k (longer j m n l)))))
-    (le-trans (le-of-eq (together (f 0) (total (tail f) m) M (conv (λ (i : ℕ). f (suc (suc (m + i)))) g n)))
-    (le-of-eq (λ i. sym (total-first f m) i * M + conv-same-left (λ (i : ℕ). f (suc (suc (m + i)))) (λ (i : ℕ). f (suc (suc m + i))) g n (λ i l. ap (λ (k : ℕ). f (suc k)) (sym (suc-add m i))) i)))
-  where
-    longer : (j m n : ℕ) → j ≤ suc (m + n) → j ≤ suc (suc m + n)
-    longer j m n h = omega arith
-
-    together : (u t M r : ℕ) → u * M + (t * M + r) ≡ (u + t) * M + r
-    together u t M r = rw (add-mul u t M) (let e : u * M + (t * M + r) ≡ u * M + t * M + r = omega arith in e)
-
 -- ---- totals
 
 pub total-same : (f g : Sequence) (k : ℕ) → ((i : ℕ) → i ≤ k → f i ≡ g i) → total f k ≡ total g k
@@ -212,14 +193,3 @@ pub total-grows : (f : Sequence) (j d : ℕ) → total f j ≤ total f (d + j)
 unfolding total
 total-grows f j zero = le-of-eq (ap (total f) (sym (zero-add j)))
 total-grows f j (suc d) = le-trans (total-grows f j d) (le-trans (le-add-right (total f (d + j)) (f (suc (d + j)))) (le-of-eq (ap (total f) (sym (suc-add d j)))))
-
-pub total-at-most : (f : Sequence) (M k : ℕ) → ((i : ℕ) → i ≤ k → f i ≤ M) → total f k ≤ suc k * M
-unfolding total
-total-at-most f M zero h = le-trans (h 0 zero-le) (le-of-eq (sym (one-mul M)))
-total-at-most f M (suc k) h = le-trans (add-le-add (total-at-most f M k (λ i l. h i (later l))) (h (suc k) (le-refl (suc k)))) (le-of-eq (one-more (suc k) M))
-  where
-    later : {i k : ℕ} → i ≤ k → i ≤ suc k
-    later h = omega arith
-
-    one-more : (n M : ℕ) → n * M + M ≡ suc n * M
-    one-more n M = sym (suc-mul n M)

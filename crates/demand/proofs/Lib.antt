@@ -7,7 +7,7 @@ pub mod Partial
 pub mod Series
 pub mod Convolution
 pub mod Powers
-pub mod Alternating
+pub mod Binomial
 pub mod Reciprocal
 pub mod Near
 pub mod Literals

@@ -7,14 +7,13 @@ use native.Mathlib.Omega.{arith}
 use lib.Dec.{lit<, lit≤, leb}
 use borrow.Author.Tests.{ne-eqb, leb-true, leb-false}
 use Rattle.demand.specs.Weight.{S, next, term, sum, series, power, weight}
-use Rattle.demand.specs.Exponential.{den, expSum, Within}
+use Rattle.demand.specs.Exponential.{den, odd, plus, minus, Within}
 use Rattle.demand.proofs.Division.{scaled-lt, quotient-next}
 use Rattle.demand.proofs.Bounds.{sums, power-high, power-low, product-high, product-low}
 use Rattle.demand.proofs.Alpha.{power-le, series-le}
-use Rattle.demand.proofs.Partial.{over, under}
 use Rattle.demand.proofs.Series.{sum-high, sum-low}
-use Rattle.demand.proofs.Powers.{den-pos, sum-at-most, sum-at-least}
-use Rattle.demand.proofs.Reciprocal.{under-reciprocal, over-reciprocal}
+use Rattle.demand.proofs.Powers.{expSum, den-pos, sum-at-most, sum-at-least}
+use Rattle.demand.proofs.Reciprocal.{even-reciprocal, odd-reciprocal}
 
 -- ---- a sum is at least 1, and grows with n
 
@@ -35,48 +34,46 @@ longer e c s z n (suc d) h =
 
 -- ---- P, against the sums of exp(r / c)
 
-low-through : (p s u d E B ε : ℕ) → zero < d → p * d ≤ s * u + ε * d → E * u ≤ B * d → p * E ≤ s * B + ε * E
-low-through p s u d E B ε z h k =
+low-through : (P s p q d E B ε : ℕ) → zero < d → P * d + s * q ≤ s * p + ε * d → E * p ≤ B * d + E * q → P * E ≤ s * B + ε * E
+low-through P s p q d E B ε z h k =
     le-of-mul-le-mul-right {k = d} (simp sums (omega (arith, simp sums at (mul-le-mul-right E h), simp sums at (mul-le-mul-left s k)))) z
 
-high-through : (p s o d E B ε : ℕ) → zero < d → s * o ≤ (p + ε) * d → s * (B * d) ≤ s * (E * o) + B * d → B ≤ E → s * B ≤ (p + (ε + 1)) * E
-high-through p s o d E B ε z h k l =
-    le-of-mul-le-mul-right {k = d} (simp sums (omega (arith, simp sums at (mul-le-mul-right E h), simp sums at k, simp sums at (mul-le-mul-right d l)))) z
+high-through : (P s p q d E B ε : ℕ) → zero < d → s * p ≤ (P + ε) * d + s * q → B * d + E * q ≤ E * p → s * B ≤ (P + ε) * E
+high-through P s p q d E B ε z h k =
+    le-of-mul-le-mul-right {k = d} (simp sums (omega (arith, simp sums at (mul-le-mul-right E h), simp sums at (mul-le-mul-left s k)))) z
 
 module _ (r c : ℕ) (h : r < c) (n : ℕ) where
   c-pos : zero < c
   c-pos = omega arith
 
-  series-low : series (r * S / c) * expSum r c n ≤ S * den c n + 31 * expSum r c n
-  series-low = low-through _ S (under r c 10) (den c 21) (expSum r c n) (den c n) 31 (den-pos c 21 c-pos) (sum-low r c h) (under-reciprocal r c c-pos (le-of-lt h) n)
+  series-low : 21 ≤ n → series (r * S / c) * expSum r c n ≤ S * den c n + 31 * expSum r c n
+  series-low k = low-through _ S (plus r c 21) (minus r c 21) (den c 21) (expSum r c n) (den c n) 31 (den-pos c 21 c-pos) (sum-low r c h) (odd-reciprocal r c n 10 c-pos k)
 
-  series-high : 19 ≤ n → S * den c n ≤ (series (r * S / c) + 31) * expSum r c n
-  series-high k = high-through _ S (over r c 10) (den c 20) (expSum r c n) (den c n) 30 (den-pos c 20 c-pos) (sum-high r c h) (over-reciprocal r c c-pos (le-of-lt h) n k) (den-le r c n)
+  series-high : 20 ≤ n → S * den c n ≤ (series (r * S / c) + 30) * expSum r c n
+  series-high k = high-through _ S (plus r c 20) (minus r c 20) (den c 20) (expSum r c n) (den c n) 30 (den-pos c 20 c-pos) (sum-high r c h) (even-reciprocal r c n 10 c-pos k)
 
 -- ---- the powers E(q), against the powers of the sums of exp(1)
 
-near-one : series S * den 1 21 ≤ S * under 1 1 10 + 2 * den 1 21
-unfolding next term sum series over under den
-near-one = lit≤ tt
+one-near-low : series S * den 1 21 + S * minus 1 1 21 ≤ S * plus 1 1 21 + 2 * den 1 21
+unfolding next term sum series den odd plus minus
+one-near-low = lit≤ tt
 
-one-low : (n : ℕ) → series S * expSum 1 1 n ≤ S * den 1 n + 2 * expSum 1 1 n
-one-low n = low-through (series S) S (under 1 1 10) (den 1 21) (expSum 1 1 n) (den 1 n) 2 (den-pos 1 21 (lit< tt)) near-one (under-reciprocal 1 1 (lit< tt) (le-refl 1) n)
+one-near-high : S * plus 1 1 20 ≤ (series S + 2) * den 1 20 + S * minus 1 1 20
+unfolding next term sum series den odd plus minus
+one-near-high = lit≤ tt
 
-near-one-20 : S * den 1 20 ≤ (series S + 2) * expSum 1 1 20
-unfolding next term sum series expSum den
-near-one-20 = lit≤ tt
+one-low : (n : ℕ) → 21 ≤ n → series S * expSum 1 1 n ≤ S * den 1 n + 2 * expSum 1 1 n
+one-low n h = low-through (series S) S (plus 1 1 21) (minus 1 1 21) (den 1 21) (expSum 1 1 n) (den 1 n) 2 (den-pos 1 21 (lit< tt)) one-near-low (odd-reciprocal 1 1 n 10 (lit< tt) h)
 
 one-high : (n : ℕ) → 20 ≤ n → S * den 1 n ≤ (series S + 2) * expSum 1 1 n
-one-high n h =
-    let e : n - 20 + 20 ≡ n = omega arith in
-    subst (λ (k : ℕ). S * den 1 k ≤ (series S + 2) * expSum 1 1 k) e (longer 1 1 S (series S + 2) 20 (n - 20) near-one-20)
+one-high n h = high-through (series S) S (plus 1 1 20) (minus 1 1 20) (den 1 20) (expSum 1 1 n) (den 1 n) 2 (den-pos 1 20 (lit< tt)) one-near-high (even-reciprocal 1 1 n 10 (lit< tt) h)
 
-powers-low : (n : ℕ) → 20 ≤ n → (q : ℕ) → power q * expSum 1 1 n ^ q ≤ S * den 1 n ^ q + 5 * expSum 1 1 n ^ q
+powers-low : (n : ℕ) → 21 ≤ n → (q : ℕ) → power q * expSum 1 1 n ^ q ≤ S * den 1 n ^ q + 5 * expSum 1 1 n ^ q
 unfolding next term sum series power
 powers-low n h zero = rw (pow-zero (expSum 1 1 n), pow-zero (den 1 n)) (lit≤ tt)
 powers-low n h (suc q) =
     rw (pow-suc (den 1 n) q, pow-suc (expSum 1 1 n) q)
-    (power-low S (power q) (power (suc q)) (series S) (den 1 n) (expSum 1 1 n) (den 1 n ^ q) (expSum 1 1 n ^ q) 5 2 (series S + 2) (lit< tt) (one-low n) (powers-low n h q) (div-mul-le-self (power q * series S) S) (pow-le-pow-left (den-le 1 1 n) q) (one-high n h) (lit≤ tt))
+    (power-low S (power q) (power (suc q)) (series S) (den 1 n) (expSum 1 1 n) (den 1 n ^ q) (expSum 1 1 n ^ q) 5 2 (series S + 2) (lit< tt) (one-low n h) (powers-low n h q) (div-mul-le-self (power q * series S) S) (pow-le-pow-left (den-le 1 1 n) q) (one-high n (le-of-lt h)) (lit≤ tt))
 
 powers-high : (n : ℕ) → 20 ≤ n → (q : ℕ) → S * den 1 n ^ q ≤ (power q + 5) * expSum 1 1 n ^ q
 unfolding next term sum series power
@@ -189,6 +186,20 @@ module _ (r c q d z : ℕ) (pos : zero < c) where
       (below S (d + z) (den c m * den 1 m ^ q) (expSum r c m * expSum 1 1 m ^ q) (den c (q * m + m)) (expSum (q * c + r) c (q * m + m)) (product-pos m) h
       (le-trans (le-of-eq (mul-comm (den c (q * m + m)) (expSum r c m * expSum 1 1 m ^ q))) (le-trans (times-at-least r c pos m q) (le-of-eq (mul-comm (expSum (q * c + r) c (q * m + m)) (den c m * den 1 m ^ q)))))))
 
+-- d is within z of s * exp(-e / c), by the sum of exp(e / c) up to the term n: with a the fraction expSum e c n / den c n, (d - z) * a ≤ s ≤ (d + z) * a
+record Against (z d s e c n : ℕ) : Type 0 where
+  not-above : d * expSum e c n ≤ s * den c n + z * expSum e c n
+  not-below : s * den c n ≤ (d + z) * expSum e c n
+
+-- from the sums of exp(e / c) to those of exp(-e / c)
+low-back : (P s p q d E B ε : ℕ) → zero < E → P * E ≤ s * B + ε * E → B * d + E * q ≤ E * p → P * d + s * q ≤ s * p + ε * d
+low-back P s p q d E B ε z h k =
+    le-of-mul-le-mul-right {k = E} (simp sums (omega (arith, simp sums at (mul-le-mul-right d h), simp sums at (mul-le-mul-left s k)))) z
+
+high-back : (P s p q d E B ε : ℕ) → zero < E → s * B ≤ (P + ε) * E → E * p ≤ B * d + E * q → s * p ≤ (P + ε) * d + s * q
+high-back P s p q d E B ε z h k =
+    le-of-mul-le-mul-right {k = E} (simp sums (omega (arith, simp sums at (mul-le-mul-right d h), simp sums at (mul-le-mul-left s k)))) z
+
 module _ (e c : ℕ) (pos : zero < c) where
   rest-lt : e % c < c
   rest-lt = mod-lt e pos
@@ -204,20 +215,20 @@ module _ (e c : ℕ) (pos : zero < c) where
   series-at-most = series-le (e % c * S / c) (le-of-lt (scaled-lt (e % c) S c rest-lt (lit< tt)))
 
   -- up to 37 times the time constant
-  early : (n : ℕ) → 760 ≤ n → e / c < 37 → Within 64 D S (e / c * c + e % c) c n
+  early : (n : ℕ) → 760 ≤ n → e / c < 37 → Against 64 D S (e / c * c + e % c) c n
   early n h l = record {
     not-above =
         above-product (e % c) c (e / c) D 64 pos n
         (product-low S (series (e % c * S / c)) (power (e / c)) D (den c n) (expSum (e % c) c n) (den 1 n ^ (e / c)) (expSum 1 1 n ^ (e / c)) 31 5 64 (lit< tt)
-        (series-low (e % c) c rest-lt n) (powers-low n (omega arith) (e / c)) (div-mul-le-self _ S) (den-le (e % c) c n) (pow-le-pow-left (den-le 1 1 n) (e / c)) (lit≤ tt));
+        (series-low (e % c) c rest-lt n (omega arith)) (powers-low n (omega arith) (e / c)) (div-mul-le-self _ S) (den-le (e % c) c n) (pow-le-pow-left (den-le 1 1 n) (e / c)) (lit≤ tt));
     not-below =
         below-product (e % c) c (e / c) D 64 pos 20 n (omega arith)
-        (product-high S (series (e % c * S / c)) (power (e / c)) D (den c 20) (expSum (e % c) c 20) (den 1 20 ^ (e / c)) (expSum 1 1 20 ^ (e / c)) 31 5 64 (lit< tt)
+        (product-high S (series (e % c * S / c)) (power (e / c)) D (den c 20) (expSum (e % c) c 20) (den 1 20 ^ (e / c)) (expSum 1 1 20 ^ (e / c)) 30 5 64 (lit< tt)
         (series-high (e % c) c rest-lt 20 (lit≤ tt)) (powers-high 20 (lit≤ tt) (e / c)) (quotient-next _ S (lit< tt)) series-at-most (power-le (e / c)) (lit≤ tt));
   }
 
   -- from there on
-  late : (n : ℕ) → 760 ≤ n → 37 * c ≤ e → Within 64 0 S e c n
+  late : (n : ℕ) → 760 ≤ n → 37 * c ≤ e → Against 64 0 S e c n
   late n h l =
       let r = e - 37 * c in
       let is : 37 * c + r ≡ e = omega arith in
@@ -229,10 +240,22 @@ module _ (e c : ℕ) (pos : zero < c) where
             (le-trans (le-of-eq (mul-left-comm S (den c 20) (den 1 20 ^ 37))) (le-trans (mul-le-mul (den-le r c 20) far) (le-of-eq (mul-left-comm (expSum r c 20) 64 (expSum 1 1 20 ^ 37))))));
       }
 
-  by-time : (n : ℕ) → 760 ≤ n → (b : Bool) → leb 37 (e / c) ≡ b → Within 64 (cond b 0 D) S e c n
+  by-time : (n : ℕ) → 760 ≤ n → (b : Bool) → leb 37 (e / c) ≡ b → Against 64 (cond b 0 D) S e c n
   by-time n h true t = late n h (le-div-iff-mul-le {k = c} {x = 37} {y = e} pos .0 (leb-true 37 (e / c) t))
-  by-time n h false t = subst (λ (k : ℕ). Within 64 D S k c n) (div-add-mod' e c) (early n h (leb-false 37 (e / c) t))
+  by-time n h false t = subst (λ (k : ℕ). Against 64 D S k c n) (div-add-mod' e c) (early n h (leb-false 37 (e / c) t))
+
+  against : (n : ℕ) → 760 ≤ n → Against 64 (weight e c) S e c n
+  against n h = subst (λ (d : ℕ). Against 64 d S e c n) (sym weight-is) (by-time n h (leb 37 (e / c)) refl)
 
   -- 01: 'D lies within 64 of S × exp(−e ÷ c) for c above 0'
-  pub near : (n : ℕ) → 760 ≤ n → Within 64 (weight e c) S e c n
-  near n h = subst (λ (d : ℕ). Within 64 d S e c n) (sym weight-is) (by-time n h (leb 37 (e / c)) refl)
+  pub near : Within 64 (weight e c) S e c
+  near = record {
+    not-above = λ n.
+        let j = n + n in
+        let m = 760 + j in
+        low-back (weight e c) S (plus e c j) (minus e c j) (den c j) (expSum e c m) (den c m) 64 (sum-pos e c m pos) (against m (omega arith) .not-above) (even-reciprocal e c m n pos (omega arith));
+    not-below = λ n.
+        let j = suc (n + n) in
+        let m = 760 + j in
+        high-back (weight e c) S (plus e c j) (minus e c j) (den c j) (expSum e c m) (den c m) 64 (sum-pos e c m pos) (against m (omega arith) .not-below) (odd-reciprocal e c m n pos (omega arith));
+  }

@@ -1,31 +1,29 @@
--- The sums of the series of exp(-r / c), each over its own denominator.
-use Prim.Native.Nat.{ℕ, zero, suc, _+_, _-_, _*_, _^_, _≤_}
-use native.Mathlib.Nat.{le-trans, le-add-left, mul-le-mul, mul-le-mul-right, pow-zero, pow-suc}
-use native.Mathlib.Omega.{arith}
-use lib.Dec.{lit≤}
+-- The sums of the series of exp(-e / c), from one term to the next.
+use mathlib.Core.Path.{_≡_, refl, ap, _∙_}
+use mathlib.Core.Bool.{Bool, false, not}
+use Prim.Native.Nat.{ℕ, zero, suc, _+_, _*_, _^_}
+use native.Mathlib.Nat.{add-zero}
+use Rattle.demand.specs.Exponential.{odd, plus, minus}
 use Rattle.demand.proofs.Terms.{double}
 
--- the sum of the terms 0 to 2 * m, times den c (2 * m)
-unfoldable pub over : (r c m : ℕ) → ℕ
-over r c zero = 1
-over r c (suc m) = (over r c m * (suc (m + m) * c) - r ^ suc (m + m)) * (suc (suc (m + m)) * c) + r ^ suc (suc (m + m))
+pub even : (m : ℕ) → odd (m + m) ≡ false
+unfolding odd
+even zero = refl
+even (suc m) = ap odd (double m) ∙ ap (λ (b : Bool). not (not b)) (even m)
 
--- the sum of the terms 0 to 2 * m + 1, times den c (2 * m + 1)
-unfoldable pub under : (r c m : ℕ) → ℕ
-under r c m = over r c m * (suc (m + m) * c) - r ^ suc (m + m)
+module _ (e c m : ℕ) where
+  pub plus-odd : plus e c (suc (m + m)) ≡ plus e c (m + m) * (suc (m + m) * c)
+  unfolding plus odd
+  plus-odd = rw (even m) (add-zero _)
 
-module _ (r c : ℕ) (h : r ≤ c) where
-  le-times : (n : ℕ) → r ≤ suc n * c
-  le-times n = le-trans h (omega (arith, mul-le-mul-right c (one-le n)))
-    where
-      one-le : (n : ℕ) → 1 ≤ suc n
-      one-le n = omega arith
+  pub minus-odd : minus e c (suc (m + m)) ≡ minus e c (m + m) * (suc (m + m) * c) + e ^ suc (m + m)
+  unfolding minus odd
+  minus-odd = rw (even m)
 
-  over-ge : (m : ℕ) → r ^ (m + m) ≤ over r c m
-  unfolding over
-  over-ge zero = rw pow-zero (lit≤ tt)
-  over-ge (suc m) = rw double (le-add-left (r ^ suc (suc (m + m))) _)
+  pub plus-even : plus e c (suc (suc (m + m))) ≡ plus e c (suc (m + m)) * (suc (suc (m + m)) * c) + e ^ suc (suc (m + m))
+  unfolding plus odd
+  plus-even = rw (even m)
 
-  -- no difference goes below 0
-  pub room : (m : ℕ) → r ^ suc (m + m) ≤ over r c m * (suc (m + m) * c)
-  room m = rw (pow-suc r (m + m)) (mul-le-mul (over-ge m) (le-times (m + m)))
+  pub minus-even : minus e c (suc (suc (m + m))) ≡ minus e c (suc (m + m)) * (suc (suc (m + m)) * c)
+  unfolding minus odd
+  minus-even = rw (even m) (add-zero _)

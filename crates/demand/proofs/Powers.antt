@@ -7,7 +7,7 @@ use native.Mathlib.Nat.{add-comm, eq-or-lt-of-le, le-refl, le-trans, le-of-eq, l
 use native.Mathlib.Omega.{arith}
 use lib.Dec.{leb, lit<}
 use borrow.Author.Tests.{le-leb, lt-leb}
-use Rattle.demand.specs.Exponential.{den, expSum}
+use Rattle.demand.specs.Exponential.{den}
 use Rattle.demand.proofs.Bounds.{sums}
 use Rattle.demand.proofs.Convolution.{Sequence, Grows, total, conv, conv-grows, conv-total, conv-at-most, conv-at-least, total-same, total-scale, total-grows}
 
@@ -15,6 +15,11 @@ pub den-pos : (c k : ℕ) → zero < c → zero < den c k
 unfolding den
 den-pos c zero h = lit< tt
 den-pos c (suc k) h = mul-pos (den-pos c k h) (mul-pos (omega arith) h)
+
+-- 1 + x / c + (x / c) ^ 2 / 2! + .. + (x / c) ^ n / n!, times den c n
+unfoldable pub expSum : (x c n : ℕ) → ℕ
+expSum x c zero = 1
+expSum x c (suc n) = expSum x c n * (suc n * c) + x ^ suc n
 
 -- x ^ i / (c ^ i * i!) of den c L, for i up to L
 unfoldable pub divided : (x c L : ℕ) → Sequence
@@ -27,11 +32,11 @@ scale c n zero = 1
 scale c n (suc d) = suc (d + n) * c * scale c n d
 
 module _ (x c : ℕ) where
-  pub within : (L i : ℕ) → i ≤ L → divided x c (suc L) i ≡ suc L * c * divided x c L i
+  within : (L i : ℕ) → i ≤ L → divided x c (suc L) i ≡ suc L * c * divided x c L i
   unfolding divided
   within L i h = simp (le-leb i L h)
 
-  pub last : (L : ℕ) → divided x c L L ≡ x ^ L
+  last : (L : ℕ) → divided x c L L ≡ x ^ L
   unfolding divided
   last zero = sym (pow-zero x)
   last (suc L) = simp (lt-leb (suc L) L (omega arith))
@@ -70,14 +75,8 @@ module _ (x c : ℕ) where
           ∙ mul-left-comm (suc L * c) x (divided x c L i)
           ∙ ap (λ (n : ℕ). x * n) (sym (within L i (le-of-lt l)))
 
-  pub sum-is : (n : ℕ) → total (divided x c n) n ≡ expSum x c n
-  unfolding total expSum divided
-  sum-is zero = refl
-  sum-is (suc n) =
-      (λ i. (total-same (divided x c (suc n)) (λ (i : ℕ). suc n * c * divided x c n i) n (within n) ∙ total-scale (suc n * c) (divided x c n) n ∙ ap (λ (k : ℕ). suc n * c * k) (sum-is n) ∙ mul-comm (suc n * c) (expSum x c n)) i + last (suc n) i)
-
   -- over a larger denominator
-  pub rescaled : (n d i : ℕ) → i ≤ n → divided x c (d + n) i ≡ scale c n d * divided x c n i
+  rescaled : (n d i : ℕ) → i ≤ n → divided x c (d + n) i ≡ scale c n d * divided x c n i
   unfolding scale
   rescaled n zero i h = ap (λ (k : ℕ). divided x c k i) (zero-add n) ∙ sym (one-mul (divided x c n i))
   rescaled n (suc d) i h =
@@ -87,8 +86,28 @@ module _ (x c : ℕ) where
       far : (d n : ℕ) → n ≤ d + n
       far d n = omega arith
 
+  -- A sum of parts of the terms: f n, over den c n, where f grows with each term by its part.
+  module _ (part : ℕ → ℕ → ℕ) (linear : (i a n : ℕ) → part i (a * n) ≡ a * part i n) (f : ℕ → ℕ) (start : f 0 ≡ part 0 1) (step : (n : ℕ) → f (suc n) ≡ f n * (suc n * c) + part (suc n) (x ^ suc n)) where
+    parts-are : (n : ℕ) → total (λ (i : ℕ). part i (divided x c n i)) n ≡ f n
+    unfolding total divided
+    parts-are zero = sym start
+    parts-are (suc n) =
+        (λ i. (total-same (λ (i : ℕ). part i (divided x c (suc n) i)) (λ (i : ℕ). suc n * c * part i (divided x c n i)) n (λ i h. ap (part i) (within n i h) ∙ linear i (suc n * c) (divided x c n i))
+        ∙ total-scale (suc n * c) (λ (i : ℕ). part i (divided x c n i)) n ∙ ap (λ (k : ℕ). suc n * c * k) (parts-are n) ∙ mul-comm (suc n * c) (f n)) i + part (suc n) (last (suc n) i))
+        ∙ sym (step n)
+
+    pub parts-rescaled : (n d : ℕ) → total (λ (i : ℕ). part i (divided x c (d + n) i)) n ≡ scale c n d * f n
+    parts-rescaled n d =
+        total-same (λ (i : ℕ). part i (divided x c (d + n) i)) (λ (i : ℕ). scale c n d * part i (divided x c n i)) n (λ i h. ap (part i) (rescaled n d i h) ∙ linear i (scale c n d) (divided x c n i))
+        ∙ total-scale (scale c n d) (λ (i : ℕ). part i (divided x c n i)) n ∙ ap (λ (k : ℕ). scale c n d * k) (parts-are n)
+
+  sum-is : (n : ℕ) → total (divided x c n) n ≡ expSum x c n
+  unfolding expSum
+  sum-is = parts-are (λ i n. n) (λ i a n. refl) (expSum x c) refl (λ n. refl)
+
   pub sum-rescaled : (n d : ℕ) → total (divided x c (d + n)) n ≡ scale c n d * expSum x c n
-  sum-rescaled n d = total-same (divided x c (d + n)) (λ (i : ℕ). scale c n d * divided x c n i) n (rescaled n d) ∙ total-scale (scale c n d) (divided x c n) n ∙ ap (λ (k : ℕ). scale c n d * k) (sum-is n)
+  unfolding expSum
+  sum-rescaled = parts-rescaled (λ i n. n) (λ i a n. refl) (expSum x c) refl (λ n. refl)
 
 pub den-rescaled : (c n d : ℕ) → den c (d + n) ≡ scale c n d * den c n
 den-rescaled c n d = sym (first 0 c (d + n)) ∙ rescaled 0 c n d 0 zero-le ∙ ap (λ (k : ℕ). scale c n d * k) (first 0 c n)

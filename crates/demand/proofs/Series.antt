@@ -5,10 +5,10 @@ use native.Mathlib.Nat.{le-trans, le-of-eq, le-of-lt, add-zero, mul-suc, mul-le-
 use native.Mathlib.Omega.{arith}
 use lib.Dec.{lit<, lit≤}
 use Rattle.demand.specs.Weight.{S, next, term, sum, series}
-use Rattle.demand.specs.Exponential.{den}
+use Rattle.demand.specs.Exponential.{den, plus, minus}
 use Rattle.demand.proofs.Division.{scaled-lt, quotient-next}
 use Rattle.demand.proofs.Terms.{double, term-le, taken-le}
-use Rattle.demand.proofs.Partial.{over, under, room}
+use Rattle.demand.proofs.Partial.{plus-odd, minus-odd, plus-even, minus-even}
 use Rattle.demand.proofs.Bounds.{sums, term-low, term-high, minus-high, plus-high, minus-low, plus-low}
 
 -- how far a term may fall short of the exact one, in parts
@@ -48,31 +48,27 @@ module _ (r c : ℕ) (h : r < c) where
       (term-high S y c r (term y k) (term y (suc k)) (suc k) (den c k) (r ^ k) (short k) 3 (lit< tt) (quotient-next (term y k * y) (suc k * S) (omega arith)) (quotient-next (r * S) c c-pos) (high k) (term-le y k y-le) (omega (arith, y-lt)) (short-side k))
 
   -- the sum of the terms 0 to 2 * m, from both sides
-  upper : (m : ℕ) → S * over r c m ≤ (sum y m + 3 * m) * den c (m + m)
-  unfolding next term sum over den short
+  upper : (m : ℕ) → S * plus r c (m + m) ≤ (sum y m + 3 * m) * den c (m + m) + S * minus r c (m + m)
+  unfolding next term sum den short plus minus
   upper zero = lit≤ tt
   upper (suc m) =
-      let T = term y (suc (m + m)) in
-      let T' = term y (suc (suc (m + m))) in
-      let P = sum y m - T in
-      let h₀ : S * over r c m ≤ (P + T + 3 * m) * den c (m + m) = rw (sub-add-cancel (taken-le y m y-le)) (upper m) in
-      rw (double m, mul-suc 3 m)
-      (plus-high S (over r c m * (suc (m + m) * c) - r ^ suc (m + m)) (den c (suc (m + m))) (suc (suc (m + m))) c P T' (r ^ suc (suc (m + m))) (3 * m) 3
-      (minus-high S (over r c m) (over r c m * (suc (m + m) * c) - r ^ suc (m + m)) (den c (m + m)) (suc (m + m)) c P T (r ^ suc (m + m)) (3 * m) (sub-add-cancel (room r c (le-of-lt h) m)) h₀ (low (suc (m + m))))
-      (high (suc (suc (m + m)))))
+      let k = suc (m + m) in
+      let P = sum y m - term y k in
+      let h₀ : S * plus r c (m + m) ≤ (P + term y k + 3 * m) * den c (m + m) + S * minus r c (m + m) = rw (sub-add-cancel (taken-le y m y-le)) (upper m) in
+      rw (double m, mul-suc 3 m, plus-even r c m, minus-even r c m, plus-odd r c m, minus-odd r c m)
+      (plus-high S (plus r c (m + m) * (k * c)) (minus r c (m + m) * (k * c) + r ^ k) (den c k) (suc k) c P (term y (suc k)) (r ^ suc k) (3 * m) 3
+      (minus-high S (plus r c (m + m)) (minus r c (m + m)) (den c (m + m)) k c P (term y k) (r ^ k) (3 * m) h₀ (low k)) (high (suc k)))
 
-  lower : (m : ℕ) → sum y m * den c (m + m) ≤ S * over r c m + 3 * m * den c (m + m)
-  unfolding next term sum over den short
+  lower : (m : ℕ) → sum y m * den c (m + m) + S * minus r c (m + m) ≤ S * plus r c (m + m) + 3 * m * den c (m + m)
+  unfolding next term sum den short plus minus
   lower zero = lit≤ tt
   lower (suc m) =
-      let T = term y (suc (m + m)) in
-      let T' = term y (suc (suc (m + m))) in
-      let P = sum y m - T in
-      let h₀ : (P + T) * den c (m + m) ≤ S * over r c m + 3 * m * den c (m + m) = rw (sub-add-cancel (taken-le y m y-le)) (lower m) in
-      rw (double m, mul-suc 3 m)
-      (plus-low S (over r c m * (suc (m + m) * c) - r ^ suc (m + m)) (den c (suc (m + m))) (suc (suc (m + m))) c P T' (r ^ suc (suc (m + m))) (3 * m + 3)
-      (minus-low S (over r c m) (over r c m * (suc (m + m) * c) - r ^ suc (m + m)) (den c (m + m)) (suc (m + m)) c P T (r ^ suc (m + m)) (3 * m) 3 (sub-add-cancel (room r c (le-of-lt h) m)) h₀ (high (suc (m + m))))
-      (low (suc (suc (m + m)))))
+      let k = suc (m + m) in
+      let P = sum y m - term y k in
+      let h₀ : (P + term y k) * den c (m + m) + S * minus r c (m + m) ≤ S * plus r c (m + m) + 3 * m * den c (m + m) = rw (sub-add-cancel (taken-le y m y-le)) (lower m) in
+      rw (double m, mul-suc 3 m, plus-even r c m, minus-even r c m, plus-odd r c m, minus-odd r c m)
+      (plus-low S (plus r c (m + m) * (k * c)) (minus r c (m + m) * (k * c) + r ^ k) (den c k) (suc k) c P (term y (suc k)) (r ^ suc k) (3 * m + 3)
+      (minus-low S (plus r c (m + m)) (minus r c (m + m)) (den c (m + m)) k c P (term y k) (r ^ k) (3 * m) 3 h₀ (high k)) (low (suc k)))
 
   -- the term k is at most 1 / k!
   tail-le : (k : ℕ) → den 1 k * r ^ k ≤ den c k
@@ -86,15 +82,16 @@ module _ (r c : ℕ) (h : r < c) where
       regroup d n R r = simp sums
 
   -- P
-  pub sum-high : S * over r c 10 ≤ (series y + 30) * den c 20
+  pub sum-high : S * plus r c 20 ≤ (series y + 30) * den c 20 + S * minus r c 20
   unfolding next term sum series
   sum-high = upper 10
 
-  pub sum-low : series y * den c 21 ≤ S * under r c 10 + 31 * den c 21
-  unfolding next term sum series den under
+  pub sum-low : series y * den c 21 + S * minus r c 21 ≤ S * plus r c 21 + 31 * den c 21
+  unfolding next term sum series den
   sum-low =
-      minus-low S (over r c 10) (under r c 10) (den c 20) 21 c (series y) 0 (r ^ 21) 30 1 (sub-add-cancel (room r c (le-of-lt h) 10)) (rw add-zero (lower 10))
-      (le-trans (mul-le-mul-right (r ^ 21) (lit≤ tt)) (le-trans (tail-le 21) (le-of-eq (sym (one-times (den c 21))))))
+      rw (plus-odd r c 10, minus-odd r c 10)
+      (minus-low S (plus r c 20) (minus r c 20) (den c 20) 21 c (series y) 0 (r ^ 21) 30 1 (rw add-zero (lower 10))
+      (le-trans (mul-le-mul-right (r ^ 21) (lit≤ tt)) (le-trans (tail-le 21) (le-of-eq (sym (one-times (den c 21)))))))
     where
       one-times : (n : ℕ) → (0 + 1) * n ≡ n
       one-times n = omega arith
