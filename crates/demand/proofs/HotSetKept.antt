@@ -14,7 +14,8 @@ use lib.ListN.{length, getD, take, drop}
 use Rattle.float.specs.Magnitude.{magnitude}
 use Rattle.records.specs.Records.{records, table, ascending}
 use Rattle.records.proofs.TestLaws.{split, both, and-intro, contradiction}
-use Rattle.demand.specs.HotSet.{words, entry, entries, isEntry, allEntries, validEntries, Held, get, put, remove, weaker, weakestOf, weakest}
+use Rattle.demand.specs.HotSet.{words, entry, entries, isEntry, allEntries, validEntries, get, put, remove, weaker, weakestOf, weakest}
+use Rattle.demand.specs.Steps.HotSetSteps.{Held}
 use Rattle.demand.specs.declared.hot_set.HotEntry.{HotEntry}
 use Rattle.demand.proofs.HotSetWords.{Fits, is-entry-words, records-table, length-table}
 use Rattle.demand.proofs.HotSetMap.{Above, Asc, above-down, hit, hit-get, miss-get, of-asc}

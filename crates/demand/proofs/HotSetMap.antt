@@ -17,7 +17,8 @@ use Rattle.records.proofs.RecordLaws.{fits-intro, record-at, flat-records}
 use Rattle.records.proofs.OrderLaws.{keyAt, before-differ, before-equal, before-irrefl, keyed-is}
 use Rattle.records.proofs.PlaceLaws as records
 use Rattle.records.proofs.SearchLaws.{find-fit}
-use Rattle.demand.specs.HotSet.{words, entry, entries, allEntries, validEntries, Held, get, put, remove}
+use Rattle.demand.specs.HotSet.{words, entry, entries, allEntries, validEntries, get, put, remove}
+use Rattle.demand.specs.Steps.HotSetSteps.{Held}
 use Rattle.demand.proofs.HotSetWords.{length-words, entry-take, length-entries, words-entries}
 use Rattle.demand.specs.declared.hot_set.HotEntry.{HotEntry}
 

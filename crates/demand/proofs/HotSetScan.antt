@@ -19,7 +19,8 @@ use Rattle.records.specs.Records.{records, fits, before, ascending}
 use Rattle.records.proofs.TestLaws.{both, and-intro, and-first, and-second, contradiction}
 use Rattle.records.proofs.RecordLaws.{fits-le, length-records, record-at, key-at}
 use Rattle.records.proofs.OrderLaws.{keyAt, key-one, asc-intro, asc-fail}
-use Rattle.demand.specs.HotSet.{entry, entries, isEntry, allEntries, validEntries, Held, follows, weaker, weakestOf, weakest}
+use Rattle.demand.specs.HotSet.{entry, entries, isEntry, allEntries, validEntries, weaker, weakestOf, weakest}
+use Rattle.demand.specs.Steps.HotSetSteps.{Held, follows}
 use Rattle.demand.specs.declared.hot_set.HotEntry.{HotEntry}
 use Rattle.demand.proofs.HotSetTests.{next-follows, first-follows}
 use Rattle.demand.proofs.HotSetWords.{is-entry-take, entry-take, bits-back, length-entries}

@@ -9,7 +9,8 @@ use lib.Dec.{ltb, leb, eqb}
 use lib.ListN.{getD}
 use Rattle.records.proofs.TestLaws.{split}
 use lib.Ieee.{Float}
-use Rattle.demand.specs.HotSet.{follows, validSize, renewed, countDown, cooled}
+use Rattle.demand.specs.HotSet.{validSize, renewed, countDown, cooled}
+use Rattle.demand.specs.Steps.HotSetSteps.{follows}
 use Rattle.demand.specs.declared.hot_set.Cooling.{Cooling}
 use Rattle.demand.specs.declared.hot_set.Cooling.the-variants.{Unset, Since}
 use Rattle.demand.specs.declared.hot_set.HotEntry.{HotEntry}

@@ -20,7 +20,7 @@ use Rattle.gcra.proofs.Answers.{passed-none, first-no, first-yes, first-none, f
 use Rattle.demand.specs.PeerRecords.{Snapshot, PeerRecord, SnapshotKey, ContestedKey, timeWords, snapshotWords, pastWords, peerWords, snapshotKeyWords, contestedWords, peerOf, snapshotKeyOf, contestedOf}
 use Rattle.demand.specs.PeerState.{PeerTables, isKnown, haveRoom, stateOf, exact, areExact, isValid, valid, Holds}
 use Rattle.demand.specs.PeerCalls.{hasDemands, hasPlace, peersQuestions, reportQuestions}
-use Rattle.demand.specs.PeerRuns.{keysIn, contestedIn, peersIn, Tabled, Passed, Known}
+use Rattle.demand.specs.Steps.PeerRuns.{keysIn, contestedIn, peersIn, Tabled, Passed, Known}
 use Rattle.demand.proofs.PeerCallLaws.{peers-numbered, report-numbered}
 use Rattle.demand.proofs.PeerWordLaws.{words-of-exact}
 use Rattle.demand.proofs.PeerValidLaws.{Roomy, room-says}

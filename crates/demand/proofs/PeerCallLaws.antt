@@ -12,7 +12,7 @@ use Rattle.gcra.specs.Questions.{Question, passes, firstNo}
 use Rattle.gcra.proofs.Answers.{Numbered, answer-no, answer-passed, not-passed, passed-none}
 use Rattle.demand.specs.PeerState.{PeersState, PeerTables, haveRoom, stateOf, isValid, Stores}
 use Rattle.demand.specs.PeerCalls.{peersQuestions, reportQuestions, Changes, Unchanged}
-use Rattle.demand.specs.PeerSteps.{Valid}
+use Rattle.demand.specs.Steps.PeerSteps.{Valid}
 
 pub unchanged : (p : PeerDemand) (t : PeerTables) → Unchanged p p t t
 unchanged p t = record { value = refl; peers = refl; snapshotKeys = refl; contested = refl }

@@ -20,7 +20,7 @@ use Rattle.demand.specs.PeerLists.{all, first, those, replaced}
 use Rattle.demand.specs.PeerRecords.{flagWord, flagOf, SnapshotKey, ContestedKey, snapshotKeyWords, snapshotKeyOf, contestedWords, contestedOf}
 use Rattle.demand.specs.PeerState.{isWord, isDemand, validSnapshotKey, validContested}
 use Rattle.demand.specs.PeerChanges.{exceeds, fresh, merged, contestedWith, mergeKey, mergeKeys, oldest, withoutOldest, withoutOldests}
-use Rattle.demand.specs.PeerRuns.{word, keysIn, contestedIn, Front, Run, ContestedRun, KeyRun, OneKey}
+use Rattle.demand.specs.Steps.PeerRuns.{word, keysIn, contestedIn, Front, Run, ContestedRun, KeyRun, OneKey}
 use Rattle.demand.proofs.PeerListLaws.{all-map, all-index, those-map}
 use Rattle.demand.proofs.PeerRangeLaws.{those-at, those-gap, second-order, secondWord}
 use Rattle.demand.proofs.PeerRunLaws.{run-shape, find-in, put-at}

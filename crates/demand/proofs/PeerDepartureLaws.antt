@@ -16,8 +16,8 @@ use Rattle.demand.specs.PeerLists.{only, all, any, those, replaced, pres
 use Rattle.demand.specs.PeerRecords.{Snapshot, PeerRecord, SnapshotKey, ContestedKey, peerWords, snapshotKeyWords, contestedWords}
 use Rattle.demand.specs.PeerState.{PeersState, maxPeers, maxDemandKeys, maxContested, isWord, valid, validPeers, validPeer, validSnapshotKeys, validSnapshotKey, validContesteds, validContested, isTaken, isKnown, hasSnapshot}
 use Rattle.demand.specs.PeerChanges.{forget, hold, holdPeer, leave, later, holdEnded, notEnded, expire, agePeer}
-use Rattle.demand.specs.PeerScan.{firstWord}
-use Rattle.demand.specs.PeerSteps.{staysContested, staysPeer}
+use Rattle.demand.specs.Steps.PeerScan.{firstWord}
+use Rattle.demand.specs.Steps.PeerSteps.{staysContested, staysPeer}
 use Rattle.demand.proofs.PeerListLaws.{all-map}
 use Rattle.demand.proofs.PeerRangeLaws.{only-yes, only-no, only-append, only-same, only-only, only-front-by, only-back-by, map-append, map-self, any-map, any-same, any-only, after-test, equal-test, first-cut}
 use Rattle.demand.proofs.PeerOrderLaws.{length-only}

@@ -19,7 +19,7 @@ use Rattle.demand.specs.PeerLists.{only, all, any}
 use Rattle.demand.specs.PeerRecords.{PeerRecord, SnapshotKey, ContestedKey, peerWords, snapshotKeyWords, contestedWords, peerOf, snapshotKeyOf, contestedOf}
 use Rattle.demand.specs.PeerState.{PeersState, PeerTables, peersSize, snapshotKeysSize, contestedSize, exact, stateOf, isTaken, isHeld, isKnown, hasSnapshot, Holds, Stores}
 use Rattle.demand.specs.PeerChanges.{holdEnded, notEnded, expireHolds, expireAge, expire, agePeer, isLeft, isFresh, isFreshSnapshot, isHeldPeer, freshContested, freshPeers}
-use Rattle.demand.specs.PeerSteps.{inOrder, staysContested, staysPeer}
+use Rattle.demand.specs.Steps.PeerSteps.{inOrder, staysContested, staysPeer}
 use Rattle.demand.proofs.PeerWordLaws.{words-of-exact, peer-of-words}
 use Rattle.demand.proofs.PeerRangeLaws.{map-self, only-yes, only-no, only-same, only-only, map-only, any-map, any-only}
 use Rattle.demand.proofs.PeerOrderLaws.{length-only}

@@ -19,9 +19,9 @@ use Rattle.demand.specs.declared.peer_demand.Heard.{Heard}
 use Rattle.demand.specs.PeerLists.{only, first, those}
 use Rattle.demand.specs.PeerRecords.{PeerRecord, SnapshotKey, ContestedKey, flagOf, snapshotOf, peerOf, snapshotKeyOf, contestedOf}
 use Rattle.demand.specs.PeerState.{peerWith, isDemand}
-use Rattle.demand.specs.PeerScan.{firstWord, areKeyWords}
+use Rattle.demand.specs.Steps.PeerScan.{firstWord, areKeyWords}
 use Rattle.demand.specs.PeerReaders.{heardTaken, heardContested, snapshotKeyAt, contestedAt, joined}
-use Rattle.demand.specs.PeerHeard.{heardOf, KeyTable}
+use Rattle.demand.specs.Steps.PeerHeard.{heardOf, KeyTable}
 use Rattle.demand.proofs.PeerListLaws.{mapped, those-map, first-map, first-pass, none-pass, all-index}
 use Rattle.demand.proofs.PeerRangeLaws.{secondWord, only-only}
 use Rattle.demand.proofs.PeerFindLaws.{Long, key-1, key-2, found-alone, found-none}

@@ -18,7 +18,7 @@ use Rattle.demand.specs.PeerLists.{all, those, replaced}
 use Rattle.demand.specs.PeerRecords.{Snapshot, peerOf, peerWords}
 use Rattle.demand.specs.PeerState.{exact, Holds}
 use Rattle.demand.specs.PeerChanges.{hold}
-use Rattle.demand.specs.PeerScan.{firstWord}
+use Rattle.demand.specs.Steps.PeerScan.{firstWord}
 use Rattle.demand.proofs.PeerRangeLaws.{map-append}
 use Rattle.demand.proofs.PeerTableLaws.{InOrder, found-inside, found-one, found-none, found-at-splice, found-gap-splice}
 use Rattle.demand.proofs.PeerKeepLaws.{overwrite-set, set-word}

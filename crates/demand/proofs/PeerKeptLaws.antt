@@ -17,7 +17,7 @@ use Rattle.demand.specs.PeerState.{PeersState, isWord, isTaken, isKnown,
 use Rattle.demand.specs.declared.peer_demand.DemandReport.{DemandReport}
 use Rattle.demand.specs.PeerChanges as changes
 use Rattle.demand.specs.PeerCalls.{hasPlace}
-use Rattle.demand.specs.PeerRuns.{word}
+use Rattle.demand.specs.Steps.PeerRuns.{word}
 use Rattle.demand.proofs.PeerKindLaws.{Keys, Contesteds}
 use Rattle.demand.proofs.PeerListLaws.{all-map}
 use Rattle.demand.proofs.PeerScanLaws.{eqb-turn}

@@ -11,7 +11,7 @@ use Rattle.records.specs.Records.{records, leads, ascending}
 use Rattle.records.proofs.TestLaws.{and-intro}
 use Rattle.demand.specs.PeerLists.{all, only, those, replaced}
 use Rattle.demand.specs.PeerRecords.{SnapshotKey, ContestedKey, snapshotKeyWords, contestedWords}
-use Rattle.demand.specs.PeerRuns.{word, Front, Form, snapshotForm, contestedForm, RunOf}
+use Rattle.demand.specs.Steps.PeerRuns.{word, Front, Form, snapshotForm, contestedForm, RunOf}
 use Rattle.demand.proofs.PeerWordLaws.{snapshot-key-of-words, contested-of-words}
 use Rattle.demand.proofs.PeerListLaws.{all-map}
 use Rattle.demand.proofs.PeerRangeLaws.{only-same, map-only, those-words, replaced-words}

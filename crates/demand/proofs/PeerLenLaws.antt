@@ -15,7 +15,7 @@ use Rattle.demand.specs.PeerLists.{only, all, any, those}
 use Rattle.demand.specs.PeerRecords.{PeerRecord, SnapshotKey, ContestedKey, peerWords}
 use Rattle.demand.specs.PeerState.{PeersState, PeerTables, valid, areExact, isValid, stateOf, isKnown, hasSnapshot, snapshotKeysOf, contestedKeysOf}
 use Rattle.demand.specs.PeerReaders.{sumOver, peerLen, len}
-use Rattle.demand.specs.PeerHeard.{isListed, counted}
+use Rattle.demand.specs.Steps.PeerHeard.{isListed, counted}
 use Rattle.demand.specs.PeerCalls.{peersQuestions}
 use Rattle.demand.proofs.HotSetMap.{before-one}
 use Rattle.demand.proofs.PeerRangeLaws.{only-yes, only-no, only-same, only-only, any-those}

@@ -12,7 +12,7 @@ use Rattle.records.specs.Records.{key, before, leads, ascending}
 use Rattle.records.proofs.TestLaws.{split, both, and-intro}
 use Rattle.records.proofs.OrderLaws.{before-less, before-equal, before-trans}
 use Rattle.demand.specs.PeerLists.{all, only, those, replaced}
-use Rattle.demand.specs.PeerRuns.{word}
+use Rattle.demand.specs.Steps.PeerRuns.{word}
 use Rattle.demand.proofs.PeerRangeLaws.{only-yes, only-no}
 
 -- ---- all of them

@@ -18,7 +18,7 @@ use Rattle.records.proofs.SearchLaws.{Cut}
 use Rattle.records.proofs.PlaceLaws.{lower-bound-first, at-says, gap-place}
 use Rattle.records.proofs.TableLaws.{Wide}
 use Rattle.demand.specs.PeerLists.{only, any, those, replaced}
-pub use Rattle.demand.specs.PeerScan.{firstWord}
+pub use Rattle.demand.specs.Steps.PeerScan.{firstWord}
 use Rattle.demand.proofs.PeerListLaws.{only-map}
 pub use Rattle.demand.proofs.PeerListLaws.{any-map}
 

@@ -22,10 +22,10 @@ use Rattle.gcra.proofs.Answers.{answer-passed, passed-none}
 use Rattle.demand.specs.PeerLists.{only, all, any, first, present, those}
 use Rattle.demand.specs.PeerRecords.{PeerRecord, SnapshotKey, ContestedKey, snapshotOf, peerOf, snapshotKeyOf, contestedOf}
 use Rattle.demand.specs.PeerState.{PeersState, PeerTables, maxPeers, maxDemandKeys, maxContested, peerWith, stateOf, isWord}
-use Rattle.demand.specs.PeerScan.{firstWord, isTime, isSnapshot, isPeer, arePeerWords, areKeyWords, arePeers, areKeys, isScanned, PeersReady}
+use Rattle.demand.specs.Steps.PeerScan.{firstWord, isTime, isSnapshot, isPeer, arePeerWords, areKeyWords, arePeers, areKeys, isScanned, PeersReady}
 use Rattle.demand.specs.PeerChanges.{snapshotIn}
 use Rattle.demand.specs.PeerReaders.{heardTaken, heardContested, snapshotKeyAt, contestedAt, join, heard, addHeard, totalFrom, total, isPrimary, hotElsewhere}
-use Rattle.demand.specs.PeerHeard.{counted, isListed, KeyTable, StateReady}
+use Rattle.demand.specs.Steps.PeerHeard.{counted, isListed, KeyTable, StateReady}
 use Rattle.demand.specs.PeerCalls.{peersQuestions}
 use Rattle.demand.proofs.PeerListLaws.{mapped, any-map, only-map, all-index, any-here, any-end, only-here, only-end, any-only}
 use Rattle.demand.proofs.PeerRangeLaws.{secondWord}

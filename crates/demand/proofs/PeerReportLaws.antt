@@ -23,7 +23,7 @@ use Rattle.demand.specs.PeerLists.{all, any, first, those}
 use Rattle.demand.specs.PeerRecords.{Snapshot, PeerRecord, snapshotOf, timeWords, snapshotWords, pastWords, peerWords, peerOf}
 use Rattle.demand.specs.PeerState.{isWord, isKnown, peerWith, validSnapshot, validPast, validPeer}
 use Rattle.demand.specs.PeerChanges as changes
-use Rattle.demand.specs.PeerRuns.{word, peersIn, Replaceable, Front, Known, orNew, nextPast, verdictWith, pastAfter}
+use Rattle.demand.specs.Steps.PeerRuns.{word, peersIn, Replaceable, Front, Known, orNew, nextPast, verdictWith, pastAfter}
 use Rattle.demand.proofs.PeerRangeLaws.{any-map, those-at, those-gap, first-shape, word-before, firstWord, those-words}
 use Rattle.demand.proofs.PeerOrderLaws.{length-replaced}
 

@@ -21,7 +21,7 @@ use Rattle.records.proofs.PlaceLaws.{find-cases, at-says, gap-place}
 use Rattle.records.proofs.EditLaws.{length-splice, length-insert, length-overwrite}
 use Rattle.records.proofs.TableLaws.{Wide, wide-records, records-spliced, records-inserted, records-overwritten}
 use Rattle.demand.specs.PeerLists.{any, those, replaced}
-use Rattle.demand.specs.PeerRuns.{word, replacedRun, Replaceable, Tabled, Front, Run}
+use Rattle.demand.specs.Steps.PeerRuns.{word, replacedRun, Replaceable, Tabled, Front, Run}
 use Rattle.demand.proofs.PeerListLaws.{all-index}
 use Rattle.demand.proofs.PeerRangeLaws.{those-range, replaced-splice, range-ordered, first-cut, replaced-at, replaced-gap, second-shape, second-order, any-number, firstWord, secondWord}
 

@@ -14,7 +14,7 @@ use Rattle.records.proofs.OrderLaws.{same-eq}
 use Rattle.demand.specs.PeerLists.{all, present}
 use Rattle.demand.specs.PeerRecords.{flagWord, flagOf, timeWords, timeOf, snapshotWords, snapshotOf, pastWords, peerWords, snapshotKeyWords, contestedWords, peerOf, snapshotKeyOf, contestedOf}
 use Rattle.demand.specs.PeerState.{isWord, isDemand, validSnapshot, validPast, pastHasSnapshot, validPeer, validSnapshotKey, validContested}
-use Rattle.demand.specs.PeerScan.{isTime, isSnapshot, isPastEpoch, isPast, isPeer, arePeerWords, areKeyWords}
+use Rattle.demand.specs.Steps.PeerScan.{isTime, isSnapshot, isPastEpoch, isPast, isPeer, arePeerWords, areKeyWords}
 
 -- ---- tests
 pub eqb-self : (n : ℕ) → eqb n n ≡ true

@@ -17,7 +17,7 @@ use Rattle.records.proofs.RecordLaws.{length-records}
 use Rattle.records.proofs.OrderLaws.{before-cases}
 use Rattle.records.proofs.TableLaws.{Wide, wide-drop}
 use Rattle.demand.specs.PeerLists.{all, any, only, those}
-use Rattle.demand.specs.PeerScan.{areKeyWords, firstWord, isNamed, areNamed, areWithin, isKeyOf, runLength, isRun, areRuns}
+use Rattle.demand.specs.Steps.PeerScan.{areKeyWords, firstWord, isNamed, areNamed, areWithin, isKeyOf, runLength, isRun, areRuns}
 use Rattle.demand.proofs.PeerScanLaws.{and-left, stop}
 use Rattle.demand.proofs.PeerRowLaws.{word-at, first-at, key-record}
 use Rattle.demand.proofs.PeerRangeLaws.{only-yes, only-no}

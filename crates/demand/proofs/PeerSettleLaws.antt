@@ -19,7 +19,7 @@ use Rattle.demand.specs.PeerLists.{first, only, those}
 use Rattle.demand.specs.PeerRecords.{PeerRecord, SnapshotKey, peerWords, snapshotKeyWords, contestedWords, peerOf}
 use Rattle.demand.specs.PeerState.{PeersState, PeerTables, peerWith, isKnown, hasSnapshot, snapshotKeysOf, peersSize, snapshotKeysSize, contestedSize, stateOf, exact, Stores}
 use Rattle.demand.specs.PeerChanges as changes
-use Rattle.demand.specs.PeerRuns.{word, keysIn, contestedIn, peersIn, Replaceable, Front, KeyRun, orNew, verdictWith, pastAfter, Reported, Read}
+use Rattle.demand.specs.Steps.PeerRuns.{word, keysIn, contestedIn, peersIn, Replaceable, Front, KeyRun, orNew, verdictWith, pastAfter, Reported, Read}
 use Rattle.demand.proofs.PeerOrderLaws.{all-imply, length-replaced}
 use Rattle.demand.proofs.PeerRunLaws.{records-take}
 use Rattle.demand.proofs.PeerRangeLaws.{any-counted}

@@ -15,7 +15,7 @@ use Rattle.demand.specs.PeerLists.{any, present}
 use Rattle.demand.specs.PeerRecords.{Snapshot, PeerRecord, ContestedKey, timeOf, flagOf, snapshotOf, peerOf, peerWords}
 use Rattle.demand.specs.PeerState.{isKnown, isHeld}
 use Rattle.demand.specs.PeerChanges.{holdEnded, notEnded, isFresh, isFreshSnapshot, isHeldPeer, agePeer}
-use Rattle.demand.specs.PeerSteps.{staysContested, isStale, staysPeer}
+use Rattle.demand.specs.Steps.PeerSteps.{staysContested, isStale, staysPeer}
 use Rattle.demand.proofs.PeerRangeLaws.{any-same, any-only}
 use Rattle.demand.proofs.PeerTableLaws.{InOrder, any-at, any-gap}
 

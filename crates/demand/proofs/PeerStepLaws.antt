@@ -16,7 +16,7 @@ use Rattle.records.proofs.TestLaws.{contradiction, split}
 use Rattle.demand.specs.PeerLists.{all, any}
 use Rattle.demand.specs.PeerRecords.{ContestedKey, contestedOf, flagWord, flagOf}
 use Rattle.demand.specs.PeerChanges.{older, oldest}
-use Rattle.demand.specs.PeerRuns.{contestedIn}
+use Rattle.demand.specs.Steps.PeerRuns.{contestedIn}
 
 -- past the end nothing is left
 pub drop-end : {A : Type 0} (xs : List A) (n : ℕ) → length xs ≤ n → drop n xs ≡ []

@@ -16,8 +16,8 @@ use Rattle.demand.specs.PeerLists.{only, all, those, replaced}
 use Rattle.demand.specs.PeerRecords.{PeerRecord, SnapshotKey, ContestedKey, peerWords, snapshotKeyWords, contestedWords, peerOf, snapshotKeyOf, contestedOf}
 use Rattle.demand.specs.PeerState.{PeersState, PeerTables, maxPeers, maxDemandKeys, maxContested, peersSize, snapshotKeysSize, contestedSize, haveRoom, exact, areExact, valid, validPeers, validPeer, validSnapshotKeys, validSnapshotKey, validContesteds, validContested, stateOf, isValid, Holds, Stores}
 use Rattle.demand.specs.PeerChanges.{forget, hold, holdPeer, leave, later}
-use Rattle.demand.specs.PeerScan.{firstWord}
-use Rattle.demand.specs.PeerSteps.{inOrder, Valid}
+use Rattle.demand.specs.Steps.PeerScan.{firstWord}
+use Rattle.demand.specs.Steps.PeerSteps.{inOrder, Valid}
 use Rattle.demand.proofs.PeerWordLaws.{words-of-exact}
 use Rattle.demand.proofs.PeerRangeLaws.{map-only, replaced-words}
 use Rattle.demand.proofs.PeerTableLaws.{in-order-intro, holds-more}

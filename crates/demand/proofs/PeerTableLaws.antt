@@ -17,9 +17,9 @@ use Rattle.records.proofs.PlaceLaws.{at-says}
 use Rattle.records.proofs.TableLaws.{Wide, wide-records, wide-splice, length-flat, records-table, drop-table, length-table}
 use Rattle.demand.specs.PeerLists.{any, those, replaced}
 use Rattle.demand.specs.PeerState.{Holds}
-use Rattle.demand.specs.PeerScan.{firstWord}
-use Rattle.demand.specs.PeerSteps.{inOrder}
-use Rattle.demand.specs.PeerRuns.{replacedRun, Replaceable, Tabled}
+use Rattle.demand.specs.Steps.PeerScan.{firstWord}
+use Rattle.demand.specs.Steps.PeerSteps.{inOrder}
+use Rattle.demand.specs.Steps.PeerRuns.{replacedRun, Replaceable, Tabled}
 use Rattle.demand.proofs.PeerOrderLaws.{length-replaced}
 use Rattle.demand.proofs.PeerRowLaws.{find-says, never-unfit}
 use Rattle.demand.proofs.PeerRangeLaws.{replaced-splice, those-at, those-gap, replaced-at, replaced-gap, first-shape, word-before, any-map, any-same, any-those}

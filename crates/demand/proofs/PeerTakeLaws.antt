@@ -19,7 +19,7 @@ use Rattle.demand.specs.PeerRecords.{Snapshot, PeerRecord, SnapshotKey, 
 use Rattle.demand.specs.PeerState.{PeersState, PeerTables, isWord, peerWith, isKnown, snapshotKeysOf, contestedKeysOf, peersSize, snapshotKeysSize, contestedSize, stateOf, exact, valid, validSnapshot, validPast, validPeer, validSnapshotKey, Holds, Stores}
 use Rattle.demand.specs.PeerChanges as changes
 use Rattle.demand.specs.PeerCalls.{hasPlace, Widths}
-use Rattle.demand.specs.PeerRuns.{word, keysIn, contestedIn, peersIn, replacedRun, Replaceable, Tabled, KeyRun, contestedAfter, Contestable, orNew, nextPast, pastAfter, Reported, Read}
+use Rattle.demand.specs.Steps.PeerRuns.{word, keysIn, contestedIn, peersIn, replacedRun, Replaceable, Tabled, KeyRun, contestedAfter, Contestable, orNew, nextPast, pastAfter, Reported, Read}
 use Rattle.demand.proofs.PeerWordLaws.{peer-of-words}
 use Rattle.demand.proofs.PeerValidLaws.{all-take}
 use Rattle.demand.proofs.PeerOrderLaws.{all-only, all-imply, length-replaced}

@@ -19,7 +19,7 @@ use Rattle.demand.specs.PeerRecords.{PeerRecord, peerWords, snapshotKeyW
 use Rattle.demand.specs.PeerState.{PeersState, PeerTables, peersSize, snapshotKeysSize, contestedSize, validPeer, validSnapshotKey, validContested, valid, validPeers, validSnapshotKeys, validContesteds, haveRoom, stateOf, exact, areExact, isValid, Stores}
 use Rattle.demand.specs.PeerChanges as changes
 use Rattle.demand.specs.PeerCalls.{Widths, fitsWidths, peersAnswer, newQuestions, peersQuestions, reportQuestions, Changes, IsNew, Applies, Forgets, Leaves, Expires}
-use Rattle.demand.specs.PeerSteps.{Valid}
+use Rattle.demand.specs.Steps.PeerSteps.{Valid}
 use Rattle.demand.proofs.PeerWordLaws.{peer-of-words, snapshot-key-of-words, contested-of-words}
 use Rattle.demand.proofs.PeerCallLaws.{valid-passes, passes-valid}
 use Rattle.demand.proofs.PeerKeptLaws.{valid-says}

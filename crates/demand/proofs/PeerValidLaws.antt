@@ -16,7 +16,7 @@ use Rattle.demand.specs.declared.peer_demand.PeerDemand.{PeerDemand}
 use Rattle.demand.specs.PeerLists.{all, any, present, those}
 use Rattle.demand.specs.PeerRecords.{PeerRecord, SnapshotKey, ContestedKey, snapshotOf, peerWords, snapshotKeyWords, contestedWords, peerOf, snapshotKeyOf, contestedOf}
 use Rattle.demand.specs.PeerState.{PeerTables, maxPeers, maxDemandKeys, maxContested, snapshotKeysOf, contestedKeysOf, isTaken, isKnown, hasSnapshot, isWord, validPeer, validSnapshotKey, validContested, validPeers, validSnapshotKeys, validContesteds, valid, haveRoom, peersSize, snapshotKeysSize, contestedSize, stateOf, exact, areExact, isValid}
-use Rattle.demand.specs.PeerScan.{firstWord, arePeerWords, areKeyWords, isNamed, areNamed, areWithin, arePeers, areKeys, isScanned, PeersReady, KeysReady}
+use Rattle.demand.specs.Steps.PeerScan.{firstWord, arePeerWords, areKeyWords, isNamed, areNamed, areWithin, arePeers, areKeys, isScanned, PeersReady, KeysReady}
 use Rattle.demand.proofs.PeerListLaws.{all-map, any-map, all-at, all-both, length-those}
 use Rattle.demand.proofs.PeerWordLaws.{words-of-exact}
 use Rattle.demand.proofs.PeerScanLaws.{PassIs, peer-words-pass, key-words-pass, contested-words-pass}

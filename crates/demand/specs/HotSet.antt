@@ -70,15 +70,6 @@ allEntries (r ∷ rs) = isEntry r && allEntries rs
 unfoldable pub validEntries : List (List ℕ) → Bool
 validEntries rs = ascending 1 rs && allEntries rs
 
--- the key at word `at` is above that of the record before it, if there is one
-unfoldable pub follows : ℕ → List ℕ → Bool
-follows at xs = cond (ltb at 6) true (ltb (getD xs (at - 6) 0) (getD xs at 0))
-
--- the first n records are within the words, and valid
-pub record Held (n : ℕ) (xs : List ℕ) : Type 0 where
-  pub fit : n * 6 ≤ length xs
-  pub good : validEntries (records 6 n xs) ≡ true
-
 -- 01, question 6: the hot set size is 1 to 64
 unfoldable pub validSize : ℕ → Bool
 validSize n = leb 1 n && leb n 64

@@ -8,10 +8,7 @@ pub mod HotSetCalls
 pub mod PeerLists
 pub mod PeerRecords
 pub mod PeerState
-pub mod PeerScan
-pub mod PeerHeard
 pub mod PeerChanges
-pub mod PeerSteps
 pub mod PeerReaders
 pub mod PeerCalls
-pub mod PeerRuns
+pub mod Steps

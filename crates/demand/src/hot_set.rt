@@ -11,6 +11,7 @@ ghost use lib.ListN.{length, drop};
 ghost use Rattle.records.specs.Records.{records, table, fits};
 ghost use Rattle.gcra.specs.Questions.{passes};
 ghost use Rattle.demand.specs.HotSet as Set;
+ghost use Rattle.demand.specs.Steps.HotSetSteps.{follows, Held};
 ghost use Rattle.demand.specs.HotSetCalls as Calls;
 ghost use Rattle.gcra.specs.Questions.{firstNo};
 
@@ -273,7 +274,7 @@ fn is_entry(hot: &[u64], at: usize) -> bool
 // Whether the key at `at` is above the one before it, if there is one.
 fn follows(hot: &[u64], at: usize) -> bool
     requires { ⌜ at < length (now hot) ⌝ }
-    ensures { λ r. ⌜ r ≡ Set.follows at (now (hot .entry)) ⌝ }
+    ensures { λ r. ⌜ r ≡ follows at (now (hot .entry)) ⌝ }
 {
     if at < WORDS {
         return true;
@@ -304,7 +305,7 @@ pub fn are_valid(hot: &[u64], n: usize) -> bool
 
 // The entry of a key.
 fn get(hot: &[u64], n: usize, key: u64) -> Slot
-    requires { ⌜ Set.Held n (now hot) ⌝ }
+    requires { ⌜ Held n (now hot) ⌝ }
     ensures { λ r. ⌜ Calls.slot r ≡ Set.get key (Set.entries n (now (hot .entry))) ⌝ }
 {
     match records::find(hot, WORDS, 1, n, key, 0) {
@@ -316,7 +317,7 @@ fn get(hot: &[u64], n: usize, key: u64) -> Slot
 
 // Puts an entry under its key, in place of one that has it.
 fn put(hot: &mut [u64], n: usize, entry: HotEntry)
-    requires { ⌜ Set.Held n (now hot) ⌝ }
+    requires { ⌜ Held n (now hot) ⌝ }
     requires { ⌜ length (Set.put entry (Set.entries n (now hot))) * 6 ≤ length (now hot) ⌝ }
     ensures { λ _. ⌜
         now (hot .exit) ≡ table (map Set.words (Set.put entry (Set.entries n (now (hot .entry)))))
@@ -337,7 +338,7 @@ fn put(hot: &mut [u64], n: usize, entry: HotEntry)
 
 // Takes the entry of a key out.
 fn remove(hot: &mut [u64], n: usize, key: u64)
-    requires { ⌜ Set.Held n (now hot) ⌝ }
+    requires { ⌜ Held n (now hot) ⌝ }
     ensures { λ _. ⌜
         now (hot .exit) ≡ table (map Set.words (Set.remove key (Set.entries n (now (hot .entry)))))
         (now (hot .entry))
@@ -354,7 +355,7 @@ fn remove(hot: &mut [u64], n: usize, key: u64)
 
 // The entry with the least demand, the smaller key where two have it.
 fn weakest(hot: &[u64], n: usize) -> HotEntry
-    requires { ⌜ Set.Held n (now hot) ⌝ }
+    requires { ⌜ Held n (now hot) ⌝ }
     requires { ⌜ 0 < n ⌝ }
     ensures { λ r. ⌜ some r ≡ Set.weakest (Set.entries n (now (hot .entry))) ⌝ }
 {

@@ -11,7 +11,7 @@ ghost use Rattle.records.specs.Records.{records};
 ghost use Rattle.demand.specs.PeerRecords.{snapshotOf, snapshotKeyOf, contestedOf};
 ghost use Rattle.demand.specs.PeerReaders.{heardTaken, heardContested, snapshotKeyAt, contestedAt, addHeard};
 ghost use Rattle.demand.specs.PeerReaders as readers;
-ghost use Rattle.demand.specs.PeerHeard.{saidOf, heardOf, isListed, KeyTable};
+ghost use Rattle.demand.specs.Steps.PeerHeard.{saidOf, heardOf, isListed, KeyTable};
 
 // What a peer said, if anything.
 pub(crate) enum Said {

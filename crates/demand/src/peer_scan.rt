@@ -7,9 +7,9 @@ ghost use Prim.Native.Nat.{suc, _+_, _-_, _*_, _≤_};
 ghost use lib.ListN.{length, getD, drop};
 ghost use Rattle.records.specs.Records.{records};
 ghost use Rattle.demand.specs.PeerLists.{all};
-ghost use Rattle.demand.specs.PeerScan.{isTime, isSnapshot, isPastEpoch, isPast, isPeer, arePeerWords};
-ghost use Rattle.demand.specs.PeerScan.{areKeyWords, isKeyOf, runLength, isRun, areRuns};
-ghost use Rattle.demand.specs.PeerScan.{arePeers, areKeys, PeersReady, KeysReady};
+ghost use Rattle.demand.specs.Steps.PeerScan.{isTime, isSnapshot, isPastEpoch, isPast, isPeer, arePeerWords};
+ghost use Rattle.demand.specs.Steps.PeerScan.{areKeyWords, isKeyOf, runLength, isRun, areRuns};
+ghost use Rattle.demand.specs.Steps.PeerScan.{arePeers, areKeys, PeersReady, KeysReady};
 
 // Whether a flag and a time are the words of a time that may be missing.
 fn is_time(flag: u64, time: u64) -> bool

@@ -15,8 +15,8 @@ ghost use Rattle.demand.specs.PeerLists.{only, those, replaced};
 ghost use Rattle.demand.specs.PeerRecords.{peerWords, peerOf, snapshotKeyOf, contestedOf, flagOf, timeOf, snapshotOf};
 ghost use Rattle.demand.specs.PeerState.{hasSnapshot, isTaken, exact, Holds};
 ghost use Rattle.demand.specs.PeerChanges.{isFresh, later, hold, agePeer};
-ghost use Rattle.demand.specs.PeerScan.{firstWord};
-ghost use Rattle.demand.specs.PeerSteps.{inOrder, staysContested, isStale, staysPeer};
+ghost use Rattle.demand.specs.Steps.PeerScan.{firstWord};
+ghost use Rattle.demand.specs.Steps.PeerSteps.{inOrder, staysContested, isStale, staysPeer};
 
 // Copies record `from` over record `to`, which is not after it.
 fn move_record(t: &mut [u64], w: usize, from: usize, to: usize)

@@ -2,7 +2,7 @@
 use mathlib.Core.Path.{sym, ap, _∙_}
 use mathlib.Core.Option.{some}
 use Rattle.demand.specs.PeerReaders as readers
-use Rattle.demand.specs.PeerHeard.{saidOf}
+use Rattle.demand.specs.Steps.PeerHeard.{saidOf}
 use borrow.Author.Needs.{needs}
 use Rattle.demand.proofs.peer_heard.join.Statement.{statement}
 use Rattle.demand.proofs.peer_heard.join.Tie as tie

@@ -8,7 +8,7 @@ use borrow.Author.Tests.{not-true, not-false}
 use Rattle.records.specs.Records.{records}
 use Rattle.records.proofs.RecordLaws.{row, record-at}
 use Rattle.demand.specs.PeerLists.{all}
-use Rattle.demand.specs.PeerScan.{arePeerWords}
+use Rattle.demand.specs.Steps.PeerScan.{arePeerWords}
 use Rattle.demand.proofs.PeerRowLaws.{scan-fails, scan-goes, scan-ends}
 use borrow.Author.Needs.{needs}
 use Rattle.demand.proofs.peer_scan.are_all_peer_words.Statement.{statement}

@@ -8,7 +8,7 @@ use borrow.Author.Tests.{le-leb, lt-leb}
 use Rattle.records.specs.Records.{records}
 use Rattle.records.proofs.RecordLaws.{length-records}
 use Rattle.records.proofs.TableLaws.{wide-records}
-use Rattle.demand.specs.PeerScan.{areKeys, KeysReady}
+use Rattle.demand.specs.Steps.PeerScan.{areKeys, KeysReady}
 use Rattle.demand.proofs.PeerScanLaws.{stop, goes}
 use Rattle.demand.proofs.PeerScanRunLaws.{runs-are-valid}
 use Rattle.demand.proofs.PeerValidLaws.{keys-ready}

@@ -9,7 +9,7 @@ use borrow.Author.Tests.{le-leb, lt-leb, not-true, not-false}
 use Rattle.records.specs.Records.{records, keyed, ascending}
 use Rattle.records.proofs.TestLaws.{and-skip}
 use Rattle.records.proofs.RecordLaws.{length-records}
-use Rattle.demand.specs.PeerScan.{arePeers}
+use Rattle.demand.specs.Steps.PeerScan.{arePeers}
 use Rattle.demand.proofs.PeerScanLaws.{stop, goes}
 use Rattle.demand.proofs.PeerRowLaws.{keyed-fit}
 use borrow.Author.Needs.{needs}

@@ -2,7 +2,7 @@
 use mathlib.Core.Path.{_≡_, sym, _∙_}
 use mathlib.Core.Bool.{true, false}
 use borrow.Author.Tests.{le-leb, lt-leb, not-true, not-false}
-use Rattle.demand.specs.PeerScan.{isPastEpoch, isPast}
+use Rattle.demand.specs.Steps.PeerScan.{isPastEpoch, isPast}
 use Rattle.demand.proofs.PeerScanLaws.{stop, goes}
 use borrow.Author.Needs.{needs}
 use Rattle.demand.proofs.peer_scan.is_past.Statement.{statement}

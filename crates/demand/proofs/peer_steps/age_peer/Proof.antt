@@ -9,7 +9,7 @@ use Rattle.records.specs.Records.{records, overwriteAt, overwritten}
 use Rattle.demand.specs.PeerRecords.{timeOf, snapshotOf, peerOf, peerWords}
 use Rattle.demand.specs.PeerState.{Holds}
 use Rattle.demand.specs.PeerChanges.{agePeer}
-use Rattle.demand.specs.PeerSteps.{isStale}
+use Rattle.demand.specs.Steps.PeerSteps.{isStale}
 use Rattle.demand.proofs.PeerRowLaws.{word-at, first-at}
 use Rattle.demand.proofs.PeerKeepLaws.{holds-overwritten, holds-same}
 use Rattle.demand.proofs.PeerStayLaws.{stale-same, aged-not, aged-bare}

@@ -5,7 +5,7 @@ use mathlib.Core.Bool.{true, false, not}
 use native.Mathlib.Omega.{arith}
 use Rattle.demand.specs.PeerRecords.{timeOf, snapshotOf}
 use Rattle.demand.specs.PeerChanges.{isFresh}
-use Rattle.demand.specs.PeerSteps.{isStale}
+use Rattle.demand.specs.Steps.PeerSteps.{isStale}
 use borrow.Author.Needs.{needs}
 use Rattle.demand.proofs.peer_steps.is_stale.Statement.{statement}
 use Rattle.demand.proofs.peer_steps.is_stale.Tie as tie

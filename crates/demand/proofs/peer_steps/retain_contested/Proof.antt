@@ -7,7 +7,7 @@ use native.Mathlib.Omega.{arith}
 use lib.ListN.{length}
 use Rattle.records.specs.Records.{records}
 use Rattle.demand.specs.PeerRecords.{peerOf, contestedOf}
-use Rattle.demand.specs.PeerSteps.{staysContested}
+use Rattle.demand.specs.Steps.PeerSteps.{staysContested}
 use Rattle.demand.proofs.PeerKeepLaws.{Kept, kept-none, kept-first, kept-word, kept-inside, kept-next, kept-all}
 use Rattle.demand.proofs.peer_steps.retain_contested.Statement.{statement}
 use Rattle.demand.proofs.peer_steps.retain_contested.Tie as tie

@@ -8,7 +8,7 @@ use lib.ListN.{length, getD}
 use Rattle.records.specs.Records.{records}
 use Rattle.demand.specs.PeerRecords.{peerOf, contestedOf, timeOf, flagOf}
 use Rattle.demand.specs.PeerState.{isTaken}
-use Rattle.demand.specs.PeerSteps.{staysPeer}
+use Rattle.demand.specs.Steps.PeerSteps.{staysPeer}
 use Rattle.demand.specs.PeerRecords.{ContestedKey}
 use Rattle.demand.proofs.PeerStayLaws.{taken-flag}
 use Rattle.demand.proofs.PeerKeepLaws.{Kept, kept-none, kept-first, kept-word, kept-inside, kept-next, kept-all}

@@ -9,7 +9,7 @@ use Rattle.records.specs.Records.{records}
 use Rattle.demand.specs.PeerLists.{only}
 use Rattle.demand.specs.PeerState.{tables}
 use Rattle.demand.specs.PeerRecords.{snapshotKeyOf}
-use Rattle.demand.specs.PeerHeard.{isListed}
+use Rattle.demand.specs.Steps.PeerHeard.{isListed}
 use Rattle.demand.proofs.PeerReaderLaws.{alone, at-most-one, len-starts, len-goes, len-ends}
 use Rattle.demand.proofs.peer_demand.PeerDemand.count_keys.Statement.{statement}
 use Rattle.demand.proofs.peer_demand.PeerDemand.count_keys.Tie as tie

@@ -3,7 +3,7 @@ use borrow.Author.Needs.{needs}
 use Rattle.demand.specs.PeerState.{PeerTables, tables}
 use Rattle.demand.specs.PeerChanges as changes
 use Rattle.demand.specs.PeerCalls.{peersQuestions}
-use Rattle.demand.specs.PeerSteps.{Valid}
+use Rattle.demand.specs.Steps.PeerSteps.{Valid}
 use Rattle.demand.proofs.PeerCallLaws.{changes-not, changes-done, asked-all, peers-numbered}
 use Rattle.demand.proofs.peer_demand.PeerDemand.expire.Statement.{statement}
 use Rattle.demand.proofs.peer_demand.PeerDemand.expire.Tie as tie

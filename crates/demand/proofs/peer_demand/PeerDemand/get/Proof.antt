@@ -2,7 +2,7 @@
 use mathlib.Core.Path.{sym, ap, _∙_}
 use Rattle.gcra.proofs.Answers.{answer-no}
 use Rattle.demand.specs.PeerState.{tables}
-use Rattle.demand.specs.PeerHeard.{saidOf, StateReady}
+use Rattle.demand.specs.Steps.PeerHeard.{saidOf, StateReady}
 use Rattle.demand.proofs.PeerReaderLaws.{asked-ready, answer-yes}
 use borrow.Author.Needs.{needs}
 use Rattle.demand.proofs.peer_demand.PeerDemand.get.Statement.{statement}

@@ -5,7 +5,7 @@ use native.Mathlib.Omega.{arith}
 use borrow.Author.Tests.{not-true, not-false}
 use Rattle.records.specs.Records.{records}
 use Rattle.demand.specs.PeerState.{tables, isValid}
-use Rattle.demand.specs.PeerScan.{arePeers, isScanned, PeersReady}
+use Rattle.demand.specs.Steps.PeerScan.{arePeers, isScanned, PeersReady}
 use Rattle.demand.proofs.PeerScanLaws.{stop, goes}
 use Rattle.demand.proofs.PeerValidLaws.{all-words, scanned-is-valid, room-says, Roomy, peers-ready}
 use Rattle.demand.proofs.peer_demand.PeerDemand.is_valid.Statement.{statement}

@@ -5,14 +5,14 @@ use Rattle.records.specs.Records.{records}
 use Rattle.demand.specs.PeerLists.{those, replaced}
 use Rattle.demand.specs.PeerRecords.{peerOf, peerWords}
 use Rattle.demand.specs.PeerState.{Holds}
-use Rattle.demand.specs.PeerScan.{firstWord}
+use Rattle.demand.specs.Steps.PeerScan.{firstWord}
 use Rattle.demand.proofs.PeerStoreLaws.{Tables, tables-of, held-peer-stores, leaves-held, leaves-now}
 use mathlib.Core.Path.{sym, subst}
 use borrow.Author.Needs.{needs}
 use Rattle.demand.specs.PeerState.{PeerTables, PeersState, tables, stateOf, Stores}
 use Rattle.demand.specs.PeerChanges as changes
 use Rattle.demand.specs.PeerCalls.{peersQuestions}
-use Rattle.demand.specs.PeerSteps.{Valid}
+use Rattle.demand.specs.Steps.PeerSteps.{Valid}
 use Rattle.demand.proofs.PeerCallLaws.{changes-not, changes-done, asked-all, peers-numbered}
 use Rattle.demand.proofs.peer_demand.PeerDemand.leave.Statement.{statement}
 use Rattle.demand.proofs.peer_demand.PeerDemand.leave.Tie as tie

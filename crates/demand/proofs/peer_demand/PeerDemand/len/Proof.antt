@@ -2,7 +2,7 @@
 use mathlib.Core.Path.{_∙_}
 use Rattle.gcra.proofs.Answers.{answer-no}
 use Rattle.demand.specs.PeerState.{tables}
-use Rattle.demand.specs.PeerHeard.{StateReady}
+use Rattle.demand.specs.Steps.PeerHeard.{StateReady}
 use Rattle.demand.proofs.PeerLenLaws.{asked-counted}
 use Rattle.demand.proofs.PeerReaderLaws.{asked-ready, answer-yes}
 use borrow.Author.Needs.{needs}

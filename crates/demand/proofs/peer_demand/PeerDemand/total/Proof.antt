@@ -1,7 +1,7 @@
 -- `total` meets its contract.
 use Rattle.gcra.proofs.Answers.{answer-no}
 use Rattle.demand.specs.PeerState.{tables}
-use Rattle.demand.specs.PeerHeard.{StateReady}
+use Rattle.demand.specs.Steps.PeerHeard.{StateReady}
 use Rattle.demand.proofs.PeerReaderLaws.{asked-ready, answer-yes}
 use borrow.Author.Needs.{needs}
 use Rattle.demand.proofs.peer_demand.PeerDemand.total.Statement.{statement}

@@ -15,7 +15,7 @@ use Rattle.demand.specs.declared.peer_heard.Said.the-variants as said
 use Rattle.demand.specs.PeerLists.{only, all, any}
 use Rattle.demand.specs.PeerRecords.{SnapshotKey, ContestedKey, flagOf}
 use Rattle.demand.specs.PeerState.{PeersState, PeerTables}
-use Rattle.demand.specs.PeerScan.{arePeerWords, areKeyWords, PeersReady, KeysReady}
+use Rattle.demand.specs.Steps.PeerScan.{arePeerWords, areKeyWords, PeersReady, KeysReady}
 
 -- what was heard, if anything
 abbrev pub saidOf : Said → Option Heard
