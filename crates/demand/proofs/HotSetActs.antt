@@ -13,8 +13,8 @@ use lib.ListN.{length}
 use Rattle.records.specs.Records.{table}
 use Rattle.gcra.specs.Questions.{passes}
 use Rattle.demand.specs.HotSet.{words, entries, get, put, remove, weakest, Outcome, hotWith, coldWith, newEntry, renewed, evict, admit, promoteFrom, promote, cooled, coolFrom, cool, settle, belowThreshold, updateWith}
-use Rattle.demand.specs.Steps.HotSetSteps.{Held}
-use Rattle.demand.specs.HotSetCalls.{askSet, held, counted, Acted}
+use Rattle.demand.specs.Steps.HotSetSteps.{Held, Acted}
+use Rattle.demand.specs.HotSetCalls.{askSet, held, counted}
 use Rattle.demand.specs.declared.hot_set.HotEntry.{HotEntry}
 use Rattle.demand.specs.declared.hot_set.HotSet.{HotSet}
 use Rattle.demand.specs.declared.hot_set.Updated.{Updated}

@@ -16,8 +16,8 @@ use Rattle.records.proofs.RecordLaws.{fits-intro}
 use Rattle.gcra.specs.Questions.{Question, _asks_, given, answer, passes}
 use Rattle.gcra.proofs.Answers.{Numbered, answer-passed}
 use Rattle.demand.specs.HotSet.{validEntries, validSize, valid}
-use Rattle.demand.specs.Steps.HotSetSteps.{Held}
-use Rattle.demand.specs.HotSetCalls.{room, askSet, askUpdate, slot}
+use Rattle.demand.specs.Steps.HotSetSteps.{Held, slot}
+use Rattle.demand.specs.HotSetCalls.{room, askSet, askUpdate}
 use Rattle.demand.specs.declared.hot_set.HotEntry.{HotEntry}
 use Rattle.demand.specs.declared.hot_set.Slot.{Slot}
 use Rattle.demand.specs.declared.hot_set.HotSet.{HotSet}

@@ -10,12 +10,10 @@ use lib.ListN.{length}
 use Rattle.float.specs.Magnitude.{magnitude}
 use Rattle.records.specs.Records.{records, table, fits}
 use Rattle.gcra.specs.Questions.{Question, _asks_, Answer, refused, given, answer, changed}
-use Rattle.demand.specs.HotSet.{words, entries, validEntries, validSize, valid, get, weakest, Outcome, evict, promote, belowThreshold, updateWith, isHot, sinceOf, primaryOf}
+use Rattle.demand.specs.HotSet.{words, entries, validEntries, validSize, valid, get, Outcome, updateWith, isHot, sinceOf, primaryOf}
 use Rattle.demand.specs.declared.hot_set.HotSet.{HotSet}
 use Rattle.demand.specs.declared.hot_set.HotEntry.{HotEntry}
 use Rattle.demand.specs.declared.hot_set.Updated.{Updated}
-use Rattle.demand.specs.declared.hot_set.Slot.{Slot}
-use Rattle.demand.specs.declared.hot_set.Slot.the-variants.{Free, Entry}
 use Rattle.demand.specs.declared.hot_set.NewAnswer.{NewAnswer}
 use Rattle.demand.specs.declared.hot_set.NewAnswer.the-variants as new-answer
 use Rattle.demand.specs.declared.hot_set.UpdateAnswer.{UpdateAnswer}
@@ -81,11 +79,6 @@ abbrev pub MadeNew : (xs : List ℕ) (cooldown size : ℕ) → NewAnswer → Typ
 MadeNew xs cooldown size r =
     newAnswer r ≡ answer (askNew size xs) (record { cooldown = cooldown; «max_size» = size; len = 0 })
 
--- the entry of a key, or none
-abbrev pub slot : Slot → Option HotEntry
-slot Free = none
-slot (Entry e) = some e
-
 -- an answer with the number of entries afterwards
 abbrev pub counted : HotSet → Bool → ℕ → Updated
 counted s b n = record { «is_hot» = b; set = record { cooldown = s .cooldown; «max_size» = s .«max_size»; len = n } }
@@ -97,26 +90,6 @@ updated s o = counted s (o .hot) (length (o .left))
 -- the words after it: those of the new entries, then those from there on as they were
 abbrev pub rewritten : Outcome → List ℕ → List ℕ
 rewritten o xs = table (map words (o .left)) xs
-
--- a call that passed its questions
-pub record Acted (s : HotSet) (o : Outcome) (xs : List ℕ) (r : Updated) (ys : List ℕ) : Type 0 where
-  pub says : r ≡ updated s o
-  pub left : ys ≡ rewritten o xs
-
-abbrev pub Evicts : (margin : Float) → HotSet → HotEntry → (xs : List ℕ) → Updated → List ℕ → Type 0
-Evicts margin s e xs r ys = Acted s (evict margin e (held s xs) (weakest (held s xs))) xs r ys
-
-abbrev pub Promotes : (margin : Float) → HotSet → (key : ℕ) (demand : Float) (primary : Bool) (now : ℕ) (xs : List ℕ) → Updated → List ℕ → Type 0
-Promotes margin s key demand primary now xs r ys =
-    Acted s (promote margin (s .«max_size») key demand primary now (held s xs)) xs r ys
-
-abbrev pub Cools : (margin : Float) → HotSet → (key : ℕ) (demand : Float) (now : ℕ) (elsewhere : Bool) (xs : List ℕ) → Updated → List ℕ → Type 0
-Cools margin s key demand now elsewhere xs r ys =
-    Acted s (belowThreshold margin (s .cooldown) (s .«max_size») key demand now elsewhere (held s xs)) xs r ys
-
-abbrev pub Updates : (margin : Float) → HotSet → (key : ℕ) (demand threshold : Float) (now : ℕ) (elsewhere : Bool) (xs : List ℕ) → Updated → List ℕ → Type 0
-Updates margin s key demand threshold now elsewhere xs r ys =
-    Acted s (updateWith margin s key demand threshold now elsewhere (held s xs)) xs r ys
 
 -- `HotSet::update_with`
 pub record UpdatedWith (s : HotSet) (xs : List ℕ) (key : ℕ) (demand threshold : Float) (now : ℕ) (elsewhere : Bool) (r : UpdateAnswer) (ys : List ℕ) : Type 0 where

@@ -11,7 +11,7 @@ ghost use lib.ListN.{length, drop};
 ghost use Rattle.records.specs.Records.{records, table, fits};
 ghost use Rattle.gcra.specs.Questions.{passes};
 ghost use Rattle.demand.specs.HotSet as Set;
-ghost use Rattle.demand.specs.Steps.HotSetSteps.{follows, Held};
+ghost use Rattle.demand.specs.Steps.HotSetSteps.{slot, follows, Held, Acted, Evicts, Promotes, Cools, Updates};
 ghost use Rattle.demand.specs.HotSetCalls as Calls;
 ghost use Rattle.gcra.specs.Questions.{firstNo};
 
@@ -306,7 +306,7 @@ pub fn are_valid(hot: &[u64], n: usize) -> bool
 // The entry of a key.
 fn get(hot: &[u64], n: usize, key: u64) -> Slot
     requires { ⌜ Held n (now hot) ⌝ }
-    ensures { λ r. ⌜ Calls.slot r ≡ Set.get key (Set.entries n (now (hot .entry))) ⌝ }
+    ensures { λ r. ⌜ slot r ≡ Set.get key (Set.entries n (now (hot .entry))) ⌝ }
 {
     match records::find(hot, WORDS, 1, n, key, 0) {
         records::Found::At(i) => Slot::Entry(HotEntry::of_words(hot, i * WORDS)),
@@ -432,7 +432,7 @@ impl HotSet {
         requires { ⌜ passes (Calls.askSet self (now hot)) ≡ true ⌝ }
         requires { ⌜ self .len ≡ self .«max_size» ⌝ }
         requires { ⌜ Set.get (entry .key) (Calls.held self (now hot)) ≡ none ⌝ }
-        ensures { λ r. ⌜ Calls.Evicts margin self entry (now (hot .entry)) r (now (hot .exit)) ⌝ }
+        ensures { λ r. ⌜ Evicts margin self entry (now (hot .entry)) r (now (hot .exit)) ⌝ }
     {
         let n = self.len;
         let least = weakest(hot, n);
@@ -455,7 +455,7 @@ impl HotSet {
         margin: f64,
     ) -> Updated
         requires { ⌜ passes (Calls.askSet self (hot .now)) ≡ true ⌝ }
-        ensures { λ r. ⌜ Calls.Promotes margin self key «demand_rate» primary now (hot .entry .now) r (hot .exit .now) ⌝ }
+        ensures { λ r. ⌜ Promotes margin self key «demand_rate» primary now (hot .entry .now) r (hot .exit .now) ⌝ }
     {
         let n = self.len;
         match get(hot, n, key) {
@@ -486,7 +486,7 @@ impl HotSet {
         margin: f64,
     ) -> Updated
         requires { ⌜ passes (Calls.askSet self (hot .now)) ≡ true ⌝ }
-        ensures { λ r. ⌜ Calls.Cools margin self key «demand_rate» now «hot_elsewhere» (hot .entry .now) r (hot .exit .now) ⌝ }
+        ensures { λ r. ⌜ Cools margin self key «demand_rate» now «hot_elsewhere» (hot .entry .now) r (hot .exit .now) ⌝ }
     {
         let n = self.len;
         match get(hot, n, key) {
@@ -521,7 +521,7 @@ impl HotSet {
     ) -> Updated
         requires { ⌜ passes (Calls.askSet self (hot .now)) ≡ true ⌝ }
         ensures { λ r. ⌜
-            Calls.Updates margin self key «demand_rate» threshold now «hot_elsewhere» (hot .entry .now) r
+            Updates margin self key «demand_rate» threshold now «hot_elsewhere» (hot .entry .now) r
             (hot .exit .now)
             ⌝ }
     {

@@ -14,7 +14,8 @@ use Rattle.text.specs.declared.lines.Kind.the-variants as kind
 use Rattle.text.specs.declared.lines.Line.{Line}
 use Rattle.text.specs.declared.lines.Lines.{Lines}
 use Rattle.text.specs.declared.lines.Window.{Window}
-use Rattle.text.specs.Input.{indexOf, feed, hasNoFeed, inHand, Parted, Told, Came, seen, Held, Roomy, lineOf, noLine, lastLine}
+use Rattle.text.specs.Input.{indexOf, feed, hasNoFeed, inHand, Parted, Told, Came}
+use Rattle.text.specs.Steps.{seen, Held, Roomy, lineOf, noLine, lastLine}
 
 split : {P : Type 0} (b : Bool) → (b ≡ true → P) → (b ≡ false → P) → P
 split true y n = y refl

@@ -1,3 +1,4 @@
 pub mod Numbers
 pub mod Output
 pub mod Input
+pub mod Steps

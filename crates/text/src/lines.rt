@@ -4,7 +4,8 @@ ghost use mathlib.Core.Path.{_≡_};
 ghost use Prim.Native.Nat.{_+_, _-_, _≤_};
 ghost use lib.ListN.{length, take};
 ghost use lib.Seq.{slice};
-ghost use Rattle.text.specs.Input.{indexOf, feed, inHand, Held, Roomy, lineOf, noLine, lastLine, Came};
+ghost use Rattle.text.specs.Input.{indexOf, feed, inHand, Came};
+ghost use Rattle.text.specs.Steps.{Held, Roomy, lineOf, noLine, lastLine};
 
 // Bytes from..to of the buffer are read and not yet handed out.
 pub struct Lines {

@@ -7,7 +7,8 @@ use native.Mathlib.Omega.{arith}
 use borrow.Author.Needs.{needs}
 use lib.ListN.{length}
 use lib.Seq.{length-slice}
-use Rattle.text.specs.Input.{seen, inHand, hasNoFeed}
+use Rattle.text.specs.Input.{inHand, hasNoFeed}
+use Rattle.text.specs.Steps.{seen}
 use Rattle.text.proofs.LineLaws.{strictly, Looking, looks, came, found, none-seen, roomed, more-read, ended, used-up}
 use Rattle.text.proofs.lines.next_line.Statement.{statement}
 use Rattle.text.proofs.lines.next_line.Tie as tie

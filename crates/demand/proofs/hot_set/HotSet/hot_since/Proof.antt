@@ -4,7 +4,8 @@ use borrow.Author.Needs.{needs}
 use lib.Ieee.{nan}
 use Rattle.gcra.specs.Questions.{passes}
 use Rattle.demand.specs.HotSet.{sinceOf}
-use Rattle.demand.specs.HotSetCalls.{askSet, slot}
+use Rattle.demand.specs.HotSetCalls.{askSet}
+use Rattle.demand.specs.Steps.HotSetSteps.{slot}
 use Rattle.gcra.proofs.Answers.{answer-no, passed-none}
 use Rattle.demand.proofs.HotSetAnswers.{answer-slot, numbered-set, passed-set}
 use Rattle.demand.proofs.hot_set.HotSet.hot_since.Statement.{statement}

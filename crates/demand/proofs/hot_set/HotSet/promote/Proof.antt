@@ -4,7 +4,8 @@ use Prim.Native.Nat.{_≤_}
 use native.Mathlib.Omega.{arith}
 use borrow.Author.Needs.{needs}
 use Rattle.demand.specs.declared.hot_set.HotEntry.{HotEntry}
-use Rattle.demand.specs.HotSetCalls.{held, slot}
+use Rattle.demand.specs.HotSetCalls.{held}
+use Rattle.demand.specs.Steps.HotSetSteps.{slot}
 use Rattle.demand.specs.HotSet.{get}
 use Rattle.demand.proofs.HotSetAnswers.{passed-set}
 use Rattle.demand.proofs.HotSetActs.{held-now, kept-room, more-room, promoted-there, promoted-new, promoted-full}
