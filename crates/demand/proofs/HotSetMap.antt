@@ -6,7 +6,7 @@ use mathlib.Core.Option.{none, some}
 use Prim.Native.Nat.{ℕ, zero, suc, _+_, _-_, _*_, _≤_, _<_, zero-le, suc-le-suc}
 use native.Mathlib.Nat.{le-of-suc-le-suc, not-suc-le-zero}
 use native.Mathlib.Omega.{arith}
-use borrow.Author.Tests.{ltb-true, ltb-false, eqb-true, eqb-false, lt-ltb, le-ltb, le-leb, eq-eqb, ne-eqb}
+use borrow.Author.Tests.{ltb-true, ltb-false, lt-ltb, le-ltb, le-leb, eq-eqb, ne-eqb}
 use lib.Dec.{ltb, eqb}
 use lib.ListN.{length, getD, take, drop, length-map, take-append-drop, List·getD-map}
 use lib.Seq.{length-take-le}
@@ -14,19 +14,13 @@ use Rattle.records.specs.declared.Found.the-variants.{At, Gap, Unfit}
 use Rattle.records.specs.Records.{records, flat, table, fits, keyed, before, key, leads, ascending, find, findIn, insertAt, removeAt, overwriteAt, splice, insertable, inserted, removable, removed, overwritable, overwritten}
 use Rattle.records.proofs.TestLaws.{split, both, contradiction}
 use Rattle.records.proofs.RecordLaws.{fits-intro, record-at, flat-records}
-use Rattle.records.proofs.OrderLaws.{keyAt, before-differ, before-equal, before-irrefl, keyed-is}
+use Rattle.records.proofs.OrderLaws.{keyAt, before-word, keyed-is}
 use Rattle.records.proofs.PlaceLaws as records
 use Rattle.records.proofs.SearchLaws.{find-fit}
 use Rattle.demand.specs.HotSet.{words, entry, entries, allEntries, validEntries, get, put, remove}
 use Rattle.demand.specs.Steps.HotSetSteps.{Held}
 use Rattle.demand.proofs.HotSetWords.{length-words, entry-take, length-entries, words-entries}
 use Rattle.demand.specs.declared.hot_set.HotEntry.{HotEntry}
-
--- ---- keys of one word
-pub before-one : (x y : ℕ) → before (x ∷ []) (y ∷ []) ≡ ltb x y
-before-one x y = split (eqb x y)
-    (λ p. before-equal x y [] [] (eqb-true x y p) ∙ before-irrefl [] ∙ sym (le-ltb x y (omega (arith, eqb-true x y p))))
-    (λ p. before-differ x y [] [] (eqb-false x y p))
 
 -- ---- ascending entries
 
@@ -45,7 +39,7 @@ above-down j k (e ∷ es) h a = (omega (arith, a .0), above-down j k es h (a .1)
 
 before-words : (a b : HotEntry) → before (key 1 (words a)) (key 1 (words b)) ≡ ltb (a .key) (b .key)
 unfolding words
-before-words a b = before-one (a .key) (b .key)
+before-words a b = before-word (a .key) (b .key)
 
 pub asc-of : (es : List HotEntry) → ascending 1 (map words es) ≡ true → Asc es
 unfolding ascending leads
@@ -121,8 +115,8 @@ module _ (k : ℕ) where
       let p = records.gap-place 1 (k ∷ []) (map words es) i (of-asc es a) e in
       let n = length-map es words in
       gap-place es d i (omega (arith, p .within))
-      (λ j m. ltb-true (getD es j d .key) k (sym (before-one (getD es j d .key) k) ∙ ap (λ (z : List ℕ). before z (k ∷ [])) (sym (nth-key es d j (omega (arith, p .within)))) ∙ p .below j m))
-      (λ j m l. ltb-true k (getD es j d .key) (sym (before-one k (getD es j d .key)) ∙ ap (λ (z : List ℕ). before (k ∷ []) z) (sym (nth-key es d j l)) ∙ p .above j m (omega arith)))
+      (λ j m. ltb-true (getD es j d .key) k (sym (before-word (getD es j d .key) k) ∙ ap (λ (z : List ℕ). before z (k ∷ [])) (sym (nth-key es d j (omega (arith, p .within)))) ∙ p .below j m))
+      (λ j m l. ltb-true k (getD es j d .key) (sym (before-word k (getD es j d .key)) ∙ ap (λ (z : List ℕ). before (k ∷ []) z) (sym (nth-key es d j l)) ∙ p .above j m (omega arith)))
 
   pub place-le : (es : List HotEntry) → place k es ≤ length es
   unfolding place

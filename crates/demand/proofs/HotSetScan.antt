@@ -18,13 +18,13 @@ use Rattle.float.specs.Order.{totalLess}
 use Rattle.records.specs.Records.{records, fits, before, ascending}
 use Rattle.records.proofs.TestLaws.{both, and-intro, and-first, and-second, contradiction}
 use Rattle.records.proofs.RecordLaws.{fits-le, length-records, record-at, key-at}
-use Rattle.records.proofs.OrderLaws.{keyAt, key-one, asc-intro, asc-fail}
+use Rattle.records.proofs.OrderLaws.{keyAt, key-one, before-word, asc-intro, asc-fail}
 use Rattle.demand.specs.HotSet.{entry, entries, isEntry, allEntries, validEntries, weaker, weakestOf, weakest}
 use Rattle.demand.specs.Steps.HotSetSteps.{Held, follows}
 use Rattle.demand.specs.declared.hot_set.HotEntry.{HotEntry}
 use Rattle.demand.proofs.HotSetTests.{next-follows, first-follows}
 use Rattle.demand.proofs.HotSetWords.{is-entry-take, entry-take, bits-back, length-entries}
-use Rattle.demand.proofs.HotSetMap.{before-one, above-index, Asc, asc-entries}
+use Rattle.demand.proofs.HotSetMap.{above-index, Asc, asc-entries}
 
 -- ---- tests of every record
 all-intro : (rs : List (List ℕ)) → ((i : ℕ) → i < length rs → isEntry (getD rs i []) ≡ true) → allEntries rs ≡ true
@@ -79,7 +79,7 @@ module _ (n : ℕ) (xs : List ℕ) where
     next-key i l =
         let e : i * 6 ≡ suc i * 6 - 6 = omega arith in
         (λ j. before (key-word i (omega arith) j) (key-word (suc i) l j))
-        ∙ before-one (getD xs (i * 6) 0) (getD xs (suc i * 6) 0)
+        ∙ before-word (getD xs (i * 6) 0) (getD xs (suc i * 6) 0)
         ∙ ap (λ (m : ℕ). ltb (getD xs m 0) (getD xs (suc i * 6) 0)) e
         ∙ next-follows (suc i * 6) xs (omega arith)
 

@@ -9,6 +9,7 @@ use lib.Dec.{eqb}
 use lib.ListN.{length}
 use Rattle.records.specs.Records.{key, before, ascending}
 use Rattle.records.proofs.TestLaws.{split, both}
+use Rattle.records.proofs.OrderLaws.{before-word}
 use Rattle.gcra.specs.Questions.{firstNo}
 use Rattle.demand.specs.declared.peer_demand.PeerDemand.{PeerDemand}
 use Rattle.demand.specs.PeerLists.{only, all, any, those}
@@ -17,7 +18,6 @@ use Rattle.demand.specs.PeerState.{PeersState, PeerTables, valid, areExa
 use Rattle.demand.specs.PeerReaders.{sumOver, peerLen, len}
 use Rattle.demand.specs.Steps.PeerHeard.{isListed, counted}
 use Rattle.demand.specs.PeerCalls.{peersQuestions}
-use Rattle.demand.proofs.HotSetMap.{before-one}
 use Rattle.demand.proofs.PeerRangeLaws.{only-yes, only-no, only-same, only-only, any-those}
 use Rattle.demand.proofs.PeerOrderLaws.{all-only, all-imply, asc-ahead, asc-rest}
 use Rattle.demand.proofs.PeerScanLaws.{eqb-turn}
@@ -55,7 +55,7 @@ unfolding isKnown any all peerWords
 above-unknown id [] a = refl
 above-unknown id (p ∷ ps) a =
     let b = both (before (id ∷ []) (p .id ∷ [])) _ a in
-    let l : id < p .id = ltb-true id (p .id) (sym (before-one id (p .id)) ∙ b .0) in
+    let l : id < p .id = ltb-true id (p .id) (sym (before-word id (p .id)) ∙ b .0) in
     ap (λ (c : Bool). c || isKnown ps id) (ne-eqb (p .id) id (λ e. omega arith)) ∙ above-unknown id ps (b .1)
 
 ahead-unknown : (p : PeerRecord) (ps : List PeerRecord) → ascending 1 (map peerWords (p ∷ ps)) ≡ true → isKnown ps (p .id) ≡ false

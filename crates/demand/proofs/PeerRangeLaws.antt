@@ -6,14 +6,14 @@ use Prim.Native.Nat.{ℕ, zero, suc, _+_, _≤_, _<_, zero-le, suc-le-suc}
 use mathlib.Core.Logic.{⊎-elim}
 use native.Mathlib.Nat.{le-of-suc-le-suc, not-suc-le-zero, eq-or-lt-of-le}
 use native.Mathlib.Omega.{arith}
-use borrow.Author.Tests.{ltb-true, ltb-false, lt-ltb, le-ltb, eqb-true, eqb-false, eq-eqb, ne-eqb}
+use borrow.Author.Tests.{ltb-true, ltb-false, lt-ltb, le-ltb, eq-eqb, ne-eqb}
 use lib.Dec.{ltb, eqb}
 use lib.ListN.{length, take, drop, getD}
 use lib.Seq.{slice, slice-cons, slice-empty, getD-take, take-nil, drop-nil, length-take-le}
 use Rattle.records.specs.declared.Found.the-variants.{At, Gap}
 use Rattle.records.specs.Records.{before, ascending, isBelow, lowerBound, find, splice}
 use Rattle.records.proofs.TestLaws.{contradiction, split}
-use Rattle.records.proofs.OrderLaws.{keyAt, before-equal, before-differ, before-irrefl, before-asym, asc-lt}
+use Rattle.records.proofs.OrderLaws.{keyAt, before-equal, before-irrefl, before-asym, before-word, asc-lt}
 use Rattle.records.proofs.SearchLaws.{Cut}
 use Rattle.records.proofs.PlaceLaws.{lower-bound-first, at-says, gap-place}
 use Rattle.records.proofs.TableLaws.{Wide}
@@ -160,14 +160,9 @@ wide-at w [] p i h = absurd (not-suc-le-zero h)
 wide-at w (r ∷ rs) p zero h = p .0
 wide-at w (r ∷ rs) p (suc i) h = wide-at w rs (p .1) i (le-of-suc-le-suc h)
 
-pub word-before : (x a : ℕ) → before (x ∷ []) (a ∷ []) ≡ ltb x a
-word-before x a = split (eqb x a)
-    (λ e. before-equal x a [] [] (eqb-true x a e) ∙ before-irrefl [] ∙ sym (le-ltb x a (omega (arith, eqb-true x a e))))
-    (λ e. before-differ x a [] [] (eqb-false x a e))
-
 first-before : (r : List ℕ) (a : ℕ) → 1 ≤ length r → before (take 1 r) (a ∷ []) ≡ ltb (firstWord r) a
 first-before [] a h = absurd (not-suc-le-zero h)
-first-before (x ∷ r) a h = word-before x a
+first-before (x ∷ r) a h = before-word x a
 
 -- the records whose first word is below a
 pub first-cut : (d w a : ℕ) (rs : List (List ℕ)) → 1 ≤ d → 1 ≤ w → Wide w rs → ascending d rs ≡ true → Cut (λ n. ltb (firstWord (getD rs n [])) a) (length rs) (lowerBound 1 (a ∷ []) rs)
@@ -298,7 +293,7 @@ second-shape w a rs h p f i l = front (getD rs i []) (omega (arith, wide-at w rs
     front (x ∷ y ∷ r) q e = ap (λ (n : ℕ). n ∷ y ∷ []) e
 
 pub second-order : (a x y : ℕ) → before (a ∷ x ∷ []) (a ∷ y ∷ []) ≡ ltb x y
-second-order a x y = before-equal a a (x ∷ []) (y ∷ []) refl ∙ word-before x y
+second-order a x y = before-equal a a (x ∷ []) (y ∷ []) refl ∙ before-word x y
 
 -- ---- typed records, by their words
 

@@ -14,7 +14,7 @@ use Rattle.records.specs.Records.{records}
 use Rattle.records.proofs.TestLaws.{both, and-intro}
 use Rattle.records.proofs.RecordLaws.{fits-intro, length-records}
 use Rattle.records.proofs.PlaceLaws.{find-cases}
-use Rattle.records.proofs.OrderLaws.{keyAt}
+use Rattle.records.proofs.OrderLaws.{keyAt, before-word}
 use Rattle.records.proofs.TableLaws.{wide-records}
 use Rattle.demand.specs.declared.peer_demand.DemandReport.{DemandReport}
 use Rattle.demand.specs.declared.peer_demand.Verdict.{Verdict}
@@ -24,7 +24,7 @@ use Rattle.demand.specs.PeerRecords.{Snapshot, PeerRecord, snapshotOf, t
 use Rattle.demand.specs.PeerState.{isWord, isKnown, peerWith, validSnapshot, validPast, validPeer}
 use Rattle.demand.specs.PeerChanges as changes
 use Rattle.demand.specs.Steps.PeerRuns.{word, peersIn, Replaceable, Front, Known, orNew, nextPast, verdictWith, pastAfter}
-use Rattle.demand.proofs.PeerRangeLaws.{any-map, those-at, those-gap, first-shape, word-before, firstWord, those-words}
+use Rattle.demand.proofs.PeerRangeLaws.{any-map, those-at, those-gap, first-shape, firstWord, those-words}
 use Rattle.demand.proofs.PeerOrderLaws.{length-replaced}
 
 -- ---- a peer among the known ones
@@ -41,8 +41,8 @@ module _ (n id : ℕ) (xs : List ℕ) (k : Known n xs) where
 
   pub one-peer : length (those (word 0) id (records 12 n xs)) ≤ 1
   one-peer = find-cases 1 (id ∷ []) (records 12 n xs)
-      (λ i e. few (those (word 0) id (records 12 n xs)) _ (those-at 1 firstWord (λ (x : ℕ). x ∷ []) (records 12 n xs) (k .ascends) shape word-before id i e))
-      (λ i e. none-of (those (word 0) id (records 12 n xs)) (those-gap 1 firstWord (λ (x : ℕ). x ∷ []) (records 12 n xs) (k .ascends) shape word-before id i e))
+      (λ i e. few (those (word 0) id (records 12 n xs)) _ (those-at 1 firstWord (λ (x : ℕ). x ∷ []) (records 12 n xs) (k .ascends) shape before-word id i e))
+      (λ i e. none-of (those (word 0) id (records 12 n xs)) (those-gap 1 firstWord (λ (x : ℕ). x ∷ []) (records 12 n xs) (k .ascends) shape before-word id i e))
     where
       shape : (i : ℕ) → i < length (records 12 n xs) → keyAt 1 (records 12 n xs) i ≡ firstWord (getD (records 12 n xs) i []) ∷ []
       shape = first-shape 12 (records 12 n xs) (omega arith) (wide-records 12 n xs (k .fit))

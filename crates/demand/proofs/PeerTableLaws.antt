@@ -12,7 +12,7 @@ use Rattle.records.specs.declared.Found.the-variants.{At, Gap, Unfit}
 use Rattle.records.specs.Records.{records, flat, table, keyed, ascending, find, findIn, splice}
 use Rattle.records.proofs.TestLaws.{both, and-intro}
 use Rattle.records.proofs.RecordLaws.{fits-pos, fits-le, fits-intro, row, length-records}
-use Rattle.records.proofs.OrderLaws.{Keyed, keyed-says, keyed-is}
+use Rattle.records.proofs.OrderLaws.{Keyed, keyed-says, keyed-is, before-word}
 use Rattle.records.proofs.PlaceLaws.{at-says}
 use Rattle.records.proofs.TableLaws.{Wide, wide-records, wide-splice, length-flat, records-table, drop-table, length-table}
 use Rattle.demand.specs.PeerLists.{any, those, replaced}
@@ -22,7 +22,7 @@ use Rattle.demand.specs.Steps.PeerSteps.{inOrder}
 use Rattle.demand.specs.Steps.PeerRuns.{replacedRun, Replaceable, Tabled}
 use Rattle.demand.proofs.PeerOrderLaws.{length-replaced}
 use Rattle.demand.proofs.PeerRowLaws.{find-says, never-unfit}
-use Rattle.demand.proofs.PeerRangeLaws.{replaced-splice, those-at, those-gap, replaced-at, replaced-gap, first-shape, word-before, any-map, any-same, any-those}
+use Rattle.demand.proofs.PeerRangeLaws.{replaced-splice, those-at, those-gap, replaced-at, replaced-gap, first-shape, any-map, any-same, any-those}
 
 -- ---- records in order
 
@@ -119,19 +119,19 @@ module _ (w n a : ℕ) (xs : List ℕ) (o : InOrder w 1 n xs) where
       (h, omega (arith, row w n i h, o .words))
 
   pub found-one : (i : ℕ) → At i ≡ findIn w 1 n a 0 xs → those firstWord a (records w n xs) ≡ getD (records w n xs) i [] ∷ []
-  found-one i e = those-at 1 firstWord (λ x. x ∷ []) (records w n xs) (o .order) (first-shape w (records w n xs) (o .width) (o .wide)) word-before a i (sym (e ∙ found-is))
+  found-one i e = those-at 1 firstWord (λ x. x ∷ []) (records w n xs) (o .order) (first-shape w (records w n xs) (o .width) (o .wide)) before-word a i (sym (e ∙ found-is))
 
   pub found-none : (i : ℕ) → Gap i ≡ findIn w 1 n a 0 xs → those firstWord a (records w n xs) ≡ []
-  found-none i e = those-gap 1 firstWord (λ x. x ∷ []) (records w n xs) (o .order) (first-shape w (records w n xs) (o .width) (o .wide)) word-before a i (sym (e ∙ found-is))
+  found-none i e = those-gap 1 firstWord (λ x. x ∷ []) (records w n xs) (o .order) (first-shape w (records w n xs) (o .width) (o .wide)) before-word a i (sym (e ∙ found-is))
 
   -- the record replaced, and the gap left
   pub found-at-splice : (i : ℕ) → At i ≡ findIn w 1 n a 0 xs → (new : List (List ℕ)) → replaced firstWord a new (records w n xs) ≡ splice i (suc i) new (records w n xs)
-  found-at-splice i e new = replaced-at 1 firstWord (λ x. x ∷ []) (records w n xs) (o .order) (first-shape w (records w n xs) (o .width) (o .wide)) word-before a i (sym (e ∙ found-is)) new
+  found-at-splice i e new = replaced-at 1 firstWord (λ x. x ∷ []) (records w n xs) (o .order) (first-shape w (records w n xs) (o .width) (o .wide)) before-word a i (sym (e ∙ found-is)) new
 
   pub found-gap-splice : (i : ℕ) → Gap i ≡ findIn w 1 n a 0 xs → replaced firstWord a [] (records w n xs) ≡ records w n xs
   unfolding splice
   found-gap-splice i e =
-      replaced-gap 1 firstWord (λ x. x ∷ []) (records w n xs) (o .order) (first-shape w (records w n xs) (o .width) (o .wide)) word-before a i (sym (e ∙ found-is)) []
+      replaced-gap 1 firstWord (λ x. x ∷ []) (records w n xs) (o .order) (first-shape w (records w n xs) (o .width) (o .wide)) before-word a i (sym (e ∙ found-is)) []
       ∙ take-append-drop i (records w n xs)
 
   pub found-fit : {P : Type 0} → Unfit ≡ findIn w 1 n a 0 xs → P

@@ -84,10 +84,6 @@ before-total (x ∷ xs) (y ∷ ys) p q =
 pub before-asym : (a b : List ℕ) → before a b ≡ true → before b a ≡ false
 before-asym a b p = split (before b a) (λ q. contradiction (sym (before-trans a b a p q) ∙ before-irrefl a)) (λ q. q)
 
--- before b, and b not above c: before c
-pub before-up : (a b c : List ℕ) → before a b ≡ true → before c b ≡ false → before a c ≡ true
-before-up a b c p q = split (before b c) (λ r. before-trans a b c p r) (λ r. subst (λ (z : List ℕ). before a z ≡ true) (before-total b c r q) p)
-
 -- a not above b, and b before c: before c
 pub before-down : (a b c : List ℕ) → before b a ≡ false → before b c ≡ true → before a c ≡ true
 before-down a b c p q = split (before a b) (λ r. before-trans a b c r q) (λ r. subst (λ (z : List ℕ). before z c ≡ true) (before-total b a p r) q)
@@ -151,71 +147,47 @@ module _ (len w d n : ℕ) where
   keyed-is h k l = rw (le-leb 1 d (omega arith), le-leb d 2 k, le-leb d w l)
 
 -- the words of the key of the record at index `at`
-pub key-first : (d : ℕ) (t : List ℕ) (at : ℕ) → at < length t → take (suc d) (drop at t) ≡ getD t at 0 ∷ take d (drop (suc at) t)
+key-first : (d : ℕ) (t : List ℕ) (at : ℕ) → at < length t → take (suc d) (drop at t) ≡ getD t at 0 ∷ take d (drop (suc at) t)
 key-first d t at h = ap (take (suc d)) (drop-cons t at 0 h)
 
 pub key-one : (t : List ℕ) (at : ℕ) → at + 1 ≤ length t → take 1 (drop at t) ≡ getD t at 0 ∷ []
 key-one t at h = key-first 0 t at (omega arith)
 
-pub key-two : (t : List ℕ) (at : ℕ) → at + 2 ≤ length t → take 2 (drop at t) ≡ getD t at 0 ∷ getD t (at + 1) 0 ∷ []
-key-two t at h =
-    key-first 1 t at (omega arith)
-    ∙ ap (λ (l : List ℕ). getD t at 0 ∷ l) (key-first 0 t (suc at) (omega arith) ∙ ap (λ (k : ℕ). getD t k 0 ∷ []) (sym (add-one at)))
+pub before-word : (x y : ℕ) → before (x ∷ []) (y ∷ []) ≡ ltb x y
+before-word x y = split (eqb x y)
+    (λ p. before-equal x y [] [] (eqb-true x y p) ∙ before-irrefl [] ∙ sym (le-ltb x y (omega (arith, eqb-true x y p))))
+    (λ p. before-differ x y [] [] (eqb-false x y p))
 
-module _ (t : List ℕ) (at d a b : ℕ) (h : 1 ≤ d) (k : d ≤ 2) (l : at + d ≤ length t) where
-  one : d ≡ 1 → key d (drop at t) ≡ getD t at 0 ∷ []
-  one e = ap (λ (m : ℕ). take m (drop at t)) e ∙ key-one t at (omega arith)
+-- the key at index i of xs beside that at index j of ys, word by word
+module _ (xs : List ℕ) (i : ℕ) (ys : List ℕ) (j d : ℕ) (h : (1 ≤ d) × (d ≤ 2) × (i + d ≤ length xs) × (j + d ≤ length ys)) where
+  by-word : before (key d (drop i xs)) (key d (drop j ys)) ≡ before (getD xs i 0 ∷ key (d - 1) (drop (suc i) xs)) (getD ys j 0 ∷ key (d - 1) (drop (suc j) ys))
+  by-word =
+      let e : d ≡ suc (d - 1) = omega arith in
+      ap (λ (m : ℕ). before (key m (drop i xs)) (key m (drop j ys))) e
+      ∙ (λ m. before (key-first (d - 1) xs i (omega arith) m) (key-first (d - 1) ys j (omega arith) m))
 
-  two : (d ≡ 1 → ⊥) → d ≡ 2
-  two e = omega arith
+  pub keys-less : getD xs i 0 < getD ys j 0 → before (key d (drop i xs)) (key d (drop j ys)) ≡ true
+  keys-less e = by-word ∙ before-less (getD xs i 0) (getD ys j 0) _ _ e
 
-  pub second-one : (z : ℕ) → d ≡ 1 → key d (getD t at 0 ∷ z ∷ []) ≡ key d (drop at t)
-  second-one z e = ap (λ (m : ℕ). take m (getD t at 0 ∷ z ∷ [])) e ∙ sym (one e)
+  pub keys-more : getD ys j 0 ≤ getD xs i 0 → (getD xs i 0 ≡ getD ys j 0 → ⊥) → before (key d (drop i xs)) (key d (drop j ys)) ≡ false
+  keys-more e q = by-word ∙ before-more (getD xs i 0) (getD ys j 0) _ _ (omega arith)
 
-  both-words : (d ≡ 1 → ⊥) → key d (drop at t) ≡ getD t at 0 ∷ getD t (at + 1) 0 ∷ []
-  both-words e = ap (λ (m : ℕ). take m (drop at t)) (two e) ∙ key-two t at (omega (arith, two e))
+  rest : getD xs i 0 ≡ getD ys j 0 → (m : ℕ) → d ≡ suc m → before (key d (drop i xs)) (key d (drop j ys)) ≡ before (key m (drop (suc i) xs)) (key m (drop (suc j) ys))
+  rest e m q =
+      let p : d - 1 ≡ m = omega arith in
+      by-word
+      ∙ before-equal (getD xs i 0) (getD ys j 0) _ _ e
+      ∙ ap (λ (n : ℕ). before (key n (drop (suc i) xs)) (key n (drop (suc j) ys))) p
 
-  pub second-two : (d ≡ 1 → ⊥) → key d (getD t at 0 ∷ getD t (at + 1) 0 ∷ []) ≡ key d (drop at t)
-  second-two e = ap (λ (m : ℕ). take m (getD t at 0 ∷ getD t (at + 1) 0 ∷ [])) (two e) ∙ sym (both-words e)
+  pub keys-one : getD xs i 0 ≡ getD ys j 0 → d ≡ 1 → before (key d (drop i xs)) (key d (drop j ys)) ≡ false
+  keys-one e q = rest e 0 q ∙ before-irrefl []
 
-  -- the tests, word by word
-  module _ (f : List ℕ → List ℕ → Bool) where
-    pub test-one : d ≡ 1 → f (key d (drop at t)) (key d (a ∷ b ∷ [])) ≡ f (getD t at 0 ∷ []) (a ∷ [])
-    test-one e = (λ j. f (one e j) (take (e j) (a ∷ b ∷ [])))
-
-    pub test-two : (d ≡ 1 → ⊥) → f (key d (drop at t)) (key d (a ∷ b ∷ [])) ≡ f (getD t at 0 ∷ getD t (at + 1) 0 ∷ []) (a ∷ b ∷ [])
-    test-two e = (λ j. f (both-words e j) (take (two e j) (a ∷ b ∷ [])))
-
-    pub test-first : (c : Bool) → ((xs ys : List ℕ) → f (getD t at 0 ∷ xs) (a ∷ ys) ≡ c) → f (key d (drop at t)) (key d (a ∷ b ∷ [])) ≡ c
-    test-first c q = split (eqb d 1) (λ e. test-one (eqb-true d 1 e) ∙ q [] []) (λ e. test-two (eqb-false d 1 e) ∙ q (getD t (at + 1) 0 ∷ []) (b ∷ []))
-
-  pub below-differ : (getD t at 0 ≡ a → ⊥) → before (key d (drop at t)) (key d (a ∷ b ∷ [])) ≡ ltb (getD t at 0) a
-  below-differ e = test-first before (ltb (getD t at 0) a) (λ xs ys. before-differ (getD t at 0) a xs ys e)
-
-  pub below-one : getD t at 0 ≡ a → d ≡ 1 → before (key d (drop at t)) (key d (a ∷ b ∷ [])) ≡ false
-  below-one e q = test-one before q ∙ before-equal (getD t at 0) a [] [] e ∙ before-irrefl []
-
-  pub below-two : getD t at 0 ≡ a → (d ≡ 1 → ⊥) → before (key d (drop at t)) (key d (a ∷ b ∷ [])) ≡ ltb (getD t (at + 1) 0) b
-  below-two e q = test-two before q ∙ before-equal (getD t at 0) a (getD t (at + 1) 0 ∷ []) (b ∷ []) e ∙ last-word (getD t (at + 1) 0) b
-    where
-      last-word : (x y : ℕ) → before (x ∷ []) (y ∷ []) ≡ ltb x y
-      last-word x y = split (eqb x y)
-          (λ p. before-equal x y [] [] (eqb-true x y p) ∙ before-irrefl [] ∙ sym (le-ltb x y (omega (arith, eqb-true x y p))))
-          (λ p. before-differ x y [] [] (eqb-false x y p))
-
-  pub has-differ : (getD t at 0 ≡ a → ⊥) → same (key d (drop at t)) (key d (a ∷ b ∷ [])) ≡ false
-  has-differ e = test-first same false (λ xs ys. same-differ (getD t at 0) a xs ys e)
-
-  pub has-one : getD t at 0 ≡ a → d ≡ 1 → same (key d (drop at t)) (key d (a ∷ b ∷ [])) ≡ true
-  has-one e q = test-one same q ∙ same-equal (getD t at 0) a [] [] e ∙ same-refl []
-
-  pub has-two : getD t at 0 ≡ a → (d ≡ 1 → ⊥) → same (key d (drop at t)) (key d (a ∷ b ∷ [])) ≡ eqb (getD t (at + 1) 0) b
-  has-two e q = test-two same q ∙ same-equal (getD t at 0) a (getD t (at + 1) 0 ∷ []) (b ∷ []) e ∙ last-word (getD t (at + 1) 0) b
-    where
-      last-word : (x y : ℕ) → same (x ∷ []) (y ∷ []) ≡ eqb x y
-      last-word x y = split (eqb x y)
-          (λ p. same-equal x y [] [] (eqb-true x y p) ∙ same-refl [] ∙ sym p)
-          (λ p. same-differ x y [] [] (eqb-false x y p) ∙ sym p)
+  pub keys-two : getD xs i 0 ≡ getD ys j 0 → (d ≡ 1 → ⊥) → before (key d (drop i xs)) (key d (drop j ys)) ≡ ltb (getD xs (i + 1) 0) (getD ys (j + 1) 0)
+  keys-two e q =
+      rest e 1 (omega arith)
+      ∙ (λ m. before (key-one xs (suc i) (omega arith) m) (key-one ys (suc j) (omega arith) m))
+      ∙ before-word (getD xs (suc i) 0) (getD ys (suc j) 0)
+      ∙ (λ m. ltb (getD xs (sym (add-one i) m) 0) (getD ys (sym (add-one j) m) 0))
 
 -- ---- ascending records
 abbrev pub keyAt : ℕ → List (List ℕ) → ℕ → List ℕ

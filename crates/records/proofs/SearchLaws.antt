@@ -1,6 +1,6 @@
 -- Laws of the bisection, and of searches by it.
 use mathlib.Core.Path.{_≡_, refl, sym, ap, _∙_, subst}
-use mathlib.Core.Logic.{_⊎_, ⊎-elim}
+use mathlib.Core.Logic.{⊎-elim}
 use mathlib.Core.Bool.{Bool, true, false, cond}
 use mathlib.Core.List.{List, [], _∷_}
 use Prim.Native.Nat.{ℕ, zero, suc, _+_, _-_, _*_, _/_, _≤_, _<_, zero-le}
@@ -14,7 +14,7 @@ use Rattle.records.specs.declared.Span.the-variants.{Between, NoSpan}
 use Rattle.records.specs.Records.{records, fits, key, keyed, before, same, bisect, isBelow, lowerBound, foundAt, find, findIn, rangeOf, rangeIn}
 use Rattle.records.proofs.TestLaws.{contradiction, split}
 use Rattle.records.proofs.RecordLaws.{fits-pos, fits-le, row, length-records, key-at, sub-mul}
-use Rattle.records.proofs.OrderLaws.{keyed-is, key-one, keyAt, before-less}
+use Rattle.records.proofs.OrderLaws.{keyed-is, keyed-says, key-one, keyAt, before-less, before-total, same-after, eq-same}
 
 abbrev pub middle : ℕ → ℕ → ℕ
 middle lo hi = lo + (hi - lo) / 2
@@ -43,24 +43,37 @@ module _ (p : ℕ → Bool) where
       let k : hi ≤ lo = ltb-false lo hi l in
       bisect-done (suc (suc s)) lo hi k ∙ sym (bisect-done (suc s) lo hi k))
 
-  pub bisect-up : (n lo hi : ℕ) → lo < hi → hi ≤ n → p (middle lo hi) ≡ true → bisect p n lo hi ≡ bisect p n (middle lo hi + 1) hi
-  bisect-up zero lo hi h k e = absurd (omega arith)
-  bisect-up (suc n) lo hi h k e = turn n lo hi h ∙ ap (λ (b : Bool). cond b (bisect p n (middle lo hi + 1) hi) (bisect p n lo (middle lo hi))) e ∙ sym (bisect-more n (middle lo hi + 1) hi (omega arith))
+  -- one step of n, by any middle that is the same
+  step : (n lo hi m : ℕ) → m ≡ middle lo hi → lo < hi → hi ≤ n → bisect p n lo hi ≡ cond (p m) (bisect p n (m + 1) hi) (bisect p n lo m)
+  step zero lo hi m q h k = absurd (omega arith)
+  step (suc n) lo hi m q h k =
+      turn n lo hi h
+      ∙ (λ j. cond (p (middle lo hi)) (sym (bisect-more n (middle lo hi + 1) hi (omega arith)) j) (sym (bisect-more n lo (middle lo hi) (omega arith)) j))
+      ∙ ap (λ (i : ℕ). cond (p i) (bisect p (suc n) (i + 1) hi) (bisect p (suc n) lo i)) (sym q)
 
-  pub bisect-down : (n lo hi : ℕ) → lo < hi → hi ≤ n → p (middle lo hi) ≡ false → bisect p n lo hi ≡ bisect p n lo (middle lo hi)
-  bisect-down zero lo hi h k e = absurd (omega arith)
-  bisect-down (suc n) lo hi h k e = turn n lo hi h ∙ ap (λ (b : Bool). cond b (bisect p n (middle lo hi + 1) hi) (bisect p n lo (middle lo hi))) e ∙ sym (bisect-more n lo (middle lo hi) (omega arith))
+  pub bisect-up : (n lo hi m : ℕ) → m ≡ middle lo hi → lo < hi → hi ≤ n → p m ≡ true → bisect p n lo hi ≡ bisect p n (m + 1) hi
+  bisect-up n lo hi m q h k e = step n lo hi m q h k ∙ ap (λ (b : Bool). cond b (bisect p n (m + 1) hi) (bisect p n lo m)) e
 
-  pub bisect-le : (s lo hi : ℕ) → lo ≤ hi → bisect p s lo hi ≤ hi
-  unfolding bisect
-  bisect-le zero lo hi h = h
-  bisect-le (suc s) lo hi h = split (ltb lo hi)
+  pub bisect-down : (n lo hi m : ℕ) → m ≡ middle lo hi → lo < hi → hi ≤ n → p m ≡ false → bisect p n lo hi ≡ bisect p n lo m
+  bisect-down n lo hi m q h k e = step n lo hi m q h k ∙ ap (λ (b : Bool). cond b (bisect p n (m + 1) hi) (bisect p n lo m)) e
+
+  -- it ends at hi, or below where p does not hold
+  ends-from : (Q : ℕ → Type 0) (n : ℕ) → ((i : ℕ) → i < n → p i ≡ false → Q i) → (s lo hi : ℕ) → lo ≤ hi → hi ≤ n → hi - lo ≤ s → Q hi → Q (bisect p s lo hi)
+  ends-from Q n f zero lo hi a b h e =
+      let q : hi ≡ lo = omega arith in
+      subst Q (q ∙ sym (bisect-done 0 lo hi (omega arith))) e
+  ends-from Q n f (suc s) lo hi a b h e = split (ltb lo hi)
       (λ l.
       let k : lo < hi = ltb-true lo hi l in
       split (p (middle lo hi))
-      (λ q. subst (λ (m : ℕ). m ≤ hi) (sym (turn s lo hi k ∙ ap (λ (b : Bool). cond b (bisect p s (middle lo hi + 1) hi) (bisect p s lo (middle lo hi))) q)) (bisect-le s (middle lo hi + 1) hi (omega arith)))
-      (λ q. subst (λ (m : ℕ). m ≤ hi) (sym (turn s lo hi k ∙ ap (λ (b : Bool). cond b (bisect p s (middle lo hi + 1) hi) (bisect p s lo (middle lo hi))) q)) (omega (arith, bisect-le s lo (middle lo hi) (omega arith)))))
-      (λ l. subst (λ (m : ℕ). m ≤ hi) (sym (bisect-done (suc s) lo hi (ltb-false lo hi l))) h)
+      (λ q. subst Q (sym (turn s lo hi k ∙ ap (λ (t : Bool). cond t (bisect p s (middle lo hi + 1) hi) (bisect p s lo (middle lo hi))) q)) (ends-from Q n f s (middle lo hi + 1) hi (omega arith) b (omega arith) e))
+      (λ q. subst Q (sym (turn s lo hi k ∙ ap (λ (t : Bool). cond t (bisect p s (middle lo hi + 1) hi) (bisect p s lo (middle lo hi))) q)) (ends-from Q n f s lo (middle lo hi) (omega arith) (omega arith) (omega arith) (f (middle lo hi) (omega arith) q))))
+      (λ l.
+      let q : hi ≡ lo = omega (arith, ltb-false lo hi l) in
+      subst Q (q ∙ sym (bisect-done (suc s) lo hi (omega arith))) e)
+
+  pub bisect-ends : (n : ℕ) → (bisect p n 0 n ≤ n) × (bisect p n 0 n < n → p (bisect p n 0 n) ≡ false)
+  bisect-ends n = ends-from (λ (i : ℕ). (i ≤ n) × (i < n → p i ≡ false)) n (λ i l e. (omega arith, (λ z. e))) n 0 n zero-le (omega arith) (omega arith) (omega arith, (λ z. absurd (omega arith)))
 
 -- m is where p, of the numbers below n, ends
 pub record Cut (p : ℕ → Bool) (n m : ℕ) : Type 0 where
@@ -112,9 +125,9 @@ pub bisect-falls : (p : ℕ → Bool) (n : ℕ) → ((i j : ℕ) → i < j → j
 bisect-falls p n f = falls-from p n f n 0 n zero-le (omega arith) (omega arith) (λ i h. absurd (not-suc-le-zero h)) (λ i h l. absurd (omega arith))
 
 -- ---- the first record whose key is not before k
-pub lower-bound-le : (d : ℕ) (k : List ℕ) (rs : List (List ℕ)) → lowerBound d k rs ≤ length rs
-unfolding lowerBound
-lower-bound-le d k rs = bisect-le (isBelow d k rs) (length rs) 0 (length rs) zero-le
+pub lower-bound-ends : (d : ℕ) (k : List ℕ) (rs : List (List ℕ)) → (lowerBound d k rs ≤ length rs) × (lowerBound d k rs < length rs → before (keyAt d rs (lowerBound d k rs)) k ≡ false)
+unfolding lowerBound isBelow
+lower-bound-ends d k rs = bisect-ends (isBelow d k rs) (length rs)
 
 pub lower-bound-cut : (d : ℕ) (k : List ℕ) (rs : List (List ℕ)) (m : ℕ) → Cut (isBelow d k rs) (length rs) m → lowerBound d k rs ≡ m
 unfolding lowerBound
@@ -157,9 +170,39 @@ unfolding findIn
 find-fit w d n a b xs e = rw e
 
 -- the answer by where the bisection ended
-pub find-is : (w d n a b : ℕ) (xs : List ℕ) (i : ℕ) → keyed (length xs) w d n ≡ true → i ≡ lowerBound d (key d (a ∷ b ∷ [])) (records w n xs) → findIn w d n a b xs ≡ foundAt d (key d (a ∷ b ∷ [])) (records w n xs) i
-unfolding find
-find-is w d n a b xs i e q = find-fit w d n a b xs e ∙ ap (foundAt d (key d (a ∷ b ∷ [])) (records w n xs)) (sym q)
+module _ (w d n a b : ℕ) (xs : List ℕ) (i : ℕ) (g : keyed (length xs) w d n ≡ true) (q : i ≡ lowerBound d (key d (a ∷ b ∷ [])) (records w n xs)) where
+  abbrev k : List ℕ
+  k = key d (a ∷ b ∷ [])
+
+  abbrev rs : List (List ℕ)
+  rs = records w n xs
+
+  find-is : findIn w d n a b xs ≡ foundAt d k rs i
+  unfolding find
+  find-is = find-fit w d n a b xs g ∙ ap (foundAt d k rs) (sym q)
+
+  count : length rs ≡ n
+  count = length-records w n xs
+
+  stops : (i ≤ length rs) × (i < length rs → before (keyAt d rs i) k ≡ false)
+  stops = subst (λ (m : ℕ). (m ≤ length rs) × (m < length rs → before (keyAt d rs m) k ≡ false)) (sym q) (lower-bound-ends d k rs)
+
+  pub find-end : i ≡ n → Gap i ≡ findIn w d n a b xs
+  find-end e = sym (find-is ∙ found-end d k rs i (omega (arith, count)))
+
+  pub find-within : (i ≡ n → ⊥) → i < n
+  find-within h = omega (arith, count, stops .0)
+
+  module _ (l : i < n) where
+    beside : before k (keyAt d rs i) ≡ before k (key d (drop (i * w) xs))
+    beside = ap (before k) (key-at w d n xs i (keyed-says (length xs) w d n g .in-record) l)
+
+    pub find-past : before k (key d (drop (i * w) xs)) ≡ true → Gap i ≡ findIn w d n a b xs
+    find-past e = sym (find-is ∙ found-other d k rs i (omega (arith, count)) (same-after (keyAt d rs i) k (beside ∙ e)))
+
+    -- neither key is before the other
+    pub find-here : before k (key d (drop (i * w) xs)) ≡ false → At i ≡ findIn w d n a b xs
+    find-here e = sym (find-is ∙ found-same d k rs i (omega (arith, count)) (eq-same (keyAt d rs i) k (before-total (keyAt d rs i) k (stops .1 (omega (arith, count))) (beside ∙ e))))
 
 -- ---- range
 pub keyed-one : (len w n : ℕ) → fits len w n ≡ true → keyed len w 1 n ≡ true
