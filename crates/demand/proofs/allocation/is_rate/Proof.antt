@@ -17,9 +17,6 @@ not-above : (x : Float) → lt (ofBits binary64 0) x ≡ false → false ≡ isR
 unfolding isRate
 not-above x t = rw (sym (ap (λ (z : Float). lt z x) zero-is) ∙ t)
 
-is-finite-requires : tie.Need-is-finite-requires
-is-finite-requires c κs = search needs
-
 returns : tie.Need-returns
 returns c = above _ _ (c .before .if1 .taken) (c .is-finite .ensures)
 
@@ -27,4 +24,4 @@ returns-2 : tie.Need-returns-2
 returns-2 c = not-above _ (c .if1 .left)
 
 pub is-rate-spec : {M : Type 1} → statement M
-is-rate-spec = tie.close (tie.spec is-finite-requires returns returns-2)
+is-rate-spec = tie.close (tie.spec (λ c κs. search needs) returns returns-2)

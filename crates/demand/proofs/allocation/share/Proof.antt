@@ -5,28 +5,16 @@ use borrow.Author.Needs.{needs}
 use Rattle.demand.proofs.allocation.share.Statement.{statement}
 use Rattle.demand.proofs.allocation.share.Tie as tie
 
-is-rate-requires : tie.Need-is-rate-requires
-is-rate-requires c κs = search needs
-
 returns : tie.Need-returns
 returns c = no 3 _ _ (told-no (c .before .is-rate .ensures) (c .if1 .taken))
 
-is-floor-factor-requires : tie.Need-is-floor-factor-requires
-is-floor-factor-requires c κs = search needs
-
 returns-2 : tie.Need-returns-2
 returns-2 c = yes 3 _ _ (told-yes (c .before .before .before .is-rate .ensures) (c .before .before .if1 .left)) (no 5 _ _ (told-no (c .before .is-floor-factor .ensures) (c .if2 .taken)))
-
-is-cluster-size-requires : tie.Need-is-cluster-size-requires
-is-cluster-size-requires c κs = search needs
 
 returns-3 : tie.Need-returns-3
 returns-3 c =
     yes 3 _ _ (told-yes (c .before .before .before .before .before .is-rate .ensures) (c .before .before .before .before .if1 .left))
     (yes 5 _ _ (told-yes (c .before .before .before .is-floor-factor .ensures) (c .before .before .if2 .left)) (no 7 _ _ (told-no (c .before .is-cluster-size .ensures) (c .if3 .taken))))
-
-shared-requires : tie.Need-shared-requires
-shared-requires c κs = search needs
 
 returns-4 : tie.Need-returns-4
 returns-4 c =
@@ -39,11 +27,11 @@ pub share-spec : {M : Type 1} → statement M
 share-spec =
     tie.close
     (tie.spec
-    is-rate-requires
+    (λ c κs. search needs)
     returns
-    is-floor-factor-requires
+    (λ c κs. search needs)
     returns-2
-    is-cluster-size-requires
+    (λ c κs. search needs)
     returns-3
-    shared-requires
+    (λ c κs. search needs)
     returns-4)

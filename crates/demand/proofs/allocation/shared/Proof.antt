@@ -21,9 +21,6 @@ even : (v : View) (n : Float) → n ≡ whole (v .«cluster_size») → lt (ofBi
 unfolding shared
 even v n e t = rw (sym (ap (λ (z : Float). lt z (add binary64 (v .own) (v .others))) zero-is) ∙ t) (ap (div binary64 (v .limit)) e)
 
-u64-to-f64-requires : tie.Need-u64-to-f64-requires
-u64-to-f64-requires c κs = search needs
-
 returns : tie.Need-returns
 returns c = by-demand _ _ (c .before .before .before .before .before .before .before .u64-to-f64 .ensures) (c .before .before .before .before .if1 .taken)
 
@@ -31,4 +28,4 @@ returns-2 : tie.Need-returns-2
 returns-2 c = even _ _ (c .before .before .before .u64-to-f64 .ensures) (c .if1 .left)
 
 pub shared-spec : {M : Type 1} → statement M
-shared-spec = tie.close (tie.spec u64-to-f64-requires returns returns-2)
+shared-spec = tie.close (tie.spec (λ c κs. search needs) returns returns-2)

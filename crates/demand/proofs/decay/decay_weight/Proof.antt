@@ -30,26 +30,14 @@ small r c y h e = rw e (scaled-lt r S c h (lit< tt))
 returns : tie.Need-returns
 returns c = no-constant _ _ (c .if1 .taken)
 
-div-q : tie.Need-div-q
-div-q c = search needs
-
 returns-2 : tie.Need-returns-2
 returns-2 c = late _ _ (c .before .if1 .left) (c .if2 .taken)
-
-rem-ratio : tie.Need-rem-ratio
-rem-ratio c = search needs
 
 ratio-requires : tie.Need-ratio-requires
 ratio-requires c κs = mod-lt _ (pos-of-ne-zero (c .before .if1 .left))
 
 series-requires : tie.Need-series-requires
 series-requires c κs = small _ _ _ (mod-lt _ (pos-of-ne-zero (c .before .before .if1 .left))) (c .ratio .ensures)
-
-power-requires : tie.Need-power-requires
-power-requires c κs = search needs
-
-scaled-product-requires : tie.Need-scaled-product-requires
-scaled-product-requires c κs = search needs
 
 returns-3 : tie.Need-returns-3
 returns-3 c =
@@ -59,4 +47,4 @@ returns-3 c =
     worked-out _ _ _ _ _ _ (r .before .before .if1 .left) (r .before .if2 .left) (r .ratio .ensures) (s .series .ensures .0) (p .power .ensures .0) (c .scaled-product .ensures)
 
 pub decay-weight-spec : {M : Type 1} → statement M
-decay-weight-spec = tie.close (tie.spec returns div-q returns-2 rem-ratio ratio-requires series-requires power-requires scaled-product-requires returns-3)
+decay-weight-spec = tie.close (tie.spec returns (λ c. search needs) returns-2 (λ c. search needs) ratio-requires series-requires (λ c κs. search needs) (λ c κs. search needs) returns-3)

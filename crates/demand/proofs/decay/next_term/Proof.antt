@@ -12,12 +12,6 @@ is-next : (k t y m : ℕ) → m ≡ t * y / S → m / k ≡ next k t y
 unfolding next
 is-next k t y m e = ap (λ (n : ℕ). n / k) e ∙ div-div-eq-div-mul (t * y) S k ∙ ap (λ (n : ℕ). t * y / n) (mul-comm S k)
 
-scaled-product-requires : tie.Need-scaled-product-requires
-scaled-product-requires c κs = search needs
-
-div-result : tie.Need-div-result
-div-result c = search needs
-
 returns : tie.Need-returns
 returns c =
     let s = c .before in
@@ -26,4 +20,4 @@ returns c =
     (e, subst (λ (n : ℕ). n ≤ a .t) (sym e) (next-le (a .k) (a .t) (a .y) (le-of-lt (s .pre .2)) (s .pre .0)))
 
 pub next-term-spec : {M : Type 1} → statement M
-next-term-spec = tie.close (tie.spec scaled-product-requires div-result returns)
+next-term-spec = tie.close (tie.spec (λ c κs. search needs) (λ c. search needs) returns)

@@ -37,12 +37,6 @@ loop-holds c = (omega arith, le-refl S, start)
 scaled-product-requires : tie.Need-scaled-product-requires Inv-loop μ-loop
 scaled-product-requires c κs = (omega arith, omega arith)
 
-add-counter : tie.Need-add-counter Inv-loop μ-loop
-add-counter c = omega arith
-
-loop-less : tie.Need-loop-less Inv-loop μ-loop
-loop-less c = omega arith
-
 loop-again : tie.Need-loop-again Inv-loop μ-loop
 loop-again c =
     let i = c .before .before .loop .inv in
@@ -59,4 +53,4 @@ returns c =
     (done _ _ _ (i .0) (c .loop-test .left) (i .2), i .1)
 
 pub power-spec : {M : Type 1} → statement M
-power-spec = tie.close (tie.spec Inv-loop μ-loop loop-holds scaled-product-requires add-counter loop-less loop-again returns)
+power-spec = tie.close (tie.spec Inv-loop μ-loop loop-holds scaled-product-requires (λ c. omega arith) (λ c. omega arith) loop-again returns)

@@ -14,25 +14,13 @@ both r c h = digit (2 ^ 26) r (2 ^ 26) c _ _ (first (2 ^ 26) r c h)
 positive : {r c : ℕ} → r < c → zero < c
 positive h = omega arith
 
-mul-first : tie.Need-mul-first
-mul-first c = search needs
-
-rem-second : tie.Need-rem-second
-rem-second c = search needs
-
 mul-second : tie.Need-mul-second
 mul-second c = omega (arith, mod-lt (c .before .args .r * 2 ^ 26) (positive (c .before .pre)))
-
-div-result : tie.Need-div-result
-div-result c = search needs
 
 mul-result : tie.Need-mul-result
 mul-result c =
     let s = c .before in
     omega (arith, scaled-lt (s .args .r) (2 ^ 26) (s .args .c) (s .pre) (pow-pos 26))
-
-div-result-2 : tie.Need-div-result-2
-div-result-2 c = search needs
 
 add-result : tie.Need-add-result
 add-result c =
@@ -42,11 +30,5 @@ add-result c =
 returns : tie.Need-returns
 returns c = quotient (both (c .before .args .r) (c .before .args .c) (c .before .pre))
 
-ratio-by-bits-requires : tie.Need-ratio-by-bits-requires
-ratio-by-bits-requires c κs = search needs
-
-returns-2 : tie.Need-returns-2
-returns-2 c = search needs
-
 pub ratio-spec : {M : Type 1} → statement M
-ratio-spec = tie.close (tie.spec mul-first rem-second mul-second div-result mul-result div-result-2 add-result returns ratio-by-bits-requires returns-2)
+ratio-spec = tie.close (tie.spec (λ c. search needs) (λ c. search needs) mul-second (λ c. search needs) mul-result (λ c. search needs) add-result returns (λ c κs. search needs) (λ c. search needs))

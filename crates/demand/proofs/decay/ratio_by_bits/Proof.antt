@@ -31,32 +31,14 @@ small y i h k = le-trans h (pow-mono k)
 loop-holds : tie.Need-loop-holds Inv-loop μ-loop
 loop-holds c = (omega arith, c .pre, omega arith, c .pre, none _ _ (c .pre))
 
-sub-if1 : tie.Need-sub-if1 Inv-loop μ-loop
-sub-if1 c = omega arith
-
-add-rest : tie.Need-add-rest Inv-loop μ-loop
-add-rest c = omega arith
-
 add-y : tie.Need-add-y Inv-loop μ-loop
 add-y c = omega (arith, small _ _ (c .before .before .loop .inv .2) (c .before .before .loop .inv .0))
-
-sub-rest : tie.Need-sub-rest Inv-loop μ-loop
-sub-rest c = omega arith
-
-sub-rest-2 : tie.Need-sub-rest-2 Inv-loop μ-loop
-sub-rest-2 c = omega arith
 
 add-y-2 : tie.Need-add-y-2 Inv-loop μ-loop
 add-y-2 c = omega (arith, small _ _ (c .before .before .loop .inv .2) (c .before .before .loop .inv .0))
 
 add-y-3 : tie.Need-add-y-3 Inv-loop μ-loop
 add-y-3 c = omega (arith, small _ _ (c .before .before .loop .inv .2) (c .before .before .loop .inv .0))
-
-add-counter : tie.Need-add-counter Inv-loop μ-loop
-add-counter c = omega arith
-
-loop-less : tie.Need-loop-less Inv-loop μ-loop
-loop-less c = omega arith
 
 loop-again : tie.Need-loop-again Inv-loop μ-loop
 loop-again c =
@@ -78,4 +60,4 @@ returns c =
     done _ _ _ _ _ (i .0) (c .loop-test .left) (i .4)
 
 pub ratio-by-bits-spec : {M : Type 1} → statement M
-ratio-by-bits-spec = tie.close (tie.spec Inv-loop μ-loop loop-holds sub-if1 add-rest add-y sub-rest sub-rest-2 add-y-2 add-y-3 add-counter loop-less loop-again returns)
+ratio-by-bits-spec = tie.close (tie.spec Inv-loop μ-loop loop-holds (λ c. omega arith) (λ c. omega arith) add-y (λ c. omega arith) (λ c. omega arith) add-y-2 add-y-3 (λ c. omega arith) (λ c. omega arith) loop-again returns)

@@ -10,17 +10,8 @@ use Rattle.demand.proofs.decay.scaled_product.Tie as tie
 scaled : (a b : ℕ) → a * 2 ^ 11 * (b * 2) / 2 ^ 64 ≡ a * b / 2 ^ 52
 scaled a b = ap (λ (n : ℕ). n / 2 ^ 64) (mul-mul-mul-comm a (2 ^ 11) b 2) ∙ mul-div-mul-right (a * b) (2 ^ 52) (pow-pos 12)
 
-mul-high-product : tie.Need-mul-high-product
-mul-high-product c = search needs
-
-mul-high-product-2 : tie.Need-mul-high-product-2
-mul-high-product-2 c = search needs
-
-high-product-requires : tie.Need-high-product-requires
-high-product-requires c κs = search needs
-
 returns : tie.Need-returns
 returns c = c .high-product .ensures ∙ scaled _ _
 
 pub scaled-product-spec : {M : Type 1} → statement M
-scaled-product-spec = tie.close (tie.spec mul-high-product mul-high-product-2 high-product-requires returns)
+scaled-product-spec = tie.close (tie.spec (λ c. search needs) (λ c. search needs) (λ c κs. search needs) returns)

@@ -20,35 +20,11 @@ returns c =
     let i = c .before .before .loop .inv in
     (settled _ _ _ _ (i .0) (i .3) (c .if1 .taken), i .2)
 
-add-next-term : tie.Need-add-next-term Inv-loop μ-loop
-add-next-term c = omega arith
-
-add-next-term-2 : tie.Need-add-next-term-2 Inv-loop μ-loop
-add-next-term-2 c = omega arith
-
 next-term-requires : tie.Need-next-term-requires Inv-loop μ-loop
 next-term-requires c κs = (omega arith, omega arith, omega arith)
 
-add-next-term-3 : tie.Need-add-next-term-3 Inv-loop μ-loop
-add-next-term-3 c = omega arith
-
-add-next-term-4 : tie.Need-add-next-term-4 Inv-loop μ-loop
-add-next-term-4 c = omega arith
-
 next-term-requires-2 : tie.Need-next-term-requires-2 Inv-loop μ-loop
 next-term-requires-2 c κs = (omega arith, omega arith, omega arith)
-
-sub-sum : tie.Need-sub-sum Inv-loop μ-loop
-sub-sum c = omega arith
-
-add-sum : tie.Need-add-sum Inv-loop μ-loop
-add-sum c = omega arith
-
-add-j : tie.Need-add-j Inv-loop μ-loop
-add-j c = omega arith
-
-loop-less : tie.Need-loop-less Inv-loop μ-loop
-loop-less c = omega arith
 
 loop-again : tie.Need-loop-again Inv-loop μ-loop
 loop-again c = (
@@ -71,15 +47,15 @@ series-spec =
     μ-loop
     loop-holds
     returns
-    add-next-term
-    add-next-term-2
+    (λ c. omega arith)
+    (λ c. omega arith)
     next-term-requires
-    add-next-term-3
-    add-next-term-4
+    (λ c. omega arith)
+    (λ c. omega arith)
     next-term-requires-2
-    sub-sum
-    add-sum
-    add-j
-    loop-less
+    (λ c. omega arith)
+    (λ c. omega arith)
+    (λ c. omega arith)
+    (λ c. omega arith)
     loop-again
     returns-2)

@@ -17,17 +17,11 @@ unfolding alpha
 divided e c d x is h =
     (λ i. div binary64 (h i) (parts-is i)) ∙ parts-over (S - d) (sub-le S d) ∙ ap (λ (n : ℕ). round binary64 false (S - n) S) is
 
-decay-weight-requires : tie.Need-decay-weight-requires
-decay-weight-requires c κs = search needs
-
 sub-parts : tie.Need-sub-parts
 sub-parts c = subst (λ (d : ℕ). d ≤ S) (sym (c .decay-weight .ensures)) (weight-le _ _)
-
-u64-to-f64-requires : tie.Need-u64-to-f64-requires
-u64-to-f64-requires c κs = search needs
 
 returns : tie.Need-returns
 returns c = divided _ _ _ _ (c .before .decay-weight .ensures) (c .u64-to-f64 .ensures)
 
 pub alpha-spec : {M : Type 1} → statement M
-alpha-spec = tie.close (tie.spec decay-weight-requires sub-parts u64-to-f64-requires returns)
+alpha-spec = tie.close (tie.spec (λ c κs. search needs) sub-parts (λ c κs. search needs) returns)

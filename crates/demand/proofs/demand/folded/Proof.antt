@@ -14,17 +14,8 @@ unfolding folded
 worked-out rate n e c x y a ex ey ea =
     λ i. add binary64 (mul binary64 (ea i) (div binary64 (ey i) (div binary64 (ex i) (billion-is i)))) (mul binary64 (sub binary64 (one-is i) (ea i)) rate)
 
-u64-to-f64-requires : tie.Need-u64-to-f64-requires
-u64-to-f64-requires c κs = search needs
-
-u64-to-f64-requires-2 : tie.Need-u64-to-f64-requires-2
-u64-to-f64-requires-2 c κs = search needs
-
-alpha-requires : tie.Need-alpha-requires
-alpha-requires c κs = search needs
-
 returns : tie.Need-returns
 returns c = worked-out _ _ _ _ _ _ _ (c .before .before .u64-to-f64 .ensures) (c .before .u64-to-f642 .ensures) (c .alpha .ensures)
 
 pub folded-spec : {M : Type 1} → statement M
-folded-spec = tie.close (tie.spec u64-to-f64-requires u64-to-f64-requires-2 alpha-requires returns)
+folded-spec = tie.close (tie.spec (λ c κs. search needs) (λ c κs. search needs) (λ c κs. search needs) returns)

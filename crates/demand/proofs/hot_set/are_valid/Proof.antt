@@ -24,9 +24,6 @@ fit c = sym (c .before .fits2 .ensures) ∙ not-false _ (c .if1 .left)
 bound : (c : tie.In-loop Inv-loop μ-loop) → c .before .loop .i * 6 + 6 ≤ length (c .before .before .before .before .before .args .hot .now)
 bound c = omega (arith, c .loop-test .taken, fits-le _ 6 _ (fit (c .before .before)))
 
-fits-requires : tie.Need-fits-requires Inv-loop μ-loop
-fits-requires c κs = search needs
-
 returns : tie.Need-returns Inv-loop μ-loop
 returns c = sym (and-first _ _ (sym (c .before .fits2 .ensures) ∙ not-true _ (c .if1 .taken)))
 
@@ -66,7 +63,7 @@ are-valid-spec =
     (tie.spec
     Inv-loop
     μ-loop
-    fits-requires
+    (λ c κs. search needs)
     returns
     loop-holds
     mul-at

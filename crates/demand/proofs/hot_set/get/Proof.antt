@@ -18,23 +18,11 @@ found c = sym (c .before .before .before .find .ensures) ∙ c .before .i .given
 within : (c : tie.After-known-told) → c .before .i .given .0 .0 * 6 + 6 ≤ length (start c .args .hot .now)
 within c = at-within (start c .args .n) (start c .args .hot .now) (start c .pre) (start c .args .key) (c .before .i .given .0 .0) (found c)
 
-find-requires : tie.Need-find-requires
-find-requires c κs = search needs
-
-enum-known-i : tie.Need-enum-known-i
-enum-known-i c = search needs
-
 mul-of-words : tie.Need-mul-of-words
 mul-of-words c = omega (arith, within c)
 
 of-words-requires : tie.Need-of-words-requires
 of-words-requires c κs = within c
-
-enum-told : tie.Need-enum-told
-enum-told c = search needs
-
-enum-told-2 : tie.Need-enum-told-2
-enum-told-2 c = search needs
 
 returns : tie.Need-returns
 returns c = let s = start (c .before) in got-at (s .args .n) (s .args .hot .now) (s .pre) (s .args .key) _ _ (c .of-words .ensures) (found (c .before))
@@ -49,12 +37,12 @@ pub get-spec : {M : Type 1} → statement M
 get-spec =
     tie.close
     (tie.spec
-    find-requires
-    enum-known-i
+    (λ c κs. search needs)
+    (λ c. search needs)
     mul-of-words
     of-words-requires
-    enum-told
-    enum-told-2
+    (λ c. search needs)
+    (λ c. search needs)
     returns
     returns-2
     returns-3)

@@ -7,8 +7,5 @@ use Rattle.demand.proofs.hot_set.has_passed.Tie as tie
 returns : tie.Need-returns
 returns c = zero-span _ _ _ (c .if1 .taken)
 
-returns-2 : tie.Need-returns-2
-returns-2 c = search needs
-
 pub has-passed-spec : {M : Type 1} → statement M
-has-passed-spec = tie.close (tie.spec returns returns-2)
+has-passed-spec = tie.close (tie.spec returns (λ c. search needs))

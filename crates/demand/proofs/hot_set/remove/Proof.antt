@@ -4,24 +4,6 @@ use Rattle.demand.proofs.HotSetMap.{removed-at, removed-none, gap-says,
 use Rattle.demand.proofs.hot_set.remove.Statement.{statement}
 use Rattle.demand.proofs.hot_set.remove.Tie as tie
 
-find-requires : tie.Need-find-requires
-find-requires c κs = search needs
-
-enum-known-i : tie.Need-enum-known-i
-enum-known-i c = search needs
-
-remove-requires : tie.Need-remove-requires
-remove-requires c κs = search needs
-
-enum-told : tie.Need-enum-told
-enum-told c = search needs
-
-enum-told-2 : tie.Need-enum-told-2
-enum-told-2 c = search needs
-
-same-length : tie.Need-same-length
-same-length c = search needs
-
 returns : tie.Need-returns
 returns c =
     let o = c .before .before in
@@ -30,17 +12,11 @@ returns c =
     let s = f .before .before .before in
     o .remove .ensures .1 ∙ removed-at (s .args .n) (s .args .hot .now) (s .pre) (s .args .key) _ (sym (f .find .ensures) ∙ i .i .given .1)
 
-same-length-2 : tie.Need-same-length-2
-same-length-2 c = search needs
-
 returns-2 : tie.Need-returns-2
 returns-2 c =
     let f = c .before .before in
     let s = f .before .before .before in
     removed-none (s .args .n) (s .args .hot .now) (s .pre) (s .args .key) (gap-says (s .args .n) (s .args .hot .now) (s .pre) (s .args .key) _ (sym (f .find .ensures) ∙ c .enum-told .given .1) .0)
-
-same-length-3 : tie.Need-same-length-3
-same-length-3 c = search needs
 
 returns-3 : tie.Need-returns-3
 returns-3 c =
@@ -52,14 +28,14 @@ pub remove-spec : {M : Type 1} → statement M
 remove-spec =
     tie.close
     (tie.spec
-    find-requires
-    enum-known-i
-    remove-requires
-    enum-told
-    enum-told-2
-    same-length
+    (λ c κs. search needs)
+    (λ c. search needs)
+    (λ c κs. search needs)
+    (λ c. search needs)
+    (λ c. search needs)
+    (λ c. search needs)
     returns
-    same-length-2
+    (λ c. search needs)
     returns-2
-    same-length-3
+    (λ c. search needs)
     returns-3)

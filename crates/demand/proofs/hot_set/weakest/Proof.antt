@@ -48,9 +48,6 @@ mul-total-less-4 c = omega (arith, sizes (c .before))
 shared-slice-read-total-less-2 : tie.Need-shared-slice-read-total-less-2 Inv-loop μ-loop
 shared-slice-read-total-less-2 c = omega (arith, sizes (c .before .before))
 
-total-less-requires : tie.Need-total-less-requires Inv-loop μ-loop
-total-less-requires c κs = search needs
-
 add-i : tie.Need-add-i Inv-loop μ-loop
 add-i c = let l = c .before .before .before .before in omega (arith, sizes l)
 
@@ -95,7 +92,7 @@ weakest-spec =
     add-total-less-2
     mul-total-less-4
     shared-slice-read-total-less-2
-    total-less-requires
+    (λ c κs. search needs)
     add-i
     loop-less
     loop-again

@@ -5,9 +5,6 @@ use borrow.Author.Needs.{needs}
 use Rattle.demand.proofs.peer_demand.round_is_newer.Statement.{statement}
 use Rattle.demand.proofs.peer_demand.round_is_newer.Tie as tie
 
-wrapping-sub-u16-requires : tie.Need-wrapping-sub-u16-requires
-wrapping-sub-u16-requires c κs = search needs
-
 returns : tie.Need-returns
 returns c =
     newer-if _ _ _
@@ -18,4 +15,4 @@ returns-2 : tie.Need-returns-2
 returns-2 c = not-newer-self _ _ (omega arith) (c .if1 .left)
 
 pub round-is-newer-spec : {M : Type 1} → statement M
-round-is-newer-spec = tie.close (tie.spec wrapping-sub-u16-requires returns returns-2)
+round-is-newer-spec = tie.close (tie.spec (λ c κs. search needs) returns returns-2)

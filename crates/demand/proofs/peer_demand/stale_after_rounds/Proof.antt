@@ -11,9 +11,6 @@ returns c = no-cluster _ _ (c .if1 .taken)
 returns-2 : tie.Need-returns-2
 returns-2 c = large-cluster _ _ (c .if2 .taken)
 
-mul-rounds : tie.Need-mul-rounds
-mul-rounds c = search needs
-
 returns-3 : tie.Need-returns-3
 returns-3 c = some-cluster (c .before .before .before .args .cluster-size) _ _ (omega arith) (omega arith) (few-rounds _ (c .if3 .taken))
 
@@ -21,4 +18,4 @@ returns-4 : tie.Need-returns-4
 returns-4 c = some-cluster (c .before .before .before .args .cluster-size) _ _ (omega arith) (omega arith) (many-rounds _ (c .if3 .left))
 
 pub stale-after-rounds-spec : {M : Type 1} → statement M
-stale-after-rounds-spec = tie.close (tie.spec returns returns-2 mul-rounds returns-3 returns-4)
+stale-after-rounds-spec = tie.close (tie.spec returns returns-2 (λ c. search needs) returns-3 returns-4)

@@ -7,18 +7,6 @@ use borrow.Author.Needs.{needs}
 use Rattle.demand.proofs.peer_heard.add_heard.Statement.{statement}
 use Rattle.demand.proofs.peer_heard.add_heard.Tie as tie
 
-enum-told : tie.Need-enum-told
-enum-told c = search needs
-
-enum-known-said : tie.Need-enum-known-said
-enum-known-said c = search needs
-
-f32-to-f64-requires : tie.Need-f32-to-f64-requires
-f32-to-f64-requires c κs = search needs
-
-returns : tie.Need-returns
-returns c = search needs
-
 returns-2 : tie.Need-returns-2
 returns-2 c =
     let s = c .before .before .before .before .args in
@@ -26,4 +14,4 @@ returns-2 c =
 
 pub add-heard-spec : {M : Type 1} → statement M
 add-heard-spec =
-    tie.close (tie.spec enum-told enum-known-said f32-to-f64-requires returns returns-2)
+    tie.close (tie.spec (λ c. search needs) (λ c. search needs) (λ c κs. search needs) (λ c. search needs) returns-2)

@@ -29,12 +29,6 @@ below c =
 inside : (c : tie.After-i) → c .i .given .0 .0 * 6 + 6 ≤ length (start c .args .t .now)
 inside c = omega (arith, below c, start c .pre .ready .fit)
 
-find-requires : tie.Need-find-requires
-find-requires c κs = search needs
-
-enum-known-i : tie.Need-enum-known-i
-enum-known-i c = search needs
-
 mul-at : tie.Need-mul-at
 mul-at c = omega (arith, inside (c .before))
 
@@ -62,12 +56,6 @@ key-heard-requires c κs =
     let s = start a .args in
     (omega (arith, inside a), omega (arith, demand-fits 6 (s .n) (s .id) (s .key) (s .t .now) (start a .pre) (a .i .given .0 .0) (below a)), round-fits 6 (s .n) (s .id) (s .key) (s .t .now) (start a .pre) (a .i .given .0 .0) (below a) (omega arith))
 
-enum-known-i-2 : tie.Need-enum-known-i-2
-enum-known-i-2 c = search needs
-
-enum-told : tie.Need-enum-told
-enum-told c = search needs
-
 returns : tie.Need-returns
 returns c =
     let a = c .before .before .before .before in
@@ -93,8 +81,8 @@ pub heard-contested-spec : {M : Type 1} → statement M
 heard-contested-spec =
     tie.close
     (tie.spec
-    find-requires
-    enum-known-i
+    (λ c κs. search needs)
+    (λ c. search needs)
     mul-at
     add-key-heard
     mul-key-heard
@@ -103,8 +91,8 @@ heard-contested-spec =
     mul-key-heard-2
     shared-slice-read-key-heard-2
     key-heard-requires
-    enum-known-i-2
-    enum-told
+    (λ c. search needs)
+    (λ c. search needs)
     returns
     returns-2
     returns-3)

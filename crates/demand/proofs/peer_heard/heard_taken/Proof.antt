@@ -34,12 +34,6 @@ returns c =
     let s = c .before .before .args in
     taken-absent (s .n) (s .id) (s .key) (s .flag) (s .round) (s .heard-at) (s .t .now) (c .if1 .taken)
 
-find-requires : tie.Need-find-requires
-find-requires c κs = search needs
-
-enum-known-i : tie.Need-enum-known-i
-enum-known-i c = search needs
-
 mul-key-heard : tie.Need-mul-key-heard
 mul-key-heard c = omega (arith, inside (c .before))
 
@@ -48,12 +42,6 @@ key-heard-requires c κs =
     let a = c .before in
     let s = start a .args in
     (omega (arith, inside a), omega (arith, demand-fits 4 (s .n) (s .id) (s .key) (s .t .now) (start a .pre .0) (a .i .given .0 .0) (below a)), start a .pre .1)
-
-enum-known-i-2 : tie.Need-enum-known-i-2
-enum-known-i-2 c = search needs
-
-enum-told : tie.Need-enum-told
-enum-told c = search needs
 
 returns-2 : tie.Need-returns-2
 returns-2 c =
@@ -81,12 +69,12 @@ heard-taken-spec =
     tie.close
     (tie.spec
     returns
-    find-requires
-    enum-known-i
+    (λ c κs. search needs)
+    (λ c. search needs)
     mul-key-heard
     key-heard-requires
-    enum-known-i-2
-    enum-told
+    (λ c. search needs)
+    (λ c. search needs)
     returns-2
     returns-3
     returns-4)

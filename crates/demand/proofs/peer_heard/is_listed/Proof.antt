@@ -7,18 +7,6 @@ use borrow.Author.Needs.{needs}
 use Rattle.demand.proofs.peer_heard.is_listed.Statement.{statement}
 use Rattle.demand.proofs.peer_heard.is_listed.Tie as tie
 
-find-requires : tie.Need-find-requires
-find-requires c κs = search needs
-
-enum-known-i : tie.Need-enum-known-i
-enum-known-i c = search needs
-
-enum-known-i-2 : tie.Need-enum-known-i-2
-enum-known-i-2 c = search needs
-
-enum-told : tie.Need-enum-told
-enum-told c = search needs
-
 returns : tie.Need-returns
 returns c =
     let a = c .before in
@@ -45,4 +33,4 @@ returns-3 c =
 pub is-listed-spec : {M : Type 1} → statement M
 is-listed-spec =
     tie.close
-    (tie.spec find-requires enum-known-i enum-known-i-2 enum-told returns returns-2 returns-3)
+    (tie.spec (λ c κs. search needs) (λ c. search needs) (λ c. search needs) (λ c. search needs) returns returns-2 returns-3)

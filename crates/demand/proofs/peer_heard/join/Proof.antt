@@ -7,24 +7,6 @@ use borrow.Author.Needs.{needs}
 use Rattle.demand.proofs.peer_heard.join.Statement.{statement}
 use Rattle.demand.proofs.peer_heard.join.Tie as tie
 
-enum-told : tie.Need-enum-told
-enum-told c = search needs
-
-enum-known-taken : tie.Need-enum-known-taken
-enum-known-taken c = search needs
-
-enum-told-2 : tie.Need-enum-told-2
-enum-told-2 c = search needs
-
-enum-known-contested : tie.Need-enum-known-contested
-enum-known-contested c = search needs
-
-joined-requires : tie.Need-joined-requires
-joined-requires c κs = search needs
-
-returns : tie.Need-returns
-returns c = search needs
-
 returns-2 : tie.Need-returns-2
 returns-2 c = sym (λ k. readers.join (saidOf (c .before .before .before .taken .given .1 k)) (saidOf (c .enum-told2 .given .1 k)))
 
@@ -35,11 +17,11 @@ pub join-spec : {M : Type 1} → statement M
 join-spec =
     tie.close
     (tie.spec
-    enum-told
-    enum-known-taken
-    enum-told-2
-    enum-known-contested
-    joined-requires
-    returns
+    (λ c. search needs)
+    (λ c. search needs)
+    (λ c. search needs)
+    (λ c. search needs)
+    (λ c κs. search needs)
+    (λ c. search needs)
     returns-2
     returns-3)

@@ -4,9 +4,6 @@ use borrow.Author.Needs.{needs}
 use Rattle.demand.proofs.peer_heard.joined.Statement.{statement}
 use Rattle.demand.proofs.peer_heard.joined.Tie as tie
 
-is-either-requires : tie.Need-is-either-requires
-is-either-requires c κs = search needs
-
 returns : tie.Need-returns
 returns c =
     let s = c .before .before .before .before .args in
@@ -18,4 +15,4 @@ returns-2 c =
     joined-first (s .taken) (s .contested) (c .before .before .before .is-either .result) (c .before .before .before .is-either .ensures) (c .if1 .left)
 
 pub joined-spec : {M : Type 1} → statement M
-joined-spec = tie.close (tie.spec is-either-requires returns returns-2)
+joined-spec = tie.close (tie.spec (λ c κs. search needs) returns returns-2)

@@ -6,33 +6,6 @@ use borrow.Author.Needs.{needs}
 use Rattle.demand.proofs.peer_heard.key_heard.Statement.{statement}
 use Rattle.demand.proofs.peer_heard.key_heard.Tie as tie
 
-add-f32-from-bits : tie.Need-add-f32-from-bits
-add-f32-from-bits c = search needs
-
-mul-f32-from-bits : tie.Need-mul-f32-from-bits
-mul-f32-from-bits c = search needs
-
-shared-slice-read-f32-from-bits : tie.Need-shared-slice-read-f32-from-bits
-shared-slice-read-f32-from-bits c = search needs
-
-cast-f32-from-bits : tie.Need-cast-f32-from-bits
-cast-f32-from-bits c = search needs
-
-f32-from-bits-requires : tie.Need-f32-from-bits-requires
-f32-from-bits-requires c κs = search needs
-
-add-t11 : tie.Need-add-t11
-add-t11 c = search needs
-
-mul-t12 : tie.Need-mul-t12
-mul-t12 c = search needs
-
-shared-slice-read-t14 : tie.Need-shared-slice-read-t14
-shared-slice-read-t14 c = search needs
-
-cast-t16 : tie.Need-cast-t16
-cast-t16 c = search needs
-
 returns : tie.Need-returns
 returns c =
     let s = c .before .before .before .before .args in
@@ -42,13 +15,13 @@ pub key-heard-spec : {M : Type 1} → statement M
 key-heard-spec =
     tie.close
     (tie.spec
-    add-f32-from-bits
-    mul-f32-from-bits
-    shared-slice-read-f32-from-bits
-    cast-f32-from-bits
-    f32-from-bits-requires
-    add-t11
-    mul-t12
-    shared-slice-read-t14
-    cast-t16
+    (λ c. search needs)
+    (λ c. search needs)
+    (λ c. search needs)
+    (λ c. search needs)
+    (λ c κs. search needs)
+    (λ c. search needs)
+    (λ c. search needs)
+    (λ c. search needs)
+    (λ c. search needs)
     returns)

@@ -38,9 +38,6 @@ add-are-peer-words c = omega (arith, inside c)
 mul-are-peer-words : tie.Need-mul-are-peer-words Inv-loop μ-loop
 mul-are-peer-words c = omega (arith, inside c)
 
-sub-are-peer-words : tie.Need-sub-are-peer-words Inv-loop μ-loop
-sub-are-peer-words c = search needs
-
 part-are-peer-words-start : tie.Need-part-are-peer-words-start Inv-loop μ-loop
 part-are-peer-words-start c = omega (arith, inside c)
 
@@ -67,12 +64,6 @@ returns c =
     let l = c .before .before .before .before .loop in
     scan-fails arePeerWords 12 (s .n) (s .t .now) (l .i) (l .inv .1) (omega arith) (record-told (c .before) ∙ not-true (c .before .are-peer-words .result) (c .if1 .taken))
 
-add-i : tie.Need-add-i Inv-loop μ-loop
-add-i c = omega arith
-
-loop-less : tie.Need-loop-less Inv-loop μ-loop
-loop-less c = omega arith
-
 loop-again : tie.Need-loop-again Inv-loop μ-loop
 loop-again c =
     let s = c .before .before .before .before .before .before .args in
@@ -95,12 +86,12 @@ are-all-peer-words-spec =
     mul-at
     add-are-peer-words
     mul-are-peer-words
-    sub-are-peer-words
+    (λ c. search needs)
     part-are-peer-words-start
     part-are-peer-words-end
     are-peer-words-requires
     returns
-    add-i
-    loop-less
+    (λ c. omega arith)
+    (λ c. omega arith)
     loop-again
     returns-2)

@@ -10,28 +10,10 @@ use borrow.Author.Needs.{needs}
 use Rattle.demand.proofs.peer_scan.are_key_words.Statement.{statement}
 use Rattle.demand.proofs.peer_scan.are_key_words.Tie as tie
 
-add-if1 : tie.Need-add-if1
-add-if1 c = search needs
-
-mul-if1 : tie.Need-mul-if1
-mul-if1 c = search needs
-
-shared-slice-read-if1 : tie.Need-shared-slice-read-if1
-shared-slice-read-if1 c = search needs
-
 returns : tie.Need-returns
 returns c =
     let s = c .before .before .args in
     stop _ _ (le-ltb _ 0x7f800000 (c .if1 .taken)) ∙ key-words-at (s .t .now) (s .at) (s .w)
-
-add-if2 : tie.Need-add-if2
-add-if2 c = search needs
-
-mul-if2 : tie.Need-mul-if2
-mul-if2 c = search needs
-
-shared-slice-read-if2 : tie.Need-shared-slice-read-if2
-shared-slice-read-if2 c = search needs
 
 returns-2 : tie.Need-returns-2
 returns-2 c =
@@ -43,15 +25,6 @@ returns-3 c =
     let s = c .before .before .before .before .before .args in
     goes _ _ true (lt-ltb _ 0x7f800000 (c .before .before .before .if1 .left)) (goes _ _ true (le-leb _ 1 (c .before .if2 .left)) (ap (λ (b : Bool). b || ltb (getD (s .t .now) (s .at + 4) 0) (2 ^ 16)) (sym (le-leb (s .w) 4 (c .if3 .taken))))) ∙ key-words-at (s .t .now) (s .at) (s .w)
 
-add-result : tie.Need-add-result
-add-result c = search needs
-
-mul-result : tie.Need-mul-result
-mul-result c = search needs
-
-shared-slice-read-result : tie.Need-shared-slice-read-result
-shared-slice-read-result c = search needs
-
 returns-4 : tie.Need-returns-4
 returns-4 c =
     let s = c .before .before .before .before .before .before .args in
@@ -61,16 +34,16 @@ pub are-key-words-spec : {M : Type 1} → statement M
 are-key-words-spec =
     tie.close
     (tie.spec
-    add-if1
-    mul-if1
-    shared-slice-read-if1
+    (λ c. search needs)
+    (λ c. search needs)
+    (λ c. search needs)
     returns
-    add-if2
-    mul-if2
-    shared-slice-read-if2
+    (λ c. search needs)
+    (λ c. search needs)
+    (λ c. search needs)
     returns-2
     returns-3
-    add-result
-    mul-result
-    shared-slice-read-result
+    (λ c. search needs)
+    (λ c. search needs)
+    (λ c. search needs)
     returns-4)

@@ -21,9 +21,6 @@ ready c =
     let st = c .before .before .before in
     keys-ready (st .args .w) (st .args .n) (32 * st .args .bound) (st .args .t .now) (st .pre .1 .0) (st .pre .1 .2) (c .if1 .left)
 
-mul-if1 : tie.Need-mul-if1
-mul-if1 c = search needs
-
 returns : tie.Need-returns
 unfolding areKeys
 returns c =
@@ -44,4 +41,4 @@ returns-2 c =
     (c .are-runs .ensures ∙ runs-are-valid (s .w) (s .least) (s .bound) (omega (arith, k .wide)) (records 12 (s .p) (s .peers .now)) (wide-records 12 (s .p) (s .peers .now) (st .pre .0 .fit)) (st .pre .0 .ascend) (records (s .w) (s .n) (s .t .now)) (wide-records (s .w) (s .n) (s .t .now) (k .fit)))
 
 pub are-keys-spec : {M : Type 1} → statement M
-are-keys-spec = tie.close (tie.spec mul-if1 returns are-runs-requires returns-2)
+are-keys-spec = tie.close (tie.spec (λ c. search needs) returns are-runs-requires returns-2)

@@ -27,15 +27,9 @@ returns c =
     let s = c .before .before .args in
     stop _ _ (ap (λ (m : ℕ). leb m 32) (length-records 12 (s .n) (s .t .now)) ∙ lt-leb (s .n) 32 (c .if1 .taken))
 
-are-all-peer-words-requires : tie.Need-are-all-peer-words-requires
-are-all-peer-words-requires c κs = search needs
-
 returns-2 : tie.Need-returns-2
 unfolding arePeers
 returns-2 c = goes _ _ false (few (c .before .before)) (stop _ _ (sym (c .before .are-all-peer-words .ensures) ∙ not-true (c .before .are-all-peer-words .result) (c .if2 .taken)))
-
-is-ascending-requires : tie.Need-is-ascending-requires
-is-ascending-requires c κs = search needs
 
 returns-3 : tie.Need-returns-3
 unfolding arePeers
@@ -47,4 +41,4 @@ returns-3 c =
 pub are-peers-spec : {M : Type 1} → statement M
 are-peers-spec =
     tie.close
-    (tie.spec returns are-all-peer-words-requires returns-2 is-ascending-requires returns-3)
+    (tie.spec returns (λ c κs. search needs) returns-2 (λ c κs. search needs) returns-3)

@@ -58,9 +58,6 @@ mul-is-run-2 c = omega (arith, inside (c .before .before))
 shared-slice-read-is-run : tie.Need-shared-slice-read-is-run Inv-loop μ-loop
 shared-slice-read-is-run c = omega (arith, inside (c .before .before .before))
 
-is-run-requires : tie.Need-is-run-requires Inv-loop μ-loop
-is-run-requires c κs = search needs
-
 returns : tie.Need-returns Inv-loop μ-loop
 returns c =
     let a = c .before .before .before in
@@ -103,7 +100,7 @@ are-runs-spec =
     add-is-run
     mul-is-run-2
     shared-slice-read-is-run
-    is-run-requires
+    (λ c κs. search needs)
     returns
     add-i
     loop-less

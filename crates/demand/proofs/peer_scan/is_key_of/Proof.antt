@@ -5,19 +5,10 @@ use borrow.Author.Needs.{needs}
 use Rattle.demand.proofs.peer_scan.is_key_of.Statement.{statement}
 use Rattle.demand.proofs.peer_scan.is_key_of.Tie as tie
 
-mul-if1 : tie.Need-mul-if1
-mul-if1 c = search needs
-
-shared-slice-read-if1 : tie.Need-shared-slice-read-if1
-shared-slice-read-if1 c = search needs
-
 returns : tie.Need-returns
 returns c =
     let s = c .before .before .before .args in
     other-peer (s .w) (s .id) (s .t .now) (s .at) (c .if1 .taken)
-
-are-key-words-requires : tie.Need-are-key-words-requires
-are-key-words-requires c κs = search needs
 
 returns-2 : tie.Need-returns-2
 returns-2 c =
@@ -26,4 +17,4 @@ returns-2 c =
 
 pub is-key-of-spec : {M : Type 1} → statement M
 is-key-of-spec =
-    tie.close (tie.spec mul-if1 shared-slice-read-if1 returns are-key-words-requires returns-2)
+    tie.close (tie.spec (λ c. search needs) (λ c. search needs) returns (λ c κs. search needs) returns-2)

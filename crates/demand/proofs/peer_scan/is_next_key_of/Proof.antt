@@ -7,34 +7,10 @@ use borrow.Author.Needs.{needs}
 use Rattle.demand.proofs.peer_scan.is_next_key_of.Statement.{statement}
 use Rattle.demand.proofs.peer_scan.is_next_key_of.Tie as tie
 
-add-if1 : tie.Need-add-if1
-add-if1 c = search needs
-
-mul-if1 : tie.Need-mul-if1
-mul-if1 c = search needs
-
-shared-slice-read-if1 : tie.Need-shared-slice-read-if1
-shared-slice-read-if1 c = search needs
-
-sub-if1 : tie.Need-sub-if1
-sub-if1 c = search needs
-
-add-if1-2 : tie.Need-add-if1-2
-add-if1-2 c = search needs
-
-mul-if1-2 : tie.Need-mul-if1-2
-mul-if1-2 c = search needs
-
-shared-slice-read-if1-2 : tie.Need-shared-slice-read-if1-2
-shared-slice-read-if1-2 c = search needs
-
 returns : tie.Need-returns
 returns c =
     let s = c .before .before .before .before .args in
     not-above (s .w) (s .id) (s .t .now) (s .at) (getD (s .t .now) (s .at - s .w + 1) 0) (c .if1 .taken)
-
-is-key-of-requires : tie.Need-is-key-of-requires
-is-key-of-requires c κs = search needs
 
 returns-2 : tie.Need-returns-2
 returns-2 c =
@@ -45,13 +21,13 @@ pub is-next-key-of-spec : {M : Type 1} → statement M
 is-next-key-of-spec =
     tie.close
     (tie.spec
-    add-if1
-    mul-if1
-    shared-slice-read-if1
-    sub-if1
-    add-if1-2
-    mul-if1-2
-    shared-slice-read-if1-2
+    (λ c. search needs)
+    (λ c. search needs)
+    (λ c. search needs)
+    (λ c. search needs)
+    (λ c. search needs)
+    (λ c. search needs)
+    (λ c. search needs)
     returns
-    is-key-of-requires
+    (λ c κs. search needs)
     returns-2)

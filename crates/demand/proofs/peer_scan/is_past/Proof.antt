@@ -21,29 +21,17 @@ returns : tie.Need-returns
 unfolding isPast
 returns c = stop _ _ (lt-leb _ 4 (c .if1 .taken))
 
-is-past-epoch-requires : tie.Need-is-past-epoch-requires
-is-past-epoch-requires c κs = search needs
-
 returns-2 : tie.Need-returns-2
 unfolding isPast
 returns-2 c = goes _ _ false (le-leb _ 4 (c .before .before .if1 .left)) (stop _ _ (sym (c .before .is-past-epoch .ensures) ∙ not-true (c .before .is-past-epoch .result) (c .if2 .taken)))
-
-is-past-epoch-requires-2 : tie.Need-is-past-epoch-requires-2
-is-past-epoch-requires-2 c κs = search needs
 
 returns-3 : tie.Need-returns-3
 unfolding isPast
 returns-3 c = goes _ _ false (le-leb _ 4 (c .before .before .before .before .if1 .left)) (goes _ _ false (one (c .before .before)) (stop _ _ (sym (c .before .is-past-epoch2 .ensures) ∙ not-true (c .before .is-past-epoch2 .result) (c .if3 .taken))))
 
-is-past-epoch-requires-3 : tie.Need-is-past-epoch-requires-3
-is-past-epoch-requires-3 c κs = search needs
-
 returns-4 : tie.Need-returns-4
 unfolding isPast
 returns-4 c = goes _ _ false (le-leb _ 4 (c .before .before .before .before .before .before .if1 .left)) (goes _ _ false (one (c .before .before .before .before)) (goes _ _ false (two (c .before .before)) (stop _ _ (sym (c .before .is-past-epoch3 .ensures) ∙ not-true (c .before .is-past-epoch3 .result) (c .if4 .taken)))))
-
-is-past-epoch-requires-4 : tie.Need-is-past-epoch-requires-4
-is-past-epoch-requires-4 c κs = search needs
 
 returns-5 : tie.Need-returns-5
 unfolding isPast
@@ -54,11 +42,11 @@ is-past-spec =
     tie.close
     (tie.spec
     returns
-    is-past-epoch-requires
+    (λ c κs. search needs)
     returns-2
-    is-past-epoch-requires-2
+    (λ c κs. search needs)
     returns-3
-    is-past-epoch-requires-3
+    (λ c κs. search needs)
     returns-4
-    is-past-epoch-requires-4
+    (λ c κs. search needs)
     returns-5)

@@ -18,22 +18,13 @@ taken c = sym (c .before .is-snapshot .ensures) ∙ not-false (c .before .is-sna
 past : (c : tie.Else3) → let s = c .before .before .before .before .before .before .args in isPast (s .count) (s .a) (s .b) (s .c) (s .d) ≡ true
 past c = sym (c .before .is-past .ensures) ∙ not-false (c .before .is-past .result) (c .if3 .left)
 
-is-time-requires : tie.Need-is-time-requires
-is-time-requires c κs = search needs
-
 returns : tie.Need-returns
 unfolding isPeer
 returns c = stop _ _ (sym (c .before .is-time .ensures) ∙ not-true (c .before .is-time .result) (c .if1 .taken))
 
-is-snapshot-requires : tie.Need-is-snapshot-requires
-is-snapshot-requires c κs = search needs
-
 returns-2 : tie.Need-returns-2
 unfolding isPeer
 returns-2 c = goes _ _ false (timed (c .before .before)) (stop _ _ (sym (c .before .is-snapshot .ensures) ∙ not-true (c .before .is-snapshot .result) (c .if2 .taken)))
-
-is-past-requires : tie.Need-is-past-requires
-is-past-requires c κs = search needs
 
 returns-3 : tie.Need-returns-3
 unfolding isPeer
@@ -55,11 +46,11 @@ pub is-peer-spec : {M : Type 1} → statement M
 is-peer-spec =
     tie.close
     (tie.spec
-    is-time-requires
+    (λ c κs. search needs)
     returns
-    is-snapshot-requires
+    (λ c κs. search needs)
     returns-2
-    is-past-requires
+    (λ c κs. search needs)
     returns-3
     returns-4
     returns-5)

@@ -6,9 +6,6 @@ use borrow.Author.Needs.{needs}
 use Rattle.demand.proofs.demand.Demand.has_pending.Statement.{statement}
 use Rattle.demand.proofs.demand.Demand.has_pending.Tie as tie
 
-is-valid-requires : tie.Need-is-valid-requires
-is-valid-requires c κs = search needs
-
 returns : tie.Need-returns
 returns c = no 2 _ _ (told-no (c .before .is-valid .ensures) (c .if1 .taken))
 
@@ -16,4 +13,4 @@ returns-2 : tie.Need-returns-2
 returns-2 c = yes 2 _ _ (told-yes (c .before .before .is-valid .ensures) (c .before .if1 .left)) (value refl)
 
 pub has-pending-spec : {M : Type 1} → statement M
-has-pending-spec = tie.close (tie.spec is-valid-requires returns returns-2)
+has-pending-spec = tie.close (tie.spec (λ c κs. search needs) returns returns-2)

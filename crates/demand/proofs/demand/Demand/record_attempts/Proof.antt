@@ -17,24 +17,15 @@ over a n h = le-ltb (a + n) (2 ^ 64) (omega arith)
 within : (a n : ℕ) → a < 2 ^ 64 → n ≤ 2 ^ 64 - 1 - a → ltb (a + n) (2 ^ 64) ≡ true
 within a n f h = lt-ltb (a + n) (2 ^ 64) (omega arith)
 
-is-valid-requires : tie.Need-is-valid-requires
-is-valid-requires c κs = search needs
-
 returns : tie.Need-returns
 returns c = no 2 _ _ (told-no (c .before .is-valid .ensures) (c .if1 .taken))
 
-sub-if2 : tie.Need-sub-if2
-sub-if2 c = search needs
-
 returns-2 : tie.Need-returns-2
 returns-2 c = yes 2 _ _ (told-yes (c .before .before .before .is-valid .ensures) (c .before .before .if1 .left)) (no 9 _ _ (over _ _ (c .if2 .taken)))
-
-add-t6 : tie.Need-add-t6
-add-t6 c = search needs
 
 returns-3 : tie.Need-returns-3
 returns-3 c = yes 2 _ _ (told-yes (c .before .before .before .before .is-valid .ensures) (c .before .before .before .if1 .left)) (yes 9 _ _ (within _ _ (c .before .before .struct-known .given .1 .0 .fits) (c .before .if2 .left)) (value refl))
 
 pub record-attempts-spec : {M : Type 1} → statement M
 record-attempts-spec =
-    tie.close (tie.spec is-valid-requires returns sub-if2 returns-2 add-t6 returns-3)
+    tie.close (tie.spec (λ c κs. search needs) returns (λ c. search needs) returns-2 (λ c. search needs) returns-3)

@@ -5,17 +5,11 @@ use borrow.Author.Needs.{needs}
 use Rattle.demand.proofs.demand.Demand.tick.Statement.{statement}
 use Rattle.demand.proofs.demand.Demand.tick.Tie as tie
 
-is-valid-requires : tie.Need-is-valid-requires
-is-valid-requires c κs = search needs
-
 returns : tie.Need-returns
 returns c = no 2 _ _ (told-no (c .before .is-valid .ensures) (c .if1 .taken))
-
-ticked-requires : tie.Need-ticked-requires
-ticked-requires c κs = search needs
 
 returns-2 : tie.Need-returns-2
 returns-2 c = yes 2 _ _ (told-yes (c .before .before .is-valid .ensures) (c .before .if1 .left)) (value (c .ticked .ensures))
 
 pub tick-spec : {M : Type 1} → statement M
-tick-spec = tie.close (tie.spec is-valid-requires returns ticked-requires returns-2)
+tick-spec = tie.close (tie.spec (λ c κs. search needs) returns (λ c κs. search needs) returns-2)

@@ -5,20 +5,8 @@ use borrow.Author.Needs.{needs}
 use Rattle.demand.proofs.demand.Demand.unbiased.Statement.{statement}
 use Rattle.demand.proofs.demand.Demand.unbiased.Tie as tie
 
-enum-told : tie.Need-enum-told
-enum-told c = search needs
-
-enum-known-times : tie.Need-enum-known-times
-enum-known-times c = search needs
-
 returns : tie.Need-returns
 returns c = no-time _ _ _ _ _ zero-is (c .before .before .times .given .1) (c .if1 .taken)
-
-sub-alpha : tie.Need-sub-alpha
-sub-alpha c = search needs
-
-alpha-requires : tie.Need-alpha-requires
-alpha-requires c κs = search needs
 
 returns-2 : tie.Need-returns-2
 returns-2 c = no-weight _ _ _ _ _ _ _ zero-is zero-is (c .before .before .before .before .times .given .1) (c .before .before .if1 .left) (c .before .alpha .ensures) (c .if2 .taken)
@@ -33,11 +21,11 @@ pub unbiased-spec : {M : Type 1} → statement M
 unbiased-spec =
     tie.close
     (tie.spec
-    enum-told
-    enum-known-times
+    (λ c. search needs)
+    (λ c. search needs)
     returns
-    sub-alpha
-    alpha-requires
+    (λ c. search needs)
+    (λ c κs. search needs)
     returns-2
     returns-3
     returns-4)

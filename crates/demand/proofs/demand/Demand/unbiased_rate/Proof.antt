@@ -5,17 +5,11 @@ use borrow.Author.Needs.{needs}
 use Rattle.demand.proofs.demand.Demand.unbiased_rate.Statement.{statement}
 use Rattle.demand.proofs.demand.Demand.unbiased_rate.Tie as tie
 
-is-valid-requires : tie.Need-is-valid-requires
-is-valid-requires c κs = search needs
-
 returns : tie.Need-returns
 returns c = no 2 _ _ (told-no (c .before .is-valid .ensures) (c .if1 .taken))
-
-unbiased-requires : tie.Need-unbiased-requires
-unbiased-requires c κs = search needs
 
 returns-2 : tie.Need-returns-2
 returns-2 c = yes 2 _ _ (told-yes (c .before .before .is-valid .ensures) (c .before .if1 .left)) (value (c .unbiased .ensures))
 
 pub unbiased-rate-spec : {M : Type 1} → statement M
-unbiased-rate-spec = tie.close (tie.spec is-valid-requires returns unbiased-requires returns-2)
+unbiased-rate-spec = tie.close (tie.spec (λ c κs. search needs) returns (λ c κs. search needs) returns-2)

@@ -8,24 +8,12 @@ use Rattle.demand.proofs.hot_set.HotEntry.cool.Tie as tie
 returns : tie.Need-returns
 returns c = cooled-secondary _ _ _ _ (not-true _ (c .if1 .taken))
 
-enum-known-cooling : tie.Need-enum-known-cooling
-enum-known-cooling c = search needs
-
-has-passed-requires : tie.Need-has-passed-requires
-has-passed-requires c κs = search needs
-
-renewed-requires : tie.Need-renewed-requires
-renewed-requires c κs = search needs
-
 returns-2 : tie.Need-returns-2
 returns-2 c =
     let h = c .before .before in
     let k = h .before .before in
     let e = k .before .before in
     c .renewed .ensures ∙ cooled-expired _ _ _ _ _ (not-false _ (e .if1 .left)) (k .cooling .given .1) (sym (h .has-passed .ensures) ∙ c .before .if2 .taken)
-
-enum-told : tie.Need-enum-told
-enum-told c = search needs
 
 returns-3 : tie.Need-returns-3
 returns-3 c =
@@ -42,10 +30,10 @@ cool-spec =
     tie.close
     (tie.spec
     returns
-    enum-known-cooling
-    has-passed-requires
-    renewed-requires
+    (λ c. search needs)
+    (λ c κs. search needs)
+    (λ c κs. search needs)
     returns-2
-    enum-told
+    (λ c. search needs)
     returns-3
     returns-4)

@@ -13,16 +13,10 @@ use Rattle.demand.proofs.hot_set.HotSet.ask_update.Tie as tie
 asked : (e : tie.Else1) → let s = e .before .before .before in passes (askSet (s .args .self) (s .args .hot .now)) ≡ true
 asked e = let s = e .before .before .before in passed-none _ _ (numbered-set (s .args .self) (s .args .hot .now) (s .args .demand-rate)) (e .before .ask .ensures) (e .if1 .left)
 
-ask-requires : tie.Need-ask-requires
-ask-requires c κs = search needs
-
 returns : tie.Need-returns
 returns c =
     let s = c .before .before .before in
     first-more (askSet (s .args .self) (s .args .hot .now)) (asks-demand (s .args .self) (s .args .hot .now) (s .args .demand-rate)) _ (c .before .ask .ensures) (c .if1 .taken)
-
-is-magnitude-requires : tie.Need-is-magnitude-requires
-is-magnitude-requires c κs = search needs
 
 returns-2 : tie.Need-returns-2
 returns-2 c =
@@ -40,4 +34,4 @@ returns-3 c =
 
 pub ask-update-spec : {M : Type 1} → statement M
 ask-update-spec =
-    tie.close (tie.spec ask-requires returns is-magnitude-requires returns-2 returns-3)
+    tie.close (tie.spec (λ c κs. search needs) returns (λ c κs. search needs) returns-2 returns-3)

@@ -30,23 +30,11 @@ free c = sym (c .before .before .get .ensures) ∙ ap slot (c .enum-told .given 
 get-requires : tie.Need-get-requires
 get-requires c κs = held-now _ _ (c .before .before .pre)
 
-enum-known-entry : tie.Need-enum-known-entry
-enum-known-entry c = search needs
-
-cool-requires : tie.Need-cool-requires
-cool-requires c κs = search needs
-
 put-requires : tie.Need-put-requires
 put-requires c κs =
     let f = c .before .before in
     let s = there (f .before) in
     (held-now _ _ (s .pre), kept-room (s .args .self) (s .args .hot .now) (s .pre) (s .args .key) _ _ (found (f .before)) (same-key f))
-
-counted-requires : tie.Need-counted-requires
-counted-requires c κs = search needs
-
-same-length : tie.Need-same-length
-same-length c = search needs
 
 returns : tie.Need-returns
 returns c =
@@ -65,18 +53,6 @@ sub-counted c =
     let s = there (f .before) in
     omega (arith, gone-count (s .args .self) (s .args .hot .now) (s .pre) (s .args .key) _ (f .cool .result) (found (f .before)) (same-key f))
 
-counted-requires-2 : tie.Need-counted-requires-2
-counted-requires-2 c κs = search needs
-
-enum-told : tie.Need-enum-told
-enum-told c = search needs
-
-promote-requires : tie.Need-promote-requires
-promote-requires c κs = search needs
-
-same-length-2 : tie.Need-same-length-2
-same-length-2 c = search needs
-
 returns-2 : tie.Need-returns-2
 returns-2 c =
     let p = c .before .before in
@@ -85,12 +61,6 @@ returns-2 c =
     let s = away e in
     absent-elsewhere (s .args .self) (s .args .hot .now) (s .pre) (s .args .margin) (s .args .key) (s .args .demand-rate) (s .args .now) (s .args .hot-elsewhere) _ _ (free e) (t .if3 .taken) (p .promote .ensures)
 
-counted-requires-3 : tie.Need-counted-requires-3
-counted-requires-3 c κs = search needs
-
-same-length-3 : tie.Need-same-length-3
-same-length-3 c = search needs
-
 returns-3 : tie.Need-returns-3
 returns-3 c =
     let r = c .before .before .before in
@@ -98,9 +68,6 @@ returns-3 c =
     let f = e .before .before in
     let s = there (f .before) in
     cooled-leaves (s .args .self) (s .args .hot .now) (s .pre) (s .args .margin) (s .args .key) (s .args .demand-rate) (s .args .now) (s .args .hot-elsewhere) _ _ _ _ (found (f .before)) (f .cool .ensures) (neither _ _ (e .before .if1 .left) (e .if2 .left)) (c .counted2 .ensures) (r .remove .ensures)
-
-same-length-4 : tie.Need-same-length-4
-same-length-4 c = search needs
 
 returns-4 : tie.Need-returns-4
 returns-4 c =
@@ -114,21 +81,21 @@ below-threshold-spec =
     tie.close
     (tie.spec
     get-requires
-    enum-known-entry
-    cool-requires
+    (λ c. search needs)
+    (λ c κs. search needs)
     put-requires
-    counted-requires
-    same-length
+    (λ c κs. search needs)
+    (λ c. search needs)
     returns
     remove-requires
     sub-counted
-    counted-requires-2
-    enum-told
-    promote-requires
-    same-length-2
+    (λ c κs. search needs)
+    (λ c. search needs)
+    (λ c κs. search needs)
+    (λ c. search needs)
     returns-2
-    counted-requires-3
-    same-length-3
+    (λ c κs. search needs)
+    (λ c. search needs)
     returns-3
-    same-length-4
+    (λ c. search needs)
     returns-4)

@@ -28,12 +28,6 @@ put-requires c κs =
     let s = w .before .before .before in
     (evict-held (s .args .self) (s .args .hot .now) (s .pre .0) (s .args .entry) (w .weakest .result) (s .pre .1 .0) (s .pre .1 .1) (w .weakest .ensures) _ (r .remove .ensures), evict-room (s .args .self) (s .args .hot .now) (s .pre .0) (s .args .entry) (w .weakest .result) (s .pre .1 .0) (s .pre .1 .1) (w .weakest .ensures) _ (r .remove .ensures))
 
-counted-requires : tie.Need-counted-requires
-counted-requires c κs = search needs
-
-same-length : tie.Need-same-length
-same-length c = search needs
-
 returns : tie.Need-returns
 returns c =
     let p = c .before .before .before in
@@ -42,12 +36,6 @@ returns c =
     let w = t .before .before .before in
     let s = w .before .before .before in
     evicted (s .args .self) (s .args .hot .now) (s .pre .0) (s .args .entry) (w .weakest .result) (s .pre .1 .0) (s .pre .1 .1) (w .weakest .ensures) _ (r .remove .ensures) (s .args .margin) _ _ (t .if1 .taken) (c .counted .ensures) (p .put .ensures)
-
-counted-requires-2 : tie.Need-counted-requires-2
-counted-requires-2 c κs = search needs
-
-same-length-2 : tie.Need-same-length-2
-same-length-2 c = search needs
 
 returns-2 : tie.Need-returns-2
 returns-2 c =
@@ -64,9 +52,9 @@ evict-spec =
     remove-requires
     sub-put
     put-requires
-    counted-requires
-    same-length
+    (λ c κs. search needs)
+    (λ c. search needs)
     returns
-    counted-requires-2
-    same-length-2
+    (λ c κs. search needs)
+    (λ c. search needs)
     returns-2)

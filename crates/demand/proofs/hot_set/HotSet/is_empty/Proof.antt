@@ -5,9 +5,6 @@ use Rattle.demand.proofs.HotSetAnswers.{numbered-set}
 use Rattle.demand.proofs.hot_set.HotSet.is_empty.Statement.{statement}
 use Rattle.demand.proofs.hot_set.HotSet.is_empty.Tie as tie
 
-ask-requires : tie.Need-ask-requires
-ask-requires c κs = search needs
-
 returns : tie.Need-returns
 returns c = answer-no _ _ _ (c .before .ask .ensures) (c .if1 .taken)
 
@@ -17,4 +14,4 @@ returns-2 c =
     answer-passed _ _ (passed-none _ _ (numbered-set (s .args .self) (s .args .hot .now) nan) (c .before .before .ask .ensures) (c .before .if1 .left))
 
 pub is-empty-spec : {M : Type 1} → statement M
-is-empty-spec = tie.close (tie.spec ask-requires returns returns-2)
+is-empty-spec = tie.close (tie.spec (λ c κs. search needs) returns returns-2)

@@ -14,20 +14,11 @@ use Rattle.demand.proofs.hot_set.HotSet.is_primary.Tie as tie
 asked : (c : tie.Else1) → passes (askSet (c .before .before .before .args .self) (c .before .before .before .args .hot .now)) ≡ true
 asked c = let s = c .before .before .before in passed-none _ _ (numbered-set (s .args .self) (s .args .hot .now) nan) (c .before .ask .ensures) (c .if1 .left)
 
-ask-requires : tie.Need-ask-requires
-ask-requires c κs = search needs
-
 returns : tie.Need-returns
 returns c = answer-no _ _ _ (c .before .ask .ensures) (c .if1 .taken)
 
 get-requires : tie.Need-get-requires
 get-requires c κs = passed-set _ _ (asked c) .held
-
-enum-known-entry : tie.Need-enum-known-entry
-enum-known-entry c = search needs
-
-enum-told : tie.Need-enum-told
-enum-told c = search needs
 
 returns-2 : tie.Need-returns-2
 returns-2 c = let g = c .before .before .before in answer-slot primaryOf _ (g .get .result) _ _ (asked (g .before)) (g .get .ensures) (ap slot (c .before .entry .given .1))
@@ -38,4 +29,4 @@ returns-3 c = let g = c .before .before in answer-slot primaryOf _ (g .get .resu
 pub is-primary-spec : {M : Type 1} → statement M
 is-primary-spec =
     tie.close
-    (tie.spec ask-requires returns get-requires enum-known-entry enum-told returns-2 returns-3)
+    (tie.spec (λ c κs. search needs) returns get-requires (λ c. search needs) (λ c. search needs) returns-2 returns-3)

@@ -5,9 +5,6 @@ use Rattle.demand.proofs.HotSetAnswers.{numbered-set}
 use Rattle.demand.proofs.hot_set.HotSet.len.Statement.{statement}
 use Rattle.demand.proofs.hot_set.HotSet.len.Tie as tie
 
-ask-requires : tie.Need-ask-requires
-ask-requires c κs = search needs
-
 returns : tie.Need-returns
 returns c = answer-no _ _ _ (c .before .ask .ensures) (c .if1 .taken)
 
@@ -17,4 +14,4 @@ returns-2 c =
     answer-passed _ _ (passed-none _ _ (numbered-set (s .args .self) (s .args .hot .now) nan) (c .before .ask .ensures) (c .if1 .left))
 
 pub len-spec : {M : Type 1} → statement M
-len-spec = tie.close (tie.spec ask-requires returns returns-2)
+len-spec = tie.close (tie.spec (λ c κs. search needs) returns returns-2)

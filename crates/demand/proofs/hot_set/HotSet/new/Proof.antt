@@ -5,15 +5,9 @@ use Rattle.gcra.specs.Questions.{answer}
 use Rattle.demand.proofs.hot_set.HotSet.new.Statement.{statement}
 use Rattle.demand.proofs.hot_set.HotSet.new.Tie as tie
 
-has-room-requires : tie.Need-has-room-requires
-has-room-requires c κs = search needs
-
 returns : tie.Need-returns
 unfolding answer
 returns c = rw (sym (c .before .has-room .ensures) ∙ not-true _ (c .if1 .taken))
-
-is-valid-size-requires : tie.Need-is-valid-size-requires
-is-valid-size-requires c κs = search needs
 
 returns-2 : tie.Need-returns-2
 unfolding answer
@@ -25,4 +19,4 @@ returns-3 c = rw (sym (c .before .before .before .has-room .ensures) ∙ not-fal
 
 pub new-spec : {M : Type 1} → statement M
 new-spec =
-    tie.close (tie.spec has-room-requires returns is-valid-size-requires returns-2 returns-3)
+    tie.close (tie.spec (λ c κs. search needs) returns (λ c κs. search needs) returns-2 returns-3)

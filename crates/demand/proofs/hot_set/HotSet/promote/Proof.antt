@@ -31,41 +31,17 @@ passed-full s l = let p = passed-set (s .args .self) (s .args .hot .now) (s .pre
 get-requires : tie.Need-get-requires
 get-requires c κs = let s = c .before .before in held-now _ _ (s .pre)
 
-enum-known-entry : tie.Need-enum-known-entry
-enum-known-entry c = search needs
-
-renewed-requires : tie.Need-renewed-requires
-renewed-requires c κs = search needs
-
 put-requires : tie.Need-put-requires
 put-requires c κs =
     let k = c .before .before in
     let s = there k in
     (held-now _ _ (s .pre), kept-room (s .args .self) (s .args .hot .now) (s .pre) (s .args .key) _ _ (found k) (ap (λ (e : HotEntry). e .key) (c .renewed .ensures)))
 
-counted-requires : tie.Need-counted-requires
-counted-requires c κs = search needs
-
-enum-told : tie.Need-enum-told
-enum-told c = search needs
-
-new-requires : tie.Need-new-requires
-new-requires c κs = search needs
-
 put-requires-2 : tie.Need-put-requires-2
 put-requires-2 c κs =
     let k = c .before .before .before .before in
     let s = k .before .before .before .before .before in
     (held-now _ _ (s .pre), more-room (s .args .self) (s .args .hot .now) (s .pre) (s .args .key) _ (free k) (ap (λ (e : HotEntry). e .key) (c .before .before .before .new .ensures)) (c .before .if1 .taken))
-
-add-counted : tie.Need-add-counted
-add-counted c = search needs
-
-counted-requires-2 : tie.Need-counted-requires-2
-counted-requires-2 c κs = search needs
-
-same-length : tie.Need-same-length
-same-length c = search needs
 
 returns : tie.Need-returns
 returns c =
@@ -82,9 +58,6 @@ evict-requires c κs =
     let s = n .before .before .before .before .before .before in
     (s .pre, (passed-full s (e .if1 .left), ap (λ (x : HotEntry). get (x .key) (held (s .args .self) (s .args .hot .now))) (n .new .ensures) ∙ free (n .before)))
 
-same-length-2 : tie.Need-same-length-2
-same-length-2 c = search needs
-
 returns-2 : tie.Need-returns-2
 returns-2 c =
     let p = c .before .before .before in
@@ -92,9 +65,6 @@ returns-2 c =
     let k = w .before .before in
     let s = there k in
     promoted-there (s .args .self) (s .args .hot .now) (s .pre) (s .args .margin) (s .args .key) (s .args .demand-rate) (s .args .primary) (s .args .now) _ _ _ _ (found k) (w .renewed .ensures) (c .counted .ensures) (p .put .ensures)
-
-same-length-3 : tie.Need-same-length-3
-same-length-3 c = search needs
 
 returns-3 : tie.Need-returns-3
 returns-3 c =
@@ -109,19 +79,19 @@ promote-spec =
     tie.close
     (tie.spec
     get-requires
-    enum-known-entry
-    renewed-requires
+    (λ c. search needs)
+    (λ c κs. search needs)
     put-requires
-    counted-requires
-    enum-told
-    new-requires
+    (λ c κs. search needs)
+    (λ c. search needs)
+    (λ c κs. search needs)
     put-requires-2
-    add-counted
-    counted-requires-2
-    same-length
+    (λ c. search needs)
+    (λ c κs. search needs)
+    (λ c. search needs)
     returns
     evict-requires
-    same-length-2
+    (λ c. search needs)
     returns-2
-    same-length-3
+    (λ c. search needs)
     returns-3)

@@ -14,20 +14,11 @@ start c = c .before .before .before .before
 asked : (c : tie.Else1) → passes (askUpdate (start c .args .self) (start c .args .hot .now) (start c .args .demand-rate)) ≡ true
 asked c = let s = start c in passed-none _ _ (numbered-update (s .args .self) (s .args .hot .now) (s .args .demand-rate)) (c .before .ask-update .ensures) (c .if1 .left)
 
-ask-update-requires : tie.Need-ask-update-requires
-ask-update-requires c κs = search needs
-
-same-length : tie.Need-same-length
-same-length c = search needs
-
 returns : tie.Need-returns
 returns c = record { answered = answer-no _ _ _ (c .before .ask-update .ensures) (c .if1 .taken); left = kept-no _ _ _ _ (c .before .ask-update .ensures) (c .if1 .taken) }
 
 update-with-margin-requires : tie.Need-update-with-margin-requires
 update-with-margin-requires c κs = let s = start (c .before) in update-passed-set (s .args .self) (s .args .hot .now) (s .args .demand-rate) (asked (c .before))
-
-same-length-2 : tie.Need-same-length-2
-same-length-2 c = search needs
 
 returns-2 : tie.Need-returns-2
 returns-2 c =
@@ -41,4 +32,4 @@ returns-2 c =
 pub update-with-spec : {M : Type 1} → statement M
 update-with-spec =
     tie.close
-    (tie.spec ask-update-requires same-length returns update-with-margin-requires same-length-2 returns-2)
+    (tie.spec (λ c κs. search needs) (λ c. search needs) returns update-with-margin-requires (λ c. search needs) returns-2)

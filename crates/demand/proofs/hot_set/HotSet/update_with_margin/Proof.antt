@@ -3,24 +3,12 @@ use Rattle.demand.proofs.HotSetActs.{above-acted, below-acted}
 use Rattle.demand.proofs.hot_set.HotSet.update_with_margin.Statement.{statement}
 use Rattle.demand.proofs.hot_set.HotSet.update_with_margin.Tie as tie
 
-promote-requires : tie.Need-promote-requires
-promote-requires c κs = search needs
-
-same-length : tie.Need-same-length
-same-length c = search needs
-
 returns : tie.Need-returns
 returns c =
     let p = c .before .before in
     let t = p .before .before in
     let s = t .before .before in
     above-acted (s .args .self) (s .args .hot .now) (s .pre) (s .args .margin) (s .args .key) (s .args .demand-rate) (s .args .now) (s .args .hot-elsewhere) _ _ (s .args .threshold) (t .if1 .taken) (p .promote .ensures)
-
-below-threshold-requires : tie.Need-below-threshold-requires
-below-threshold-requires c κs = search needs
-
-same-length-2 : tie.Need-same-length-2
-same-length-2 c = search needs
 
 returns-2 : tie.Need-returns-2
 returns-2 c =
@@ -31,4 +19,4 @@ returns-2 c =
 
 pub update-with-margin-spec : {M : Type 1} → statement M
 update-with-margin-spec =
-    tie.close (tie.spec promote-requires same-length returns below-threshold-requires same-length-2 returns-2)
+    tie.close (tie.spec (λ c κs. search needs) (λ c. search needs) returns (λ c κs. search needs) (λ c. search needs) returns-2)

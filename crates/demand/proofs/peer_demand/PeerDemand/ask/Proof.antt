@@ -5,9 +5,6 @@ use Rattle.gcra.proofs.Answers.{first-no, first-yes, first-none}
 use Rattle.demand.proofs.peer_demand.PeerDemand.ask.Statement.{statement}
 use Rattle.demand.proofs.peer_demand.PeerDemand.ask.Tie as tie
 
-has-room-requires : tie.Need-has-room-requires
-has-room-requires c κs = search needs
-
 returns : tie.Need-returns
 returns c = first-no 1 _ (told-no (c .before .has-room .ensures) (c .if1 .taken))
 
@@ -25,4 +22,4 @@ returns-3 c =
     (first-yes 2 _ (told-yes (c .before .is-valid .ensures) (c .if2 .left)) first-none)
 
 pub ask-spec : {M : Type 1} → statement M
-ask-spec = tie.close (tie.spec has-room-requires returns is-valid-requires returns-2 returns-3)
+ask-spec = tie.close (tie.spec (λ c κs. search needs) returns is-valid-requires returns-2 returns-3)

@@ -50,9 +50,6 @@ add-count c = omega (arith, turn c, small c)
 add-i : tie.Need-add-i Inv-loop μ-loop
 add-i c = omega (arith, small c)
 
-loop-less : tie.Need-loop-less Inv-loop μ-loop
-loop-less c = omega arith
-
 loop-again : tie.Need-loop-again Inv-loop μ-loop
 loop-again c = (omega arith, omega (arith, turn c), omega (arith, turn c))
 
@@ -72,6 +69,6 @@ count-keys-spec =
     count-unlisted-requires
     add-count
     add-i
-    loop-less
+    (λ c. omega arith)
     loop-again
     returns)

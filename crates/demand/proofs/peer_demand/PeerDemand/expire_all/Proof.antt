@@ -53,15 +53,6 @@ retain-snapshot-keys-requires c κs =
       omega (arith, o .snapshotKeys .within, o .snapshotKeys .room),
     )
 
-same-length : tie.Need-same-length
-same-length c = search needs
-
-same-length-2 : tie.Need-same-length-2
-same-length-2 c = search needs
-
-same-length-3 : tie.Need-same-length-3
-same-length-3 c = search needs
-
 returns : tie.Need-returns
 returns c =
     let k = c .before .before in
@@ -81,7 +72,7 @@ expire-all-spec =
     age-peers-requires
     retain-peers-requires
     retain-snapshot-keys-requires
-    same-length
-    same-length-2
-    same-length-3
+    (λ c. search needs)
+    (λ c. search needs)
+    (λ c. search needs)
     returns)

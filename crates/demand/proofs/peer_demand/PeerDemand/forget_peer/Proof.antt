@@ -29,32 +29,14 @@ second c = c .before .before .before .before
 abbrev third : tie.After-none3 → tie.After-replace-run2
 third c = c .before .before .before .before
 
-slice-aggregate-replace-run : tie.Need-slice-aggregate-replace-run
-slice-aggregate-replace-run c = search needs
-
 replace-run-requires : tie.Need-replace-run-requires
 replace-run-requires c κs = let s = start c in in-order-run 12 1 _ (s .args .id) _ (omega arith) (peers s)
-
-slice-aggregate-replace-run-2 : tie.Need-slice-aggregate-replace-run-2
-slice-aggregate-replace-run-2 c = search needs
 
 replace-run-requires-2 : tie.Need-replace-run-requires-2
 replace-run-requires-2 c κs = let s = start (second c .before) in in-order-run 4 2 _ (s .args .id) _ (omega arith) (keys s)
 
-slice-aggregate-replace-run-3 : tie.Need-slice-aggregate-replace-run-3
-slice-aggregate-replace-run-3 c = search needs
-
 replace-run-requires-3 : tie.Need-replace-run-requires-3
 replace-run-requires-3 c κs = let s = start (second (third c .before) .before) in in-order-run 6 2 _ (s .args .id) _ (omega arith) (contested s)
-
-same-length : tie.Need-same-length
-same-length c = search needs
-
-same-length-2 : tie.Need-same-length-2
-same-length-2 c = search needs
-
-same-length-3 : tie.Need-same-length-3
-same-length-3 c = search needs
 
 returns : tie.Need-returns
 returns c =
@@ -73,13 +55,13 @@ pub forget-peer-spec : {M : Type 1} → statement M
 forget-peer-spec =
     tie.close
     (tie.spec
-    slice-aggregate-replace-run
+    (λ c. search needs)
     replace-run-requires
-    slice-aggregate-replace-run-2
+    (λ c. search needs)
     replace-run-requires-2
-    slice-aggregate-replace-run-3
+    (λ c. search needs)
     replace-run-requires-3
-    same-length
-    same-length-2
-    same-length-3
+    (λ c. search needs)
+    (λ c. search needs)
+    (λ c. search needs)
     returns)

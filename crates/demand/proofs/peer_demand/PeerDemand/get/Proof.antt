@@ -18,20 +18,11 @@ ready c =
     (λ i. a .before .before .shared-slice-known2 .given i .fits)
     (λ i. a .before .shared-slice-known3 .given i .fits)
 
-ask-requires : tie.Need-ask-requires
-ask-requires c κs = search needs
-
 returns : tie.Need-returns
 returns c = answer-no _ _ (c .before .ask .result) (c .before .ask .ensures) (c .if1 .taken)
 
 heard-by-requires : tie.Need-heard-by-requires
 heard-by-requires c κs = ready c
-
-enum-told : tie.Need-enum-told
-enum-told c = search needs
-
-enum-known-h : tie.Need-enum-known-h
-enum-known-h c = search needs
 
 returns-2 : tie.Need-returns-2
 returns-2 c =
@@ -46,4 +37,4 @@ returns-3 c =
 pub get-spec : {M : Type 1} → statement M
 get-spec =
     tie.close
-    (tie.spec ask-requires returns heard-by-requires enum-told enum-known-h returns-2 returns-3)
+    (tie.spec (λ c κs. search needs) returns heard-by-requires (λ c. search needs) (λ c. search needs) returns-2 returns-3)

@@ -22,25 +22,10 @@ place c =
     let b = c .before .before in
     id-at (s .self .peers) (s .peers .now) (st .pre .peers) (s .id) (c .i .given .0 .0) (find-says 12 1 (s .self .peers) (s .id) 0 (s .peers .now) (omega arith) (omega arith) (omega arith) (st .pre .peers .fit) (b .find .result) (b .find .ensures) ∙ c .i .given .1)
 
-find-requires : tie.Need-find-requires
-find-requires c κs = search needs
-
-enum-known-i : tie.Need-enum-known-i
-enum-known-i c = search needs
-
 heard-from-requires : tie.Need-heard-from-requires
 heard-from-requires c κs =
     let st = start (c .before) in
     (st .pre, place (c .before) .0)
-
-enum-known-i-2 : tie.Need-enum-known-i-2
-enum-known-i-2 c = search needs
-
-heard-contested-requires : tie.Need-heard-contested-requires
-heard-contested-requires c κs = search needs
-
-enum-told : tie.Need-enum-told
-enum-told c = search needs
 
 returns : tie.Need-returns
 returns c =
@@ -67,12 +52,12 @@ pub heard-by-spec : {M : Type 1} → statement M
 heard-by-spec =
     tie.close
     (tie.spec
-    find-requires
-    enum-known-i
+    (λ c κs. search needs)
+    (λ c. search needs)
     heard-from-requires
-    enum-known-i-2
-    heard-contested-requires
-    enum-told
+    (λ c. search needs)
+    (λ c κs. search needs)
+    (λ c. search needs)
     returns
     returns-2
     returns-3)

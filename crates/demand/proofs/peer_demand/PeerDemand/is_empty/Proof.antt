@@ -21,9 +21,6 @@ ready c =
     (λ i. a .before .before .shared-slice-known2 .given i .fits)
     (λ i. a .before .shared-slice-known3 .given i .fits)
 
-ask-requires : tie.Need-ask-requires
-ask-requires c κs = search needs
-
 returns : tie.Need-returns
 returns c = answer-no _ _ (c .before .ask .result) (c .before .ask .ensures) (c .if1 .taken)
 
@@ -38,4 +35,4 @@ returns-2 c =
     answer-yes _ _ (e .before .ask .result) _ _ (e .before .ask .ensures) (e .if1 .left) (ap (λ (m : ℕ). eqb m 0) all-keys)
 
 pub is-empty-spec : {M : Type 1} → statement M
-is-empty-spec = tie.close (tie.spec ask-requires returns count-keys-requires returns-2)
+is-empty-spec = tie.close (tie.spec (λ c κs. search needs) returns count-keys-requires returns-2)

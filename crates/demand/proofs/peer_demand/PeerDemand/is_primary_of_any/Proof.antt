@@ -26,20 +26,11 @@ loop-holds c =
 heard-from-requires : tie.Need-heard-from-requires Inv-loop μ-loop
 heard-from-requires c κs = (c .before .before .before .before .before .pre, c .loop-test .taken)
 
-is-primary-requires : tie.Need-is-primary-requires Inv-loop μ-loop
-is-primary-requires c κs = search needs
-
 returns : tie.Need-returns Inv-loop μ-loop
 returns c =
     let s = c .before .before .before .before .before .before .before .before .args in
     let l = c .before .before .before .before .loop in
     hot-here (s .self) (tables (s .peers .now) (s .snapshot-keys .now) (s .contested .now)) (s .key) (l .i) (omega arith) (ap isPrimary (sym (c .before .before .heard-from .ensures)) ∙ sym (c .before .is-primary .ensures) ∙ c .if1 .taken) (l .inv .1)
-
-add-i : tie.Need-add-i Inv-loop μ-loop
-add-i c = omega arith
-
-loop-less : tie.Need-loop-less Inv-loop μ-loop
-loop-less c = omega arith
 
 loop-again : tie.Need-loop-again Inv-loop μ-loop
 loop-again c =
@@ -61,9 +52,9 @@ is-primary-of-any-spec =
     μ-loop
     loop-holds
     heard-from-requires
-    is-primary-requires
+    (λ c κs. search needs)
     returns
-    add-i
-    loop-less
+    (λ c. omega arith)
+    (λ c. omega arith)
     loop-again
     returns-2)

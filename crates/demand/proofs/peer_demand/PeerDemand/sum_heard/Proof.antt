@@ -28,15 +28,6 @@ loop-holds c =
 heard-from-requires : tie.Need-heard-from-requires Inv-loop μ-loop
 heard-from-requires c κs = (c .before .before .before .before .before .pre, c .loop-test .taken)
 
-add-heard-requires : tie.Need-add-heard-requires Inv-loop μ-loop
-add-heard-requires c κs = search needs
-
-add-i : tie.Need-add-i Inv-loop μ-loop
-add-i c = omega arith
-
-loop-less : tie.Need-loop-less Inv-loop μ-loop
-loop-less c = omega arith
-
 loop-again : tie.Need-loop-again Inv-loop μ-loop
 loop-again c =
     let s = c .before .before .before .before .before .before .before .args in
@@ -58,8 +49,8 @@ sum-heard-spec =
     μ-loop
     loop-holds
     heard-from-requires
-    add-heard-requires
-    add-i
-    loop-less
+    (λ c κs. search needs)
+    (λ c. omega arith)
+    (λ c. omega arith)
     loop-again
     returns)
