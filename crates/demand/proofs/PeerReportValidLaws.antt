@@ -14,7 +14,6 @@ use Rattle.records.proofs.TestLaws.{split, both, and-intro}
 use Rattle.demand.specs.declared.peer_demand.KeyDemand.{KeyDemand}
 use Rattle.demand.specs.declared.peer_demand.DemandReport.{DemandReport}
 use Rattle.demand.specs.declared.peer_demand.Verdict.{Verdict}
-use Rattle.demand.specs.declared.peer_demand.Verdict.the-variants as verdict
 use Rattle.demand.specs.PeerLists.{all, first, those}
 use Rattle.demand.specs.PeerRecords.{Snapshot, PeerRecord, SnapshotKey, ContestedKey, timeWords, snapshotWords, pastWords, peerWords}
 use Rattle.demand.specs.PeerState.{PeersState, isWord, peerWith, isKnown, snapshotKeysOf, contestedKeysOf, valid, validSnapshot, validPast, validPeer, validSnapshotKey}

@@ -20,7 +20,7 @@ use Rattle.records.proofs.SearchLaws.{find-fit}
 use Rattle.records.proofs.PlaceLaws.{find-cases}
 use Rattle.demand.specs.PeerLists.{all}
 use Rattle.demand.specs.PeerState.{isDemand}
-use Rattle.demand.specs.Steps.PeerScan.{isPeer, arePeerWords, areKeyWords, firstWord}
+use Rattle.demand.specs.Steps.PeerScan.{areKeyWords, firstWord}
 use Rattle.demand.proofs.PeerListLaws.{all-here, all-end}
 
 -- word j of record i

@@ -14,7 +14,6 @@ use Rattle.records.proofs.RecordLaws.{fits-intro, length-records, flat-records}
 use Rattle.demand.specs.declared.peer_demand.DemandReport.{DemandReport}
 use Rattle.demand.specs.declared.peer_demand.PeerDemand.{PeerDemand}
 use Rattle.demand.specs.declared.peer_demand.Verdict.{Verdict}
-use Rattle.demand.specs.declared.peer_demand.Verdict.the-variants as verdict
 use Rattle.demand.specs.PeerLists.{first, only, those}
 use Rattle.demand.specs.PeerRecords.{PeerRecord, SnapshotKey, peerWords, snapshotKeyWords, contestedWords, peerOf}
 use Rattle.demand.specs.PeerState.{PeersState, PeerTables, peerWith, isKnown, hasSnapshot, snapshotKeysOf, peersSize, snapshotKeysSize, contestedSize, stateOf, exact, Stores}

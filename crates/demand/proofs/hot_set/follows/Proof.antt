@@ -1,3 +1,4 @@
+-- `follows` meets its contract.
 use borrow.Author.Needs.{needs}
 use Rattle.demand.proofs.HotSetTests.{first-follows, next-follows}
 use Rattle.demand.proofs.hot_set.follows.Statement.{statement}

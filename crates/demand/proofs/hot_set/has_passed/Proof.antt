@@ -1,3 +1,4 @@
+-- `has_passed` meets its contract.
 use Prim.Native.Nat.{_-_}
 use borrow.Author.Needs.{needs}
 use Rattle.demand.proofs.HotSetTests.{zero-span}

@@ -1,3 +1,4 @@
+-- `has_room` meets its contract.
 use borrow.Author.Needs.{needs}
 use Rattle.demand.proofs.HotSetTests.{room-most, room-less}
 use Rattle.demand.proofs.hot_set.has_room.Statement.{statement}

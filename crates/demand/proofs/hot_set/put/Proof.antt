@@ -1,3 +1,4 @@
+-- `put` meets its contract.
 use mathlib.Core.Path.{sym, _∙_}
 use borrow.Author.Needs.{needs}
 use Rattle.demand.proofs.HotSetMap.{put-at, put-gap, never-unfit}

@@ -1,3 +1,4 @@
+-- `remove` meets its contract.
 use mathlib.Core.Path.{sym, _∙_}
 use borrow.Author.Needs.{needs}
 use Rattle.demand.proofs.HotSetMap.{removed-at, removed-none, gap-says, never-unfit}

@@ -1,3 +1,4 @@
+-- `HotEntry::of_words` meets its contract.
 use borrow.Author.Needs.{needs}
 use Rattle.demand.proofs.HotSetWords.{entry-at}
 use Rattle.demand.proofs.hot_set.HotEntry.of_words.Statement.{statement}

@@ -1,3 +1,4 @@
+-- `HotEntry::words` meets its contract.
 use borrow.Author.Needs.{needs}
 use Rattle.demand.specs.HotSet.{words}
 use Rattle.demand.proofs.hot_set.HotEntry.words.Statement.{statement}

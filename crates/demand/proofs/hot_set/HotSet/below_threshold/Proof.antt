@@ -1,3 +1,4 @@
+-- `HotSet::below_threshold` meets its contract.
 use mathlib.Core.Logic.{⊎-elim, inl, inr}
 use mathlib.Core.Option.{none, some}
 use mathlib.Core.Path.{_≡_, refl, sym, ap, _∙_}

@@ -1,3 +1,4 @@
+-- `HotSet::evict` meets its contract.
 use mathlib.Core.Path.{refl}
 use Prim.Native.Nat.{_<_}
 use native.Mathlib.Omega.{arith}

@@ -1,3 +1,4 @@
+-- `HotSet::is_primary` meets its contract.
 use mathlib.Core.Bool.{true}
 use mathlib.Core.Path.{_≡_, ap}
 use borrow.Author.Needs.{needs}

@@ -1,3 +1,4 @@
+-- `HotSet::len` meets its contract.
 use borrow.Author.Needs.{needs}
 use lib.Ieee.{nan}
 use Rattle.gcra.proofs.Answers.{answer-no, answer-passed, passed-none}

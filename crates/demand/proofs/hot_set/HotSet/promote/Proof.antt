@@ -1,3 +1,4 @@
+-- `HotSet::promote` meets its contract.
 use mathlib.Core.Option.{none, some}
 use mathlib.Core.Path.{_≡_, sym, ap, _∙_}
 use Prim.Native.Nat.{_≤_}

@@ -1,3 +1,4 @@
+-- `HotSet::update` meets its contract.
 use borrow.Author.Needs.{needs}
 use Rattle.demand.proofs.hot_set.HotSet.update.Statement.{statement}
 use Rattle.demand.proofs.hot_set.HotSet.update.Tie as tie
