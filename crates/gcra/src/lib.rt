@@ -1,6 +1,7 @@
 // The meter: ITU-T I.371's virtual scheduling, known as GCRA, whose state is one number, the TAT
 // (theoretical arrival time). A check whose reading is below TAT - tau is denied; an allowed one adds
 // T, the interval, to the TAT.
+use float::whole;
 ghost use mathlib.Core.Path.{_≡_};
 ghost use Prim.Native.Nat.{_+_, _-_, _*_, _^_, _≤_, _<_, min, max};
 ghost use Rattle.gcra.specs.Packed as Packed;
@@ -144,30 +145,6 @@ fn div_ceil(n: u64, d: u64) -> u64
     (n + (d - 1)) / d
 }
 
-fn saturating_add(a: u64, b: u64) -> u64
-    ensures { λ r. ⌜ r ≡ min (a + b) (2 ^ 64 - 1) ⌝ }
-{
-    if a <= u64::MAX - b { a + b } else { u64::MAX }
-}
-
-fn saturating_sub(a: u64, b: u64) -> u64
-    ensures { λ r. ⌜ r ≡ a - b ⌝ }
-{
-    if b <= a { a - b } else { 0 }
-}
-
-fn min(a: u64, b: u64) -> u64
-    ensures { λ r. ⌜ r ≡ min a b ⌝ }
-{
-    if a < b { a } else { b }
-}
-
-fn max(a: u64, b: u64) -> u64
-    ensures { λ r. ⌜ r ≡ max a b ⌝ }
-{
-    if a < b { b } else { a }
-}
-
 // The width of a unit code; the unused code 3 counts as the third.
 fn unit_nanos(units: Units, unit: u64) -> u64
     ensures { λ r. ⌜ r ≡ Packed.width units unit ⌝ }
@@ -243,7 +220,7 @@ impl Quota {
             return longest;
         }
         if quotient >= 1.0 {
-            return min(float::f64_to_u64(quotient), longest);
+            return whole::min(float::f64_to_u64(quotient), longest);
         }
         if quotient > 0.0 { 1 } else { longest }
     }
@@ -284,7 +261,7 @@ impl Quota {
         requires { ⌜ Accepted units ⌝ }
         ensures { λ r. ⌜ r ≡ min (max interval 1) (Packed.maxInterval units) ⌝ }
     {
-        min(max(interval, 1), Self::max_interval(units))
+        whole::min(whole::max(interval, 1), Self::max_interval(units))
     }
 
     // The first unit whose rounded-up value is below 2^40, and that value.
@@ -500,7 +477,7 @@ impl Decision {
 fn attempt(quota: Decoded, tat: u64, now: u64) -> Stepped
     ensures { λ r. ⌜ r ≡ Meter.attempt quota tat now ⌝ }
 {
-    let earliest = saturating_sub(tat, quota.tau);
+    let earliest = whole::saturating_sub(tat, quota.tau);
     if now < earliest {
         return Stepped {
             decision: Decision::Deny { retry_at: earliest },
@@ -509,7 +486,7 @@ fn attempt(quota: Decoded, tat: u64, now: u64) -> Stepped
     }
     Stepped {
         decision: Decision::Allow,
-        tat: saturating_add(max(tat, now), quota.t),
+        tat: whole::saturating_add(whole::max(tat, now), quota.t),
     }
 }
 
@@ -525,7 +502,7 @@ pub fn step(tat: u64, packed: u64, now: u64) -> Stepped
 fn debt_slots(tat: u64, old: Quota, new: Quota, now: u64) -> f64
     ensures { λ r. ⌜ r ≡ Rate.debtSlots tat old new now ⌝ }
 {
-    let debt = float::u64_to_f64(saturating_sub(tat, now));
+    let debt = float::u64_to_f64(whole::saturating_sub(tat, now));
     let computed = debt / float::u64_to_f64(old.interval);
     if tat != u64::MAX {
         return computed;
@@ -540,7 +517,7 @@ fn carry_tat(tat: u64, old: Quota, new: Quota, now: u64) -> u64
     ensures { λ r. ⌜ r ≡ Rate.carryTat tat old new now ⌝ }
 {
     let nanos = debt_slots(tat, old, new, now) * float::u64_to_f64(new.interval);
-    saturating_add(now, float::f64_to_u64(float::round(nanos)))
+    whole::saturating_add(now, float::f64_to_u64(float::round(nanos)))
 }
 
 impl Gcra {
