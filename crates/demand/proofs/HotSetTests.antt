@@ -1,13 +1,12 @@
 -- The small tests of the hot set.
-use mathlib.Core.Path.{_≡_, refl, sym, ap, _∙_}
+use mathlib.Core.Path.{_≡_, refl, ap}
 use mathlib.Core.Bool.{Bool, true, false, cond}
 use mathlib.Core.List.{List}
 use Prim.Native.Nat.{ℕ, _-_, _*_, _≤_, _<_}
 use native.Mathlib.Omega.{arith}
-use borrow.Author.Tests.{lt-ltb, le-ltb, le-leb, lt-leb, eqb-true, eqb-false}
-use lib.Dec.{ltb, leb, eqb}
+use borrow.Author.Tests.{lt-ltb, le-ltb, le-leb, lt-leb}
+use lib.Dec.{ltb, leb}
 use lib.ListN.{getD}
-use Rattle.records.proofs.TestLaws.{split}
 use lib.Ieee.{Float}
 use Rattle.demand.specs.HotSet.{validSize, renewed, countDown, cooled}
 use Rattle.demand.specs.Steps.HotSetSteps.{follows}
@@ -17,11 +16,6 @@ use Rattle.demand.specs.declared.hot_set.HotEntry.{HotEntry}
 use Rattle.demand.specs.HotSetCalls.{room}
 
 -- no time has passed before `t`
-pub zero-span : (s n t : ℕ) → n < t → eqb s 0 ≡ leb s (n - t)
-zero-span s n t h = split (eqb s 0)
-    (λ e. e ∙ sym (le-leb s (n - t) (omega (arith, eqb-true s 0 e))))
-    (λ e. e ∙ sym (lt-leb s (n - t) (let k = eqb-false s 0 e in omega arith)))
-
 pub first-follows : (at : ℕ) (xs : List ℕ) → at < 6 → true ≡ follows at xs
 unfolding follows
 first-follows at xs h = rw (lt-ltb at 6 h)

@@ -28,6 +28,7 @@ use Rattle.demand.specs.declared.peer_demand.FlagAnswer.the-variants as 
 use Rattle.demand.specs.declared.peer_demand.LenAnswer.{LenAnswer}
 use Rattle.demand.specs.declared.peer_demand.LenAnswer.the-variants as len-answer
 use Rattle.gcra.specs.Questions.{Question, _asks_, Answer, refused, given, answer, passes}
+use Rattle.demand.specs.Allocation.{isClusterSize}
 use Rattle.demand.specs.PeerLists.{all}
 use Rattle.demand.specs.PeerRecords.{PeerRecord}
 use Rattle.demand.specs.PeerState.{PeersState, PeerTables, maxPeers, maxDemandKeys, isWord, isKnown, haveRoom, stateOf, isValid, Becomes}
@@ -69,7 +70,7 @@ lenAnswer (len-answer.Is n) = given n
 
 -- is the cluster size 1 to 65,535?
 abbrev pub clusterQuestions : ℕ → List Question
-clusterQuestions n = (7 asks leb 1 n && leb n 65535) ∷ []
+clusterQuestions n = (7 asks isClusterSize n) ∷ []
 
 -- are the lent tables long enough?
 abbrev pub newQuestions : PeerTables → List Question

@@ -34,7 +34,7 @@ fn is_floor_factor(x: f64) -> bool
 }
 
 // Question 7: 1 to 65,535.
-fn is_cluster_size(n: usize) -> bool
+pub(crate) fn is_cluster_size(n: usize) -> bool
     ensures { λ r. ⌜ r ≡ Allocation.isClusterSize n ⌝ }
 {
     if 1 <= n { n <= 65_535 } else { false }

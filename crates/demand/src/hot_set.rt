@@ -1,6 +1,7 @@
 // The hot keys of a node. A key comes in with a demand above the threshold, as primary, or by the
 // word of a peer that has it so, as secondary. Below the threshold a primary key stays for the
 // cooldown; a full set takes a key in only by evicting its weakest.
+use float::whole;
 ghost use mathlib.Core.Path.{_≡_};
 ghost use mathlib.Core.Bool.{true};
 ghost use mathlib.Core.Option.{none, some};
@@ -11,7 +12,7 @@ ghost use lib.ListN.{length, drop};
 ghost use Rattle.records.specs.Records.{records, table, fits};
 ghost use Rattle.gcra.specs.Questions.{passes};
 ghost use Rattle.demand.specs.HotSet as Set;
-ghost use Rattle.demand.specs.Steps.HotSetSteps.{slot, follows, Held, Acted, Evicts, Promotes, Cools, Updates};
+ghost use Rattle.demand.specs.Steps.HotSetSteps.{slot, follows, Held, Evicts, Promotes, Cools, Updates};
 ghost use Rattle.demand.specs.HotSetCalls as Calls;
 ghost use Rattle.gcra.specs.Questions.{firstNo};
 
@@ -91,16 +92,6 @@ fn flag(b: bool) -> u64
     ensures { λ r. ⌜ r ≡ Set.flag b ⌝ }
 {
     if b { 1 } else { 0 }
-}
-
-// Whether `span` has passed since `then`.
-fn has_passed(span: u64, then: u64, now: u64) -> bool
-    ensures { λ r. ⌜ r ≡ leb span (now - «then») ⌝ }
-{
-    if now < then {
-        return span == 0;
-    }
-    span <= now - then
 }
 
 impl Cooling {
@@ -212,7 +203,7 @@ impl HotEntry {
         }
         let mut left = Cooling::Since(now);
         if let Cooling::Since(t) = cooling {
-            if has_passed(cooldown, t, now) {
+            if cooldown <= whole::saturating_sub(now, t) {
                 return self.renewed(demand, false);
             }
             left = cooling;

@@ -1,21 +1,27 @@
 -- `stale_after_rounds` meets its contract: question 7, then the greater of 10 and three times the cluster size.
+use mathlib.Core.Path.{_≡_, sym, ap, _∙_}
+use mathlib.Core.Bool.{true}
 use native.Mathlib.Omega.{arith}
-use Rattle.demand.proofs.PeerRoundLaws.{no-cluster, large-cluster, some-cluster, few-rounds, many-rounds}
+use borrow.Author.Tests.{not-true, not-false}
+use Rattle.gcra.specs.Questions.{given}
+use Rattle.gcra.proofs.Answers.{alone-no, alone-yes}
+use Rattle.demand.specs.Allocation.{isClusterSize}
+use Rattle.demand.proofs.PeerRoundLaws.{cluster-small}
 use borrow.Author.Needs.{needs}
 use Rattle.demand.proofs.peer_demand.stale_after_rounds.Statement.{statement}
 use Rattle.demand.proofs.peer_demand.stale_after_rounds.Tie as tie
 
+passed : (c : tie.Else1) → isClusterSize (c .before .before .args .cluster-size) ≡ true
+passed c = sym (c .before .is-cluster-size .ensures) ∙ not-false _ (c .if1 .left)
+
 returns : tie.Need-returns
-returns c = no-cluster _ _ (c .if1 .taken)
+returns c = alone-no 7 _ (sym (c .before .is-cluster-size .ensures) ∙ not-true _ (c .if1 .taken))
+
+mul-max : tie.Need-mul-max
+mul-max c = omega (arith, cluster-small (c .before .before .args .cluster-size) (passed c))
 
 returns-2 : tie.Need-returns-2
-returns-2 c = large-cluster _ _ (c .if2 .taken)
-
-returns-3 : tie.Need-returns-3
-returns-3 c = some-cluster (c .before .before .before .args .cluster-size) _ _ (omega arith) (omega arith) (few-rounds _ (c .if3 .taken))
-
-returns-4 : tie.Need-returns-4
-returns-4 c = some-cluster (c .before .before .before .args .cluster-size) _ _ (omega arith) (omega arith) (many-rounds _ (c .if3 .left))
+returns-2 c = ap given (c .max .ensures) ∙ alone-yes 7 _ (passed (c .before))
 
 pub stale-after-rounds-spec : {M : Type 1} → statement M
-stale-after-rounds-spec = tie.close (tie.spec returns returns-2 (λ c. search needs) returns-3 returns-4)
+stale-after-rounds-spec = tie.close (tie.spec (λ c κs. search needs) returns mul-max (λ c κs. search needs) returns-2)
