@@ -18,23 +18,6 @@ ghost use Rattle.demand.specs.PeerChanges.{isFresh, later, hold, agePeer
 ghost use Rattle.demand.specs.Steps.PeerScan.{firstWord};
 ghost use Rattle.demand.specs.Steps.PeerSteps.{inOrder, staysContested, isStale, staysPeer};
 
-// Copies record `from` over record `to`, which is not after it.
-fn move_record(t: &mut [u64], w: usize, from: usize, to: usize)
-    requires { ⌜ (to ≤ from) × (from * w + w ≤ length (now t)) ⌝ }
-    ensures { λ _. ⌜ now (t .exit) ≡ copyWithin (from * w) (from * w + w) (to * w) (now (t .entry)) ⌝ }
-{
-    if to == from {
-        return;
-    }
-    let source = from * w;
-    let target = to * w;
-    let mut j = 0;
-    while j < w {
-        t[target + j] = t[source + j];
-        j += 1;
-    }
-}
-
 // One step of keeping records: the one at `i` goes behind the `kept` first ones, if it stays. Tells
 // how many are kept.
 fn keep_record(t: &mut [u64], w: usize, i: usize, kept: usize, stays: bool) -> usize
@@ -43,7 +26,8 @@ fn keep_record(t: &mut [u64], w: usize, i: usize, kept: usize, stays: bool) -> u
     ensures { λ _. ⌜ now (t .exit) ≡ cond stays (copyWithin (i * w) (i * w + w) (kept * w) (now (t .entry))) (now (t .entry)) ⌝ }
 {
     if stays {
-        move_record(t, w, i, kept);
+        let at = i * w;
+        records::copy_words(t, at, at + w, kept * w);
         return kept + 1;
     }
     kept

@@ -1,12 +1,16 @@
 -- Laws on lists of words, for the moves.
 use mathlib.Core.Path.{_≡_, sym, ap, _∙_}
+use mathlib.Core.Bool.{true, false}
 use mathlib.Core.List.{List, [], _∷_, _++_, append-assoc}
 use Prim.Native.Nat.{ℕ, suc, _+_, _-_, _≤_, _<_}
 use native.Mathlib.Nat.{add-zero}
 use native.Mathlib.Omega.{arith}
+use borrow.Author.Tests.{leb-true, le-leb}
+use lib.Dec.{leb}
 use lib.ListN.{length, take, drop, getD, set, length-append, take-append-drop, List·getD-append}
 use lib.Seq.{slice, slice-cons, slice-empty, length-slice, length-take-le, take-suc, take-take, take-append-le, drop-at, drop-cons, drop-append-le, set-at, getD-append-add, getD-drop, getD-take, append-snoc}
-use Rattle.records.specs.Words.{copyWithin, paste}
+use Rattle.records.specs.Words.{copyWithin, copyable, copied, paste}
+use Rattle.records.proofs.TestLaws.{split, both}
 
 -- one more at the end of a part
 pub slice-snoc : (f t : ℕ) (l : List ℕ) → f ≤ t → t < length l → slice f (suc t) l ≡ slice f t l ++ (getD l t 0 ∷ [])
@@ -117,6 +121,35 @@ copy-here f t xs h k =
     ∙ sym (append-assoc (take f (take t xs)) (slice f t xs) (drop t xs))
     ∙ ap (λ (l : List ℕ). l ++ drop t xs) (take-append-drop f (take t xs))
     ∙ take-append-drop t xs
+
+-- ---- the copy that is refused where it is not within the words
+abbrev pub Within : ℕ → ℕ → ℕ → ℕ → Type 0
+Within len f t d = (f ≤ t) × (t ≤ len) × (d + (t - f) ≤ len)
+
+module _ (f t d : ℕ) (xs : List ℕ) where
+  copyable-is : Within (length xs) f t d → copyable (length xs) f t d ≡ true
+  unfolding copyable
+  copyable-is h = rw (le-leb f t (h .0), le-leb t (length xs) (h .1), le-leb (d + (t - f)) (length xs) (h .2))
+
+  copyable-says : copyable (length xs) f t d ≡ true → Within (length xs) f t d
+  unfolding copyable
+  copyable-says e =
+      let a = both (leb f t) _ e in
+      let b = both (leb t (length xs)) _ (a .1) in
+      (leb-true f t (a .0), leb-true t (length xs) (b .0), leb-true (d + (t - f)) (length xs) (b .1))
+
+  pub copied-is : Within (length xs) f t d → copied f t d xs ≡ copyWithin f t d xs
+  unfolding copied
+  copied-is h = rw (copyable-is h)
+
+  pub copy-done : Within (length xs) f t d → (ys : List ℕ) → ys ≡ copyWithin f t d xs → (true ≡ copyable (length xs) f t d) × (ys ≡ copied f t d xs)
+  copy-done h ys e = (sym (copyable-is h), e ∙ sym (copied-is h))
+
+  pub copy-refused : (Within (length xs) f t d → ⊥) → (false ≡ copyable (length xs) f t d) × (xs ≡ copied f t d xs)
+  unfolding copied
+  copy-refused h =
+      let e : copyable (length xs) f t d ≡ false = split (copyable (length xs) f t d) (λ z. absurd (h (copyable-says z))) (λ z. z) in
+      (sym e, rw e)
 
 -- words from f up to t moved to where r ends, and r pasted before them
 pub paste-copy : (a f t : ℕ) (r xs : List ℕ) → a + length r ≤ length xs → paste a r (copyWithin f t (a + length r) xs) ≡ take a xs ++ (r ++ (slice f t xs ++ drop (a + length r + (t - f)) xs))
