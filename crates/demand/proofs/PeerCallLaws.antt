@@ -1,16 +1,17 @@
 -- Laws: a call's answer by the number of its first 'no'.
 use Prim.Native.Nat.{ℕ}
-use mathlib.Core.Path.{_≡_, refl, sym, _∙_}
+use mathlib.Core.Path.{_≡_, refl, sym, _∙_, subst}
 use mathlib.Core.Bool.{true, true≢false}
 use mathlib.Core.List.{List}
 use native.Mathlib.Omega.{arith}
 use Rattle.records.proofs.TestLaws.{both, and-intro}
 use Rattle.demand.specs.declared.peer_demand.DemandReport.{DemandReport}
 use Rattle.demand.specs.declared.peer_demand.PeerDemand.{PeerDemand}
+use Rattle.demand.specs.declared.peer_demand.PeersChanged.{PeersChanged}
 use Rattle.demand.specs.declared.peer_demand.ChangeAnswer.the-variants as change-answer
 use Rattle.gcra.specs.Questions.{Question, passes, firstNo}
 use Rattle.gcra.proofs.Answers.{Numbered, answer-no, answer-passed, not-passed, passed-none}
-use Rattle.demand.specs.PeerState.{PeersState, PeerTables, haveRoom, stateOf, isValid, Stores}
+use Rattle.demand.specs.PeerState.{PeersState, PeerTables, haveRoom, stateOf, isValid, Stores, Becomes}
 use Rattle.demand.specs.PeerCalls.{peersQuestions, reportQuestions, Changes, Unchanged}
 use Rattle.demand.specs.Steps.PeerSteps.{Valid}
 
@@ -39,6 +40,18 @@ peers-numbered p t = (omega arith, (omega arith, tt))
 
 pub report-numbered : (p : PeerDemand) (t : PeerTables) (id : ℕ) (r : DemandReport) → Numbered (reportQuestions p t id r)
 report-numbered p t id r = (omega arith, (omega arith, (omega arith, (omega arith, (omega arith, tt)))))
+
+-- the state changed, where questions 1 and 2 are all
+pub peers-changed : (change : PeersState → PeersState) (p : PeerDemand) (t : PeerTables) (n : ℕ) (p′ : PeerDemand) (t′ : PeerTables) → n ≡ firstNo (peersQuestions p t) → n ≡ 0 → Becomes change p t p′ t′ → Changes (peersQuestions p t) change p t (record { answer = change-answer.Done; peers = p′ }) t′
+peers-changed change p t n p′ t′ = changes-done (peersQuestions p t) change p t n p′ t′ (peers-numbered p t)
+
+-- a change by what it makes of the state
+pub changes-as : (qs : List Question) (f g : PeersState → PeersState) (p : PeerDemand) (t : PeerTables) (r : PeersChanged) (t′ : PeerTables) → f (stateOf p t) ≡ g (stateOf p t) → Changes qs f p t r t′ → Changes qs g p t r t′
+changes-as qs f g p t r t′ e c = record {
+  answered = c .answered;
+  kept = c .kept;
+  stored = λ l. subst (λ (x : PeersState). Stores x (r .peers) t t′) e (c .stored l);
+}
 
 -- questions 1 and 2 passed, as one fact and as two
 pub valid-passes : (p : PeerDemand) (t : PeerTables) → Valid p t → passes (peersQuestions p t) ≡ true

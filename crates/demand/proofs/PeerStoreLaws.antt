@@ -14,7 +14,7 @@ use Rattle.records.proofs.RecordLaws.{length-records}
 use Rattle.demand.specs.declared.peer_demand.PeerDemand.{PeerDemand}
 use Rattle.demand.specs.PeerLists.{only, all, those, replaced}
 use Rattle.demand.specs.PeerRecords.{PeerRecord, SnapshotKey, ContestedKey, peerWords, snapshotKeyWords, contestedWords, peerOf, snapshotKeyOf, contestedOf}
-use Rattle.demand.specs.PeerState.{PeersState, PeerTables, maxPeers, maxDemandKeys, maxContested, peersSize, snapshotKeysSize, contestedSize, haveRoom, exact, areExact, valid, validPeers, validPeer, validSnapshotKeys, validSnapshotKey, validContesteds, validContested, stateOf, isValid, Holds, Stores}
+use Rattle.demand.specs.PeerState.{PeersState, PeerTables, maxPeers, maxDemandKeys, maxContested, peersSize, snapshotKeysSize, contestedSize, haveRoom, exact, areExact, valid, validPeers, validPeer, validSnapshotKeys, validSnapshotKey, validContesteds, validContested, stateOf, isValid, tables, Holds, Stores, Becomes}
 use Rattle.demand.specs.PeerChanges.{forget, hold, holdPeer, leave, later}
 use Rattle.demand.specs.Steps.PeerScan.{firstWord}
 use Rattle.demand.specs.Steps.PeerSteps.{inOrder, Valid}
@@ -114,7 +114,7 @@ held-words id until rs =
     ∙ sym (map-map peerWords (hold until) (map peerOf (only (λ r. eqb (firstWord r) id) rs)))
     ∙ ap (λ l. map peerWords (map (hold until) l)) (map-only peerOf (λ (p : PeerRecord). eqb (p .id) id) rs)
 
-pub held-peer-stores :
+held-peer-stores :
     (p : PeerDemand) (t : PeerTables) (id until : ℕ) (ps : List ℕ)
     → Tables p t
     → Holds 12 (p .peers * 12) (p .peers) (replaced firstWord id (map (λ x. peerWords (hold until (peerOf x))) (those firstWord id (records 12 (p .peers) (t .peers)))) (records 12 (p .peers) (t .peers))) (t .peers) ps
@@ -139,3 +139,15 @@ leaves-held id at time s h = ap (λ (b : Bool). cond b (forget id s) (holdPeer i
 pub leaves-now : (id at time : ℕ) (s : PeersState) → time ≡ 0 → leave id at time s ≡ forget id s
 unfolding leave
 leaves-now id at time s h = ap (λ (b : Bool). cond b (forget id s) (holdPeer id (later at time) s)) (eq-eqb time 0 h)
+
+pub leave-stores :
+    (p : PeerDemand) (t : PeerTables) (id at time until : ℕ) (ps : List ℕ)
+    → Tables p t
+    → (time ≡ 0 → ⊥)
+    → until ≡ later at time
+    → Holds 12 (p .peers * 12) (p .peers) (replaced firstWord id (map (λ x. peerWords (hold until (peerOf x))) (those firstWord id (records 12 (p .peers) (t .peers)))) (records 12 (p .peers) (t .peers))) (t .peers) ps
+    → Becomes (leave id at time) p t p (tables ps (t .snapshotKeys) (t .contested))
+leave-stores p t id at time until ps o h e k =
+    subst (λ (s : PeersState). Stores s p t (tables ps (t .snapshotKeys) (t .contested)))
+    (ap (λ (u : ℕ). holdPeer id u (stateOf p t)) e ∙ sym (leaves-held id at time (stateOf p t) h))
+    (held-peer-stores p t id until ps o k)

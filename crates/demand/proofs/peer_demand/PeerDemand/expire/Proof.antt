@@ -1,21 +1,8 @@
 -- `expire` meets its contract.
 use borrow.Author.Needs.{needs}
-use Rattle.demand.specs.PeerState.{PeerTables, tables}
-use Rattle.demand.specs.PeerChanges as changes
-use Rattle.demand.specs.PeerCalls.{peersQuestions}
-use Rattle.demand.specs.Steps.PeerSteps.{Valid}
-use Rattle.demand.proofs.PeerCallLaws.{changes-not, changes-done, asked-all, peers-numbered}
+use Rattle.demand.proofs.PeerCallLaws.{changes-not, asked-all, peers-changed}
 use Rattle.demand.proofs.peer_demand.PeerDemand.expire.Statement.{statement}
 use Rattle.demand.proofs.peer_demand.PeerDemand.expire.Tie as tie
-
-abbrev start : tie.After-ask → tie.Start
-start c = c .before .before .before .before .before .before .before
-
-abbrev lent : tie.Start → PeerTables
-lent c = tables (c .args .peers .now) (c .args .snapshot-keys .now) (c .args .contested .now)
-
-sound : (c : tie.Else1) → Valid (start (c .before) .args .self) (lent (start (c .before)))
-sound c = asked-all (start (c .before) .args .self) (lent (start (c .before))) (c .before .ask .result) (c .before .ask .ensures) (c .if1 .left)
 
 ask-requires : tie.Need-ask-requires
 ask-requires c κs = search needs
@@ -30,12 +17,12 @@ same-length-3 : tie.Need-same-length-3
 same-length-3 c = search needs
 
 returns : tie.Need-returns
-returns c =
-    let s = start (c .before) in
-    changes-not (peersQuestions (s .args .self) (lent s)) (changes.expire (s .args .reading) (s .args .max-age)) (s .args .self) (lent s) (c .before .ask .result) (c .before .ask .ensures) (c .if1 .taken)
+returns c = changes-not _ _ _ _ _ (c .before .ask .ensures) (c .if1 .taken)
 
 expire-all-requires : tie.Need-expire-all-requires
-expire-all-requires c κs = sound (c .before .before .before)
+expire-all-requires c κs =
+    let e = c .before .before .before in
+    asked-all _ _ _ (e .before .ask .ensures) (e .if1 .left)
 
 same-length-4 : tie.Need-same-length-4
 same-length-4 c = search needs
@@ -50,9 +37,7 @@ returns-2 : tie.Need-returns-2
 returns-2 c =
     let f = c .before .before .before .before .before .before in
     let e = f .before .before .before .before in
-    let a = e .before in
-    let s = start a in
-    changes-done (peersQuestions (s .args .self) (lent s)) (changes.expire (s .args .reading) (s .args .max-age)) (s .args .self) (lent s) (a .ask .result) _ _ (peers-numbered (s .args .self) (lent s)) (a .ask .ensures) (e .if1 .left) (f .expire-all .ensures)
+    peers-changed _ _ _ _ _ _ (e .before .ask .ensures) (e .if1 .left) (f .expire-all .ensures)
 
 pub expire-spec : {M : Type 1} → statement M
 expire-spec =
