@@ -4,6 +4,7 @@ use crate::peer_demand::CONTESTED_WORDS;
 use crate::peer_demand::PEER_WORDS;
 use crate::peer_demand::SNAPSHOT_KEY_WORDS;
 use crate::peer_runs;
+use float::whole;
 ghost use mathlib.Core.Path.{_≡_};
 ghost use mathlib.Core.Bool.{true, cond};
 ghost use mathlib.Core.List.{[], map};
@@ -33,21 +34,11 @@ fn keep_record(t: &mut [u64], w: usize, i: usize, kept: usize, stays: bool) -> u
     kept
 }
 
-// A time sum, held at the largest time.
-pub(crate) fn later_by(t: u64, d: u64) -> u64
-    ensures { λ r. ⌜ r ≡ later t d ⌝ }
-{
-    if 0xffff_ffff_ffff_ffff - t < d {
-        return 0xffff_ffff_ffff_ffff;
-    }
-    t + d
-}
-
 // Whether what was heard then was heard less than `max_age` ago.
 fn is_fresh(reading: u64, max_age: u64, heard_at: u64) -> bool
     ensures { λ r. ⌜ r ≡ isFresh reading «max_age» «heard_at» ⌝ }
 {
-    reading < later_by(heard_at, max_age)
+    reading < whole::saturating_add(heard_at, max_age)
 }
 
 // Whether a peer has a snapshot.

@@ -35,54 +35,6 @@ asked c =
     ∙ stale-same (s .args .reading) (s .args .max-age) (getD xs (i * 12 + 1) 0) (getD x 2 0) (getD xs (i * 12 + 3) 0) (getD x 4 0) (getD x 5 0) (getD xs (i * 12 + 6) 0)
     ∙ sym ((λ k. isStale (s .args .reading) (s .args .max-age) (timeOf (word-at 12 n xs i 1 (s .pre .1) (omega arith) k) (getD x 2 0)) (snapshotOf (word-at 12 n xs i 3 (s .pre .1) (omega arith) k) (getD x 4 0) (getD x 5 0) (word-at 12 n xs i 6 (s .pre .1) (omega arith) k)))))
 
-mul-at : tie.Need-mul-at
-mul-at c = omega arith
-
-add-is-stale : tie.Need-add-is-stale
-add-is-stale c = omega arith
-
-mul-is-stale : tie.Need-mul-is-stale
-mul-is-stale c = omega arith
-
-slice-read-is-stale : tie.Need-slice-read-is-stale
-slice-read-is-stale c = omega arith
-
-add-is-stale-2 : tie.Need-add-is-stale-2
-add-is-stale-2 c = omega arith
-
-mul-is-stale-2 : tie.Need-mul-is-stale-2
-mul-is-stale-2 c = omega arith
-
-slice-read-is-stale-2 : tie.Need-slice-read-is-stale-2
-slice-read-is-stale-2 c = omega arith
-
-add-is-stale-3 : tie.Need-add-is-stale-3
-add-is-stale-3 c = omega arith
-
-mul-is-stale-3 : tie.Need-mul-is-stale-3
-mul-is-stale-3 c = omega arith
-
-slice-read-is-stale-3 : tie.Need-slice-read-is-stale-3
-slice-read-is-stale-3 c = omega arith
-
-is-stale-requires : tie.Need-is-stale-requires
-is-stale-requires c κs = search needs
-
-mul-t21 : tie.Need-mul-t21
-mul-t21 c = omega arith
-
-slice-read-t23 : tie.Need-slice-read-t23
-slice-read-t23 c = omega arith
-
-slice-aggregate-overwrite : tie.Need-slice-aggregate-overwrite
-slice-aggregate-overwrite c = search needs
-
-overwrite-requires : tie.Need-overwrite-requires
-overwrite-requires c κs = search needs
-
-same-length : tie.Need-same-length
-same-length c = search needs
-
 returns : tie.Need-returns
 unfolding peerOf
 returns c =
@@ -114,21 +66,21 @@ pub age-peer-spec : {M : Type 1} → statement M
 age-peer-spec =
     tie.close
     (tie.spec
-    mul-at
-    add-is-stale
-    mul-is-stale
-    slice-read-is-stale
-    add-is-stale-2
-    mul-is-stale-2
-    slice-read-is-stale-2
-    add-is-stale-3
-    mul-is-stale-3
-    slice-read-is-stale-3
-    is-stale-requires
-    mul-t21
-    slice-read-t23
-    slice-aggregate-overwrite
-    overwrite-requires
-    same-length
+    (λ c. omega arith)
+    (λ c. omega arith)
+    (λ c. omega arith)
+    (λ c. omega arith)
+    (λ c. omega arith)
+    (λ c. omega arith)
+    (λ c. omega arith)
+    (λ c. omega arith)
+    (λ c. omega arith)
+    (λ c. omega arith)
+    (λ c κs. search needs)
+    (λ c. omega arith)
+    (λ c. omega arith)
+    (λ c. search needs)
+    (λ c κs. search needs)
+    (λ c. search needs)
     returns
     returns-2)

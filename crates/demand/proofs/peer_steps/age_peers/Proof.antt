@@ -36,12 +36,6 @@ age-peer-requires c κs =
       ap (λ (x : List ℕ). peerWords (peerOf x)) h ∙ exact-at peerWords peerOf (records 12 (s .args .n) (s .args .peers .now)) (s .pre .1) (l .i) (omega (arith, length-records 12 (s .args .n) (s .args .peers .now))) ∙ sym h,
     )
 
-add-i : tie.Need-add-i Inv-loop μ-loop
-add-i c = omega arith
-
-loop-less : tie.Need-loop-less Inv-loop μ-loop
-loop-less c = omega arith
-
 loop-again : tie.Need-loop-again Inv-loop μ-loop
 loop-again c =
     let r = c .before .before in
@@ -67,8 +61,8 @@ age-peers-spec =
     μ-loop
     loop-holds
     age-peer-requires
-    add-i
-    loop-less
+    (λ c. omega arith)
+    (λ c. omega arith)
     loop-again
     same-length
     returns)

@@ -35,12 +35,6 @@ flag-test : (w e r h : ℕ) → not (eqb w 0) ≡ present (snapshotOf w e r h)
 flag-test zero e r h = refl
 flag-test (suc w) e r h = ap not (ne-eqb (suc w) 0 (λ q. omega arith))
 
-find-requires : tie.Need-find-requires
-find-requires c κs = search needs
-
-enum-known-found : tie.Need-enum-known-found
-enum-known-found c = search needs
-
 mul-result : tie.Need-mul-result
 mul-result c = omega (arith, inside c)
 
@@ -52,12 +46,6 @@ mul-result-2 c = omega (arith, inside c)
 
 shared-slice-read-result : tie.Need-shared-slice-read-result
 shared-slice-read-result c = omega (arith, inside (c .before))
-
-enum-told : tie.Need-enum-told
-enum-told c = search needs
-
-enum-told-2 : tie.Need-enum-told-2
-enum-told-2 c = search needs
 
 returns : tie.Need-returns
 unfolding hasSnapshot peerOf
@@ -86,14 +74,14 @@ pub has-snapshot-spec : {M : Type 1} → statement M
 has-snapshot-spec =
     tie.close
     (tie.spec
-    find-requires
-    enum-known-found
+    (λ c κs. search needs)
+    (λ c. search needs)
     mul-result
     add-result
     mul-result-2
     shared-slice-read-result
-    enum-told
-    enum-told-2
+    (λ c. search needs)
+    (λ c. search needs)
     returns
     returns-2
     returns-3)

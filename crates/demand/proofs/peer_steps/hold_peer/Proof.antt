@@ -27,12 +27,6 @@ inside : (c : tie.After-known-told) → (c .before .found .given .0 .0 < start (
 inside c =
     found-inside 12 (start (at c) .args .n) (start (at c) .args .id) (start (at c) .args .peers .now) (ordered (at c)) (c .before .found .given .0 .0) (place c)
 
-find-requires : tie.Need-find-requires
-find-requires c κs = search needs
-
-enum-known-found : tie.Need-enum-known-found
-enum-known-found c = search needs
-
 mul-at : tie.Need-mul-at
 mul-at c = omega (arith, inside c)
 
@@ -54,12 +48,6 @@ mul-peers-2 c = omega (arith, inside c)
 slice-write-peers-2 : tie.Need-slice-write-peers-2
 slice-write-peers-2 c = simp length-set (omega (arith, inside c))
 
-enum-told : tie.Need-enum-told
-enum-told c = search needs
-
-enum-told-2 : tie.Need-enum-told-2
-enum-told-2 c = search needs
-
 same-length : tie.Need-same-length
 same-length c = simp length-set
 
@@ -68,17 +56,11 @@ returns c =
     let s = start (at c) in
     held-at (s .args .n) (s .args .id) (s .args .until) (s .args .peers .now) (ordered (at c)) (s .pre .1) (c .before .found .given .0 .0) (place c)
 
-same-length-2 : tie.Need-same-length-2
-same-length-2 c = search needs
-
 returns-2 : tie.Need-returns-2
 returns-2 c =
     let f = c .before .before in
     let s = start f in
     held-gap (s .args .n) (s .args .id) (s .args .until) (s .args .peers .now) (ordered f) (s .pre .1) (c .enum-told .given .0 .0) (sym (c .enum-told .given .1) ∙ f .find .ensures)
-
-same-length-3 : tie.Need-same-length-3
-same-length-3 c = search needs
 
 returns-3 : tie.Need-returns-3
 returns-3 c =
@@ -90,8 +72,8 @@ pub hold-peer-spec : {M : Type 1} → statement M
 hold-peer-spec =
     tie.close
     (tie.spec
-    find-requires
-    enum-known-found
+    (λ c κs. search needs)
+    (λ c. search needs)
     mul-at
     add-peers
     mul-peers
@@ -99,11 +81,11 @@ hold-peer-spec =
     add-peers-2
     mul-peers-2
     slice-write-peers-2
-    enum-told
-    enum-told-2
+    (λ c. search needs)
+    (λ c. search needs)
     same-length
     returns
-    same-length-2
+    (λ c. search needs)
     returns-2
-    same-length-3
+    (λ c. search needs)
     returns-3)

@@ -6,11 +6,8 @@ use borrow.Author.Needs.{needs}
 use Rattle.demand.proofs.peer_steps.is_fresh.Statement.{statement}
 use Rattle.demand.proofs.peer_steps.is_fresh.Tie as tie
 
-later-by-requires : tie.Need-later-by-requires
-later-by-requires c κs = search needs
-
 returns : tie.Need-returns
-returns c = ap (λ (z : ℕ). ltb (c .before .args .reading) z) (c .later-by .ensures)
+returns c = ap (λ (z : ℕ). ltb (c .before .args .reading) z) (c .saturating-add .ensures)
 
 pub is-fresh-spec : {M : Type 1} → statement M
-is-fresh-spec = tie.close (tie.spec later-by-requires returns)
+is-fresh-spec = tie.close (tie.spec (λ c κs. search needs) returns)

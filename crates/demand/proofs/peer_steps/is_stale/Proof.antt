@@ -35,9 +35,6 @@ returns-2 c =
     let s = c .before .before .args in
     bare-is (s .reading) (s .max-age) (s .held) (s .taken) (s .heard-at) (c .before .if1 .left) (c .if2 .taken)
 
-is-fresh-requires : tie.Need-is-fresh-requires
-is-fresh-requires c κs = search needs
-
 returns-3 : tie.Need-returns-3
 returns-3 c =
     let e = c .before in
@@ -45,4 +42,4 @@ returns-3 c =
     ap not (c .is-fresh .ensures) ∙ taken-is (s .reading) (s .max-age) (s .held) (s .taken) (s .heard-at) (e .before .if1 .left) (e .if2 .left)
 
 pub is-stale-spec : {M : Type 1} → statement M
-is-stale-spec = tie.close (tie.spec returns returns-2 is-fresh-requires returns-3)
+is-stale-spec = tie.close (tie.spec returns returns-2 (λ c κs. search needs) returns-3)

@@ -58,12 +58,6 @@ keep-record-requires c κs =
     let l = c .before .before .before .before in
     (omega arith, l .before .loop .inv .behind, inside l)
 
-add-i : tie.Need-add-i Inv-loop μ-loop
-add-i c = omega arith
-
-loop-less : tie.Need-loop-less Inv-loop μ-loop
-loop-less c = omega arith
-
 loop-again : tie.Need-loop-again Inv-loop μ-loop
 unfolding contestedOf
 loop-again c =
@@ -106,8 +100,8 @@ retain-contested-spec =
     slice-read-stays-contested-2
     stays-contested-requires
     keep-record-requires
-    add-i
-    loop-less
+    (λ c. omega arith)
+    (λ c. omega arith)
     loop-again
     same-length
     returns)

@@ -79,12 +79,6 @@ keep-record-requires c κs =
     let l = c .before .before .before .before .before .before in
     (omega arith, l .before .loop .inv .behind, inside l)
 
-add-i : tie.Need-add-i Inv-loop μ-loop
-add-i c = omega arith
-
-loop-less : tie.Need-loop-less Inv-loop μ-loop
-loop-less c = omega arith
-
 loop-again : tie.Need-loop-again Inv-loop μ-loop
 unfolding peerOf
 loop-again c =
@@ -138,8 +132,8 @@ retain-peers-spec =
     slice-read-stays-peer-4
     stays-peer-requires
     keep-record-requires
-    add-i
-    loop-less
+    (λ c. omega arith)
+    (λ c. omega arith)
     loop-again
     same-length
     returns)

@@ -49,12 +49,6 @@ keep-record-requires c κs =
     let l = c .before .before .before in
     (omega arith, l .before .loop .inv .behind, inside l)
 
-add-i : tie.Need-add-i Inv-loop μ-loop
-add-i c = omega arith
-
-loop-less : tie.Need-loop-less Inv-loop μ-loop
-loop-less c = omega arith
-
 loop-again : tie.Need-loop-again Inv-loop μ-loop
 unfolding snapshotKeyOf
 loop-again c =
@@ -90,8 +84,8 @@ retain-snapshot-keys-spec =
     slice-read-has-snapshot
     has-snapshot-requires
     keep-record-requires
-    add-i
-    loop-less
+    (λ c. omega arith)
+    (λ c. omega arith)
     loop-again
     same-length
     returns)

@@ -32,12 +32,6 @@ inside : (c : tie.After-known-told) → (c .before .found .given .0 .0 < start (
 inside c =
     found-inside 12 (start (at c) .args .n) (start (at c) .args .id) (start (at c) .args .peers .now) (ordered (at c)) (c .before .found .given .0 .0) (place c)
 
-find-requires : tie.Need-find-requires
-find-requires c κs = search needs
-
-enum-known-found : tie.Need-enum-known-found
-enum-known-found c = search needs
-
 mul-at : tie.Need-mul-at
 mul-at c = omega (arith, inside c)
 
@@ -72,15 +66,6 @@ returns c =
     ∙ held-stays (s .reading) (getD x 1 0) (getD x 2 0) (isFresh (s .reading) (s .max-age) (s .heard-at)) (λ e. c .before .if1 .taken (sym w₁ ∙ e))
     ∙ sym (stays-at (s .n) (s .id) (s .peers .now) (ordered (at k)) (s .reading) (s .max-age) (s .heard-at) i (place k))
 
-is-fresh-requires : tie.Need-is-fresh-requires
-is-fresh-requires c κs = search needs
-
-enum-told : tie.Need-enum-told
-enum-told c = search needs
-
-enum-told-2 : tie.Need-enum-told-2
-enum-told-2 c = search needs
-
 returns-2 : tie.Need-returns-2
 unfolding peerOf
 returns-2 c =
@@ -109,8 +94,8 @@ pub stays-contested-spec : {M : Type 1} → statement M
 stays-contested-spec =
     tie.close
     (tie.spec
-    find-requires
-    enum-known-found
+    (λ c κs. search needs)
+    (λ c. search needs)
     mul-at
     add-if1
     mul-if1
@@ -119,9 +104,9 @@ stays-contested-spec =
     mul-result
     shared-slice-read-result
     returns
-    is-fresh-requires
-    enum-told
-    enum-told-2
+    (λ c κs. search needs)
+    (λ c. search needs)
+    (λ c. search needs)
     returns-2
     returns-3
     returns-4)

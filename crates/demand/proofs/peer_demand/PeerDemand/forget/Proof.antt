@@ -4,18 +4,6 @@ use Rattle.demand.proofs.PeerCallLaws.{changes-not, asked-all, peers-ch
 use Rattle.demand.proofs.peer_demand.PeerDemand.forget.Statement.{statement}
 use Rattle.demand.proofs.peer_demand.PeerDemand.forget.Tie as tie
 
-ask-requires : tie.Need-ask-requires
-ask-requires c κs = search needs
-
-same-length : tie.Need-same-length
-same-length c = search needs
-
-same-length-2 : tie.Need-same-length-2
-same-length-2 c = search needs
-
-same-length-3 : tie.Need-same-length-3
-same-length-3 c = search needs
-
 returns : tie.Need-returns
 returns c = changes-not _ _ _ _ _ (c .before .ask .ensures) (c .if1 .taken)
 
@@ -23,15 +11,6 @@ forget-peer-requires : tie.Need-forget-peer-requires
 forget-peer-requires c κs =
     let e = c .before .before .before in
     asked-all _ _ _ (e .before .ask .ensures) (e .if1 .left)
-
-same-length-4 : tie.Need-same-length-4
-same-length-4 c = search needs
-
-same-length-5 : tie.Need-same-length-5
-same-length-5 c = search needs
-
-same-length-6 : tie.Need-same-length-6
-same-length-6 c = search needs
 
 returns-2 : tie.Need-returns-2
 returns-2 c =
@@ -43,13 +22,13 @@ pub forget-spec : {M : Type 1} → statement M
 forget-spec =
     tie.close
     (tie.spec
-    ask-requires
-    same-length
-    same-length-2
-    same-length-3
+    (λ c κs. search needs)
+    (λ c. search needs)
+    (λ c. search needs)
+    (λ c. search needs)
     returns
     forget-peer-requires
-    same-length-4
-    same-length-5
-    same-length-6
+    (λ c. search needs)
+    (λ c. search needs)
+    (λ c. search needs)
     returns-2)

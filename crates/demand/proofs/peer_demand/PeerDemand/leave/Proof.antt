@@ -13,54 +13,18 @@ start c = c .before .before .before .before .before .before .before .before .bef
 sound : (c : tie.Else2) → Tables (start c .args .self) (tables (start c .args .peers .now) (start c .args .snapshot-keys .now) (start c .args .contested .now))
 sound c = tables-of _ _ (asked-all _ _ _ (c .before .ask .ensures) (c .if2 .left))
 
-forget-requires : tie.Need-forget-requires
-forget-requires c κs = search needs
-
-same-length : tie.Need-same-length
-same-length c = search needs
-
-same-length-2 : tie.Need-same-length-2
-same-length-2 c = search needs
-
-same-length-3 : tie.Need-same-length-3
-same-length-3 c = search needs
-
 returns : tie.Need-returns
 returns c =
     let f = c .before .before .before .before .before .before in
     changes-as _ _ _ _ _ _ _ (sym (leaves-now _ _ _ _ (f .before .before .before .before .if1 .taken))) (f .forget .ensures)
 
-ask-requires : tie.Need-ask-requires
-ask-requires c κs = search needs
-
-same-length-4 : tie.Need-same-length-4
-same-length-4 c = search needs
-
-same-length-5 : tie.Need-same-length-5
-same-length-5 c = search needs
-
-same-length-6 : tie.Need-same-length-6
-same-length-6 c = search needs
-
 returns-2 : tie.Need-returns-2
 returns-2 c = changes-not _ _ _ _ _ (c .before .ask .ensures) (c .if2 .taken)
-
-later-by-requires : tie.Need-later-by-requires
-later-by-requires c κs = search needs
 
 hold-peer-requires : tie.Need-hold-peer-requires
 hold-peer-requires c κs =
     let o = sound (c .before .before) in
     (o .peers .order, o .peers .exactly)
-
-same-length-7 : tie.Need-same-length-7
-same-length-7 c = search needs
-
-same-length-8 : tie.Need-same-length-8
-same-length-8 c = search needs
-
-same-length-9 : tie.Need-same-length-9
-same-length-9 c = search needs
 
 returns-3 : tie.Need-returns-3
 returns-3 c =
@@ -69,25 +33,25 @@ returns-3 c =
     let e = b .before .before in
     let a = e .before in
     peers-changed _ _ _ _ _ _ (a .ask .ensures) (e .if2 .left)
-    (leave-stores _ _ _ _ _ _ _ (sound e) (a .before .before .before .before .if1 .left) (b .later-by .ensures) (h .hold-peer .ensures))
+    (leave-stores _ _ _ _ _ _ _ (sound e) (a .before .before .before .before .if1 .left) (b .saturating-add .ensures) (h .hold-peer .ensures))
 
 pub leave-spec : {M : Type 1} → statement M
 leave-spec =
     tie.close
     (tie.spec
-    forget-requires
-    same-length
-    same-length-2
-    same-length-3
+    (λ c κs. search needs)
+    (λ c. search needs)
+    (λ c. search needs)
+    (λ c. search needs)
     returns
-    ask-requires
-    same-length-4
-    same-length-5
-    same-length-6
+    (λ c κs. search needs)
+    (λ c. search needs)
+    (λ c. search needs)
+    (λ c. search needs)
     returns-2
-    later-by-requires
+    (λ c κs. search needs)
     hold-peer-requires
-    same-length-7
-    same-length-8
-    same-length-9
+    (λ c. search needs)
+    (λ c. search needs)
+    (λ c. search needs)
     returns-3)
