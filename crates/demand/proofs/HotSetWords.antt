@@ -18,7 +18,8 @@ use Rattle.records.proofs.TestLaws.{split, both}
 use Rattle.records.proofs.TableLaws as records
 use Rattle.records.proofs.TableLaws.{Wide}
 use Rattle.records.proofs.RecordLaws.{length-records}
-use Rattle.demand.specs.HotSet.{flag, coolingFlag, coolingTime, words, cooling, entry, entries, isEntry, allEntries}
+use Rattle.demand.specs.Words.{flagWord}
+use Rattle.demand.specs.HotSet.{coolingFlag, coolingTime, words, cooling, entry, entries, isEntry, allEntries}
 use Rattle.demand.specs.declared.hot_set.Cooling.{Cooling}
 use Rattle.demand.specs.declared.hot_set.Cooling.the-variants.{Unset, Since}
 use Rattle.demand.specs.declared.hot_set.HotEntry.{HotEntry}
@@ -78,10 +79,10 @@ bits-back b e =
     let h : b < 9218868437227405312 = ltb-true b 9218868437227405312 (magnitude-bits binary64 b ∙ e) in
     toBits-ofBits binary64 b (omega arith) (magnitude-no-nan (ofBits binary64 b) (T-of (magnitude (ofBits binary64 b)) e))
 
-flag-back : (p : ℕ) → p ≤ 1 → flag (eqb p 1) ≡ p
+flag-back : (p : ℕ) → p ≤ 1 → flagWord (eqb p 1) ≡ p
 flag-back p h = split (eqb p 1)
-    (λ e. ap flag e ∙ sym (eqb-true p 1 e))
-    (λ e. ap flag e ∙ let k = eqb-false p 1 e in omega arith)
+    (λ e. ap flagWord e ∙ sym (eqb-true p 1 e))
+    (λ e. ap flagWord e ∙ let k = eqb-false p 1 e in omega arith)
 
 cooling-flag-back : (f t : ℕ) → f ≤ 1 → coolingFlag (cooling (eqb f 1) t) ≡ f
 cooling-flag-back f t h = split (eqb f 1)
@@ -108,7 +109,7 @@ words-entry (a ∷ b ∷ p ∷ f ∷ []) h g = absurd (omega arith)
 words-entry (a ∷ b ∷ p ∷ f ∷ t ∷ []) h g = absurd (omega arith)
 words-entry (a ∷ b ∷ p ∷ f ∷ t ∷ s ∷ z ∷ zs) h g = absurd (omega arith)
 
-flag-read : (b : Bool) → eqb (flag b) 1 ≡ b
+flag-read : (b : Bool) → eqb (flagWord b) 1 ≡ b
 flag-read true = refl
 flag-read false = refl
 
@@ -124,7 +125,7 @@ pub length-words : (e : HotEntry) → length (words e) ≡ 6
 unfolding words
 length-words e = refl
 
-flag-small : (b : Bool) → leb (flag b) 1 ≡ true
+flag-small : (b : Bool) → leb (flagWord b) 1 ≡ true
 flag-small true = refl
 flag-small false = refl
 

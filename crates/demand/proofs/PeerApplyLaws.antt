@@ -17,7 +17,8 @@ use Rattle.demand.specs.declared.peer_demand.DemandReport.{DemandReport}
 use Rattle.demand.specs.declared.peer_demand.PeerDemand.{PeerDemand}
 use Rattle.gcra.specs.Questions.{Question, _asks_, passes, firstNo}
 use Rattle.gcra.proofs.Answers.{passed-none, first-no, first-yes, first-none, first-more, first-rest}
-use Rattle.demand.specs.PeerRecords.{Snapshot, PeerRecord, SnapshotKey, ContestedKey, timeWords, snapshotWords, pastWords, peerWords, snapshotKeyWords, contestedWords, peerOf, snapshotKeyOf, contestedOf}
+use Rattle.demand.specs.Words.{timeWords}
+use Rattle.demand.specs.PeerRecords.{Snapshot, PeerRecord, SnapshotKey, ContestedKey, snapshotWords, pastWords, peerWords, snapshotKeyWords, contestedWords, peerOf, snapshotKeyOf, contestedOf}
 use Rattle.demand.specs.PeerState.{PeerTables, isKnown, haveRoom, stateOf, exact, areExact, isValid, valid, Holds}
 use Rattle.demand.specs.PeerCalls.{hasDemands, hasPlace, peersQuestions, reportQuestions}
 use Rattle.demand.specs.Steps.PeerRuns.{keysIn, contestedIn, peersIn, Tabled, Passed, Known}

@@ -17,7 +17,8 @@ use Rattle.records.proofs.PlaceLaws.{find-at}
 use Rattle.records.proofs.EditLaws.{length-remove}
 use Rattle.records.proofs.TableLaws.{records-removed}
 use Rattle.demand.specs.PeerLists.{all, first, those, replaced}
-use Rattle.demand.specs.PeerRecords.{flagWord, flagOf, SnapshotKey, ContestedKey, snapshotKeyWords, snapshotKeyOf, contestedWords, contestedOf}
+use Rattle.demand.specs.Words.{flagWord, flagOf}
+use Rattle.demand.specs.PeerRecords.{SnapshotKey, ContestedKey, snapshotKeyWords, snapshotKeyOf, contestedWords, contestedOf}
 use Rattle.demand.specs.PeerState.{isWord, isDemand, validSnapshotKey, validContested}
 use Rattle.demand.specs.PeerChanges.{exceeds, fresh, merged, contestedWith, mergeKey, mergeKeys, oldest, withoutOldest, withoutOldests}
 use Rattle.demand.specs.Steps.PeerRuns.{word, keysIn, contestedIn, Front, Run, ContestedRun, KeyRun, OneKey}

@@ -17,7 +17,8 @@ use Rattle.records.proofs.OrderLaws.{keyAt}
 use Rattle.records.proofs.PlaceLaws.{at-says}
 use Rattle.demand.specs.declared.peer_demand.Heard.{Heard}
 use Rattle.demand.specs.PeerLists.{only, first, those}
-use Rattle.demand.specs.PeerRecords.{PeerRecord, SnapshotKey, ContestedKey, flagOf, snapshotOf, peerOf, snapshotKeyOf, contestedOf}
+use Rattle.demand.specs.Words.{flagOf}
+use Rattle.demand.specs.PeerRecords.{PeerRecord, SnapshotKey, ContestedKey, snapshotOf, peerOf, snapshotKeyOf, contestedOf}
 use Rattle.demand.specs.PeerState.{peerWith, isDemand}
 use Rattle.demand.specs.Steps.PeerScan.{firstWord, areKeyWords}
 use Rattle.demand.specs.PeerReaders.{heardTaken, heardContested, snapshotKeyAt, contestedAt, joined}

@@ -20,7 +20,8 @@ use Rattle.demand.specs.declared.peer_demand.DemandReport.{DemandReport}
 use Rattle.demand.specs.declared.peer_demand.Verdict.{Verdict}
 use Rattle.demand.specs.declared.peer_demand.Verdict.the-variants as verdict
 use Rattle.demand.specs.PeerLists.{all, any, first, those}
-use Rattle.demand.specs.PeerRecords.{Snapshot, PeerRecord, snapshotOf, timeWords, snapshotWords, pastWords, peerWords, peerOf}
+use Rattle.demand.specs.Words.{timeWords}
+use Rattle.demand.specs.PeerRecords.{Snapshot, PeerRecord, snapshotOf, snapshotWords, pastWords, peerWords, peerOf}
 use Rattle.demand.specs.PeerState.{isWord, isKnown, peerWith, validSnapshot, validPast, validPeer}
 use Rattle.demand.specs.PeerChanges as changes
 use Rattle.demand.specs.Steps.PeerRuns.{word, peersIn, Replaceable, Front, Known, orNew, nextPast, verdictWith, pastAfter}

@@ -15,7 +15,8 @@ use Rattle.demand.specs.declared.peer_demand.KeyDemand.{KeyDemand}
 use Rattle.demand.specs.declared.peer_demand.DemandReport.{DemandReport}
 use Rattle.demand.specs.declared.peer_demand.Verdict.{Verdict}
 use Rattle.demand.specs.PeerLists.{all, first, those}
-use Rattle.demand.specs.PeerRecords.{Snapshot, PeerRecord, SnapshotKey, ContestedKey, timeWords, snapshotWords, pastWords, peerWords}
+use Rattle.demand.specs.Words.{timeWords}
+use Rattle.demand.specs.PeerRecords.{Snapshot, PeerRecord, SnapshotKey, ContestedKey, snapshotWords, pastWords, peerWords}
 use Rattle.demand.specs.PeerState.{PeersState, isWord, peerWith, isKnown, snapshotKeysOf, contestedKeysOf, valid, validSnapshot, validPast, validPeer, validSnapshotKey}
 use Rattle.demand.specs.PeerChanges as changes
 use Rattle.demand.specs.PeerCalls.{hasDemands, hasPlace, Widths, fitsWidths}

@@ -12,7 +12,8 @@ use Rattle.records.specs.Records.{same}
 use Rattle.records.proofs.TestLaws.{split}
 use Rattle.records.proofs.OrderLaws.{same-eq}
 use Rattle.demand.specs.PeerLists.{all, present}
-use Rattle.demand.specs.PeerRecords.{flagWord, flagOf, timeWords, timeOf, snapshotWords, snapshotOf, pastWords, peerWords, snapshotKeyWords, contestedWords, peerOf, snapshotKeyOf, contestedOf}
+use Rattle.demand.specs.Words.{flagWord, flagOf, timeWords, timeOf}
+use Rattle.demand.specs.PeerRecords.{snapshotWords, snapshotOf, pastWords, peerWords, snapshotKeyWords, contestedWords, peerOf, snapshotKeyOf, contestedOf}
 use Rattle.demand.specs.PeerState.{isWord, isDemand, validSnapshot, validPast, pastHasSnapshot, validPeer, validSnapshotKey, validContested}
 use Rattle.demand.specs.Steps.PeerScan.{isTime, isSnapshot, isPastEpoch, isPast, isPeer, arePeerWords, areKeyWords}
 

@@ -12,7 +12,8 @@ use Rattle.records.specs.declared.Found.the-variants.{At, Gap}
 use Rattle.records.specs.Records.{records, findIn}
 use Rattle.records.proofs.TestLaws.{contradiction, split}
 use Rattle.demand.specs.PeerLists.{any, present}
-use Rattle.demand.specs.PeerRecords.{Snapshot, PeerRecord, ContestedKey, timeOf, flagOf, snapshotOf, peerOf, peerWords}
+use Rattle.demand.specs.Words.{timeOf, flagOf}
+use Rattle.demand.specs.PeerRecords.{Snapshot, PeerRecord, ContestedKey, snapshotOf, peerOf, peerWords}
 use Rattle.demand.specs.PeerState.{isKnown, isHeld}
 use Rattle.demand.specs.PeerChanges.{holdEnded, notEnded, isFresh, isFreshSnapshot, isHeldPeer, agePeer}
 use Rattle.demand.specs.Steps.PeerSteps.{staysContested, isStale, staysPeer}

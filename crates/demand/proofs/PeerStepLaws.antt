@@ -14,7 +14,8 @@ use Rattle.records.specs.Records.{records, same}
 use Rattle.records.proofs.OrderLaws.{same-equal, same-differ}
 use Rattle.records.proofs.TestLaws.{contradiction, split}
 use Rattle.demand.specs.PeerLists.{all, any}
-use Rattle.demand.specs.PeerRecords.{ContestedKey, contestedOf, flagWord, flagOf}
+use Rattle.demand.specs.Words.{flagWord, flagOf}
+use Rattle.demand.specs.PeerRecords.{ContestedKey, contestedOf}
 use Rattle.demand.specs.PeerChanges.{older, oldest}
 use Rattle.demand.specs.Steps.PeerRuns.{contestedIn}
 

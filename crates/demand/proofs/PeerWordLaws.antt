@@ -11,7 +11,8 @@ use Rattle.records.proofs.OrderLaws.{same-eq}
 use Rattle.records.proofs.TestLaws.{both}
 use Rattle.demand.specs.PeerLists.{all}
 use Rattle.demand.specs.PeerState.{exact}
-use Rattle.demand.specs.PeerRecords.{Snapshot, PeerRecord, SnapshotKey, ContestedKey, flagWord, flagOf, peerWords, snapshotKeyWords, contestedWords, peerOf, snapshotKeyOf, contestedOf}
+use Rattle.demand.specs.Words.{flagWord, flagOf}
+use Rattle.demand.specs.PeerRecords.{Snapshot, PeerRecord, SnapshotKey, ContestedKey, peerWords, snapshotKeyWords, contestedWords, peerOf, snapshotKeyOf, contestedOf}
 
 pub flag-of-word : (b : Bool) → flagOf (flagWord b) ≡ b
 flag-of-word false = refl

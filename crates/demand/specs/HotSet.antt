@@ -9,17 +9,13 @@ use lib.ListN.{length, getD}
 use Rattle.float.specs.Magnitude.{magnitude}
 use Rattle.float.specs.Order.{totalLess}
 use Rattle.records.specs.Records.{records, ascending}
+use Rattle.demand.specs.Words.{flagWord}
 use Rattle.demand.specs.declared.hot_set.Cooling.{Cooling}
 use Rattle.demand.specs.declared.hot_set.Cooling.the-variants.{Unset, Since}
 use Rattle.demand.specs.declared.hot_set.HotEntry.{HotEntry}
 use Rattle.demand.specs.declared.hot_set.HotSet.{HotSet}
 
 -- ---- an entry as words (01, 'The saved image', kind 3: key, demand, primary, cooling since?, since)
-
--- flags are 0 or 1
-abbrev pub flag : Bool → ℕ
-flag true = 1
-flag false = 0
 
 -- a time that may be missing has a flag word first and is 0 if missing
 abbrev pub coolingFlag : Cooling → ℕ
@@ -33,7 +29,7 @@ coolingTime (Since t) = t
 -- the words of an entry's record
 unfoldable pub words : HotEntry → List ℕ
 words e =
-    e .key ∷ toBits binary64 (e .demand) ∷ flag (e .primary) ∷ coolingFlag (e .«cooling_since») ∷ coolingTime (e .«cooling_since») ∷ e .since ∷ []
+    e .key ∷ toBits binary64 (e .demand) ∷ flagWord (e .primary) ∷ coolingFlag (e .«cooling_since») ∷ coolingTime (e .«cooling_since») ∷ e .since ∷ []
 
 abbrev pub cooling : Bool → ℕ → Cooling
 cooling true t = Since t

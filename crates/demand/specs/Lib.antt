@@ -3,6 +3,7 @@ pub mod Exponential
 pub mod Estimator
 pub mod EstimatorCalls
 pub mod Allocation
+pub mod Words
 pub mod HotSet
 pub mod HotSetCalls
 pub mod PeerLists

@@ -1,10 +1,11 @@
 -- What is kept of the peers (peer_demand.rs: `Peer`, `Snapshot`, `Contested`), and its words in a table and in an image (01, 'The saved image', kinds 5 to 7).
 -- Definitions only. A demand is kept as the bit pattern of its f32.
 use Prim.Native.Nat.{ℕ, zero, suc}
-use mathlib.Core.Bool.{Bool, true, false}
+use mathlib.Core.Bool.{Bool}
 use mathlib.Core.List.{List, [], _∷_, _++_}
 use mathlib.Core.Option.{Option, none, some}
 use lib.ListN.{take, drop, getD, length}
+use Rattle.demand.specs.Words.{flagWord, flagOf, timeWords, timeOf}
 
 -- the most past epochs that are kept of a peer: `PAST_EPOCHS`
 abbrev pub maxPastEpochs : ℕ
@@ -41,15 +42,6 @@ pub record ContestedKey : Type 0 where
 
 -- ---- the words of a record
 
-abbrev pub flagWord : Bool → ℕ
-flagWord false = 0
-flagWord true = 1
-
--- a time that may be missing has a flag word first and is 0 if missing
-abbrev pub timeWords : Option ℕ → List ℕ
-timeWords none = 0 ∷ 0 ∷ []
-timeWords (some t) = 1 ∷ t ∷ []
-
 -- snapshot flag, epoch, round, heard at; absent parts are 0
 abbrev pub snapshotWords : Option Snapshot → List ℕ
 snapshotWords none = 0 ∷ 0 ∷ 0 ∷ 0 ∷ []
@@ -69,14 +61,6 @@ unfoldable pub contestedWords : ContestedKey → List ℕ
 contestedWords c = c .peer ∷ c .key ∷ c .demand ∷ flagWord (c .primary) ∷ c .round ∷ c .heardAt ∷ []
 
 -- ---- the record of words
-
-abbrev pub flagOf : ℕ → Bool
-flagOf zero = false
-flagOf (suc w) = true
-
-abbrev pub timeOf : ℕ → ℕ → Option ℕ
-timeOf zero t = none
-timeOf (suc flag) t = some t
 
 abbrev pub snapshotOf : ℕ → ℕ → ℕ → ℕ → Option Snapshot
 snapshotOf zero epoch round heardAt = none

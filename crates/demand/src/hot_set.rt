@@ -1,6 +1,7 @@
 // The hot keys of a node. A key comes in with a demand above the threshold, as primary, or by the
 // word of a peer that has it so, as secondary. Below the threshold a primary key stays for the
 // cooldown; a full set takes a key in only by evicting its weakest.
+use crate::words;
 use float::whole;
 ghost use mathlib.Core.Path.{_≡_};
 ghost use mathlib.Core.Bool.{true};
@@ -87,13 +88,6 @@ enum Slot {
     Entry(HotEntry),
 }
 
-// A flag as a word.
-fn flag(b: bool) -> u64
-    ensures { λ r. ⌜ r ≡ Set.flag b ⌝ }
-{
-    if b { 1 } else { 0 }
-}
-
 impl Cooling {
     // The two words of a time that may be missing, and back.
     fn flag(self) -> u64
@@ -144,7 +138,7 @@ impl HotEntry {
     {
         let cooling = self.cooling_since;
         let demand = float::to_bits(self.demand);
-        let primary = flag(self.primary);
+        let primary = words::flag_word(self.primary);
         let is_cooling = cooling.flag();
         let cooling_since = cooling.time();
         [

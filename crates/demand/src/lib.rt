@@ -11,3 +11,4 @@ mod peer_heard;
 mod peer_runs;
 mod peer_scan;
 mod peer_steps;
+mod words;

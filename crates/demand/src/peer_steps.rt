@@ -13,9 +13,10 @@ ghost use lib.ListN.{length, getD};
 ghost use Rattle.records.specs.Words.{copyWithin};
 ghost use Rattle.records.specs.Records.{records, overwriteAt};
 ghost use Rattle.demand.specs.PeerLists.{only, those, replaced};
-ghost use Rattle.demand.specs.PeerRecords.{peerWords, peerOf, snapshotKeyOf, contestedOf, flagOf, timeOf, snapshotOf};
+ghost use Rattle.demand.specs.Words.{flagOf, timeOf};
+ghost use Rattle.demand.specs.PeerRecords.{peerWords, peerOf, snapshotKeyOf, contestedOf, snapshotOf};
 ghost use Rattle.demand.specs.PeerState.{hasSnapshot, isTaken, exact, Holds};
-ghost use Rattle.demand.specs.PeerChanges.{isFresh, later, hold, agePeer};
+ghost use Rattle.demand.specs.PeerChanges.{isFresh, hold, agePeer};
 ghost use Rattle.demand.specs.Steps.PeerScan.{firstWord};
 ghost use Rattle.demand.specs.Steps.PeerSteps.{inOrder, staysContested, isStale, staysPeer};
 

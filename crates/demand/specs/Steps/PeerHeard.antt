@@ -13,7 +13,8 @@ use Rattle.demand.specs.declared.peer_demand.PeerDemand.{PeerDemand}
 use Rattle.demand.specs.declared.peer_heard.Said.{Said}
 use Rattle.demand.specs.declared.peer_heard.Said.the-variants as said
 use Rattle.demand.specs.PeerLists.{only, all, any}
-use Rattle.demand.specs.PeerRecords.{SnapshotKey, ContestedKey, flagOf}
+use Rattle.demand.specs.Words.{flagOf}
+use Rattle.demand.specs.PeerRecords.{SnapshotKey, ContestedKey}
 use Rattle.demand.specs.PeerState.{PeersState, PeerTables}
 use Rattle.demand.specs.Steps.PeerScan.{arePeerWords, areKeyWords, PeersReady, KeysReady}
 

@@ -6,7 +6,8 @@ use native.Mathlib.Omega.{arith}
 use borrow.Author.Needs.{needs}
 use lib.ListN.{getD}
 use Rattle.records.specs.Records.{records, overwriteAt, overwritten}
-use Rattle.demand.specs.PeerRecords.{timeOf, snapshotOf, peerOf, peerWords}
+use Rattle.demand.specs.Words.{timeOf}
+use Rattle.demand.specs.PeerRecords.{snapshotOf, peerOf, peerWords}
 use Rattle.demand.specs.PeerState.{Holds}
 use Rattle.demand.specs.PeerChanges.{agePeer}
 use Rattle.demand.specs.Steps.PeerSteps.{isStale}

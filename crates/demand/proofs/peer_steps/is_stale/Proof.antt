@@ -3,7 +3,8 @@ use Prim.Native.Nat.{ℕ, zero, suc}
 use mathlib.Core.Path.{_≡_, refl, sym, ap, _∙_}
 use mathlib.Core.Bool.{true, false, not}
 use native.Mathlib.Omega.{arith}
-use Rattle.demand.specs.PeerRecords.{timeOf, snapshotOf}
+use Rattle.demand.specs.Words.{timeOf}
+use Rattle.demand.specs.PeerRecords.{snapshotOf}
 use Rattle.demand.specs.PeerChanges.{isFresh}
 use Rattle.demand.specs.Steps.PeerSteps.{isStale}
 use borrow.Author.Needs.{needs}

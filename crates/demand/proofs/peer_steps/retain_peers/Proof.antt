@@ -6,7 +6,8 @@ use mathlib.Core.List.{List, [], map}
 use native.Mathlib.Omega.{arith}
 use lib.ListN.{length, getD}
 use Rattle.records.specs.Records.{records}
-use Rattle.demand.specs.PeerRecords.{peerOf, contestedOf, timeOf, flagOf}
+use Rattle.demand.specs.Words.{timeOf, flagOf}
+use Rattle.demand.specs.PeerRecords.{peerOf, contestedOf}
 use Rattle.demand.specs.PeerState.{isTaken}
 use Rattle.demand.specs.Steps.PeerSteps.{staysPeer}
 use Rattle.demand.specs.PeerRecords.{ContestedKey}

@@ -6,7 +6,7 @@ use Rattle.demand.proofs.hot_set.HotEntry.words.Tie as tie
 
 returns : tie.Need-returns
 unfolding words
-returns c = rw (c .before .before .before .to-bits .ensures, c .before .before .flag .ensures, c .before .flag2 .ensures, c .time .ensures)
+returns c = rw (c .before .before .before .to-bits .ensures, c .before .before .flag-word .ensures, c .before .flag .ensures, c .time .ensures)
 
 pub words-spec : {M : Type 1} → statement M
 words-spec =
