@@ -1,6 +1,7 @@
 // An estimator of attempts a second. Attempts are counted between ticks; a tick moves the rate
 // towards what was counted, by the decay weight of the time since the tick before.
 
+use float::whole;
 ghost use mathlib.Core.Path.{_≡_};
 ghost use Rattle.demand.specs.Estimator as Estimator;
 ghost use Rattle.demand.specs.EstimatorCalls as Calls;
@@ -139,14 +140,15 @@ impl Demand {
                 time_constant: self.time_constant,
             },
             Times::At { last_tick, since } => {
-                if now <= last_tick {
+                let elapsed = whole::saturating_sub(now, last_tick);
+                if elapsed == 0 {
                     return self;
                 }
                 Self {
                     current_rate: folded(
                         self.current_rate,
                         self.attempts_since_tick,
-                        now - last_tick,
+                        elapsed,
                         self.time_constant,
                     ),
                     attempts_since_tick: 0,
@@ -198,10 +200,11 @@ impl Demand {
         match times {
             Times::Unset => 0.0,
             Times::At { last_tick, since } => {
-                if last_tick <= since {
+                let measured = whole::saturating_sub(last_tick, since);
+                if measured == 0 {
                     return 0.0;
                 }
-                let weight = alpha(last_tick - since, self.time_constant);
+                let weight = alpha(measured, self.time_constant);
                 if weight == 0.0 {
                     return 0.0;
                 }
