@@ -16,6 +16,8 @@ use Rattle.demand.specs.PeerLists.{only, all, any}
 use Rattle.demand.specs.Words.{flagOf}
 use Rattle.demand.specs.PeerRecords.{SnapshotKey, ContestedKey}
 use Rattle.demand.specs.PeerState.{PeersState, PeerTables}
+use Rattle.gcra.specs.Questions.{firstNo}
+use Rattle.demand.specs.PeerCalls.{peersQuestions}
 use Rattle.demand.specs.Steps.PeerScan.{arePeerWords, areKeyWords, PeersReady, KeysReady}
 
 -- what was heard, if anything
@@ -48,3 +50,8 @@ pub record StateReady (p : PeerDemand) (t : PeerTables) : Type 0 where
   pub pass : all arePeerWords (records 12 (p .peers) (t .peers)) ≡ true
   pub snapshotKeys : KeyTable 4 (p .«snapshot_keys») (t .snapshotKeys)
   pub contested : KeyTable 6 (p .contested) (t .contested)
+
+-- questions 1 and 2: the number of the first 'no', and where there is none the state can be read
+pub record Asked (p : PeerDemand) (t : PeerTables) (n : ℕ) : Type 0 where
+  pub first : n ≡ firstNo (peersQuestions p t)
+  pub ready : n ≡ 0 → StateReady p t

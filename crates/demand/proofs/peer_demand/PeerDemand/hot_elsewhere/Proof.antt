@@ -1,32 +1,20 @@
 -- `hot_elsewhere` meets its contract.
 use Rattle.gcra.proofs.Answers.{answer-no}
-use Rattle.demand.specs.PeerState.{tables}
-use Rattle.demand.specs.Steps.PeerHeard.{StateReady}
-use Rattle.demand.proofs.PeerReaderLaws.{asked-ready, answer-yes}
+use Rattle.demand.proofs.PeerReaderLaws.{answer-yes}
 use borrow.Author.Needs.{needs}
 use Rattle.demand.proofs.peer_demand.PeerDemand.hot_elsewhere.Statement.{statement}
 use Rattle.demand.proofs.peer_demand.PeerDemand.hot_elsewhere.Tie as tie
 
--- both questions passed
-ready : (c : tie.Else1) → let s = c .before .before .before .before .before .args in StateReady (s .self) (tables (s .peers .now) (s .snapshot-keys .now) (s .contested .now))
-ready c =
-    let a = c .before in
-    let s = c .before .before .before .before .before .args in
-    asked-ready (s .self) (tables (s .peers .now) (s .snapshot-keys .now) (s .contested .now)) (a .ask .result) (a .ask .ensures) (c .if1 .left)
-    (λ i. a .before .before .before .shared-slice-known .given i .fits)
-    (λ i. a .before .before .shared-slice-known2 .given i .fits)
-    (λ i. a .before .shared-slice-known3 .given i .fits)
-
 returns : tie.Need-returns
-returns c = answer-no _ _ (c .before .ask .result) (c .before .ask .ensures) (c .if1 .taken)
+returns c = answer-no _ _ (c .before .ask .result) (c .before .ask .ensures .first) (c .if1 .taken)
 
 is-primary-of-any-requires : tie.Need-is-primary-of-any-requires
-is-primary-of-any-requires c κs = ready c
+is-primary-of-any-requires c κs = c .before .ask .ensures .ready (c .if1 .left)
 
 returns-2 : tie.Need-returns-2
 returns-2 c =
     let e = c .before in
-    answer-yes _ _ (e .before .ask .result) _ _ (e .before .ask .ensures) (e .if1 .left) (c .is-primary-of-any .ensures)
+    answer-yes _ _ (e .before .ask .result) _ _ (e .before .ask .ensures .first) (e .if1 .left) (c .is-primary-of-any .ensures)
 
 pub hot-elsewhere-spec : {M : Type 1} → statement M
 hot-elsewhere-spec = tie.close (tie.spec (λ c κs. search needs) returns is-primary-of-any-requires returns-2)

@@ -2,35 +2,24 @@
 use mathlib.Core.Path.{_∙_}
 use Rattle.gcra.proofs.Answers.{answer-no}
 use Rattle.demand.specs.PeerState.{tables}
-use Rattle.demand.specs.Steps.PeerHeard.{StateReady}
 use Rattle.demand.proofs.PeerLenLaws.{asked-counted}
-use Rattle.demand.proofs.PeerReaderLaws.{asked-ready, answer-yes}
+use Rattle.demand.proofs.PeerReaderLaws.{answer-yes}
 use borrow.Author.Needs.{needs}
 use Rattle.demand.proofs.peer_demand.PeerDemand.len.Statement.{statement}
 use Rattle.demand.proofs.peer_demand.PeerDemand.len.Tie as tie
 
--- both questions passed
-ready : (c : tie.Else1) → let s = c .before .before .before .before .before .args in StateReady (s .self) (tables (s .peers .now) (s .snapshot-keys .now) (s .contested .now))
-ready c =
-    let a = c .before in
-    let s = c .before .before .before .before .before .args in
-    asked-ready (s .self) (tables (s .peers .now) (s .snapshot-keys .now) (s .contested .now)) (a .ask .result) (a .ask .ensures) (c .if1 .left)
-    (λ i. a .before .before .before .shared-slice-known .given i .fits)
-    (λ i. a .before .before .shared-slice-known2 .given i .fits)
-    (λ i. a .before .shared-slice-known3 .given i .fits)
-
 returns : tie.Need-returns
-returns c = answer-no _ _ (c .before .ask .result) (c .before .ask .ensures) (c .if1 .taken)
+returns c = answer-no _ _ (c .before .ask .result) (c .before .ask .ensures .first) (c .if1 .taken)
 
 count-keys-requires : tie.Need-count-keys-requires
-count-keys-requires c κs = ready c
+count-keys-requires c κs = c .before .ask .ensures .ready (c .if1 .left)
 
 returns-2 : tie.Need-returns-2
 returns-2 c =
     let e = c .before in
     let s = e .before .before .before .before .before .args in
-    let all-keys = c .count-keys .ensures ∙ asked-counted (s .self) (tables (s .peers .now) (s .snapshot-keys .now) (s .contested .now)) (e .before .ask .result) (e .before .ask .ensures) (e .if1 .left) in
-    answer-yes _ _ (e .before .ask .result) _ _ (e .before .ask .ensures) (e .if1 .left) all-keys
+    let all-keys = c .count-keys .ensures ∙ asked-counted (s .self) (tables (s .peers .now) (s .snapshot-keys .now) (s .contested .now)) (e .before .ask .result) (e .before .ask .ensures .first) (e .if1 .left) in
+    answer-yes _ _ (e .before .ask .result) _ _ (e .before .ask .ensures .first) (e .if1 .left) all-keys
 
 pub len-spec : {M : Type 1} → statement M
 len-spec = tie.close (tie.spec (λ c κs. search needs) returns count-keys-requires returns-2)
