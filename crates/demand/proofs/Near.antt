@@ -214,6 +214,8 @@ module _ (e c : ℕ) (pos : zero < c) where
   series-at-most : series (e % c * S / c) ≤ S
   series-at-most = series-le (e % c * S / c) (le-of-lt (scaled-lt (e % c) S c rest-lt (lit< tt)))
 
+  -- A sum of exp(e / c) up to the term 760, which is 20 * 38, is at least a product of 38 sums up to the term 20: of exp(r / c) once and of exp(1) 37 times.
+
   -- up to 37 times the time constant
   early : (n : ℕ) → 760 ≤ n → e / c < 37 → Against 64 D S (e / c * c + e % c) c n
   early n h l = record {
