@@ -52,6 +52,7 @@ pub mod PeerRunLaws
 pub mod PeerScanLaws
 pub mod PeerScanRunLaws
 pub mod PeerSettleLaws
+mod PeerStartLaws
 pub mod PeerStayLaws
 pub mod PeerStepLaws
 pub mod PeerStoreLaws

@@ -57,6 +57,14 @@ only-only p q (x ∷ xs) = split (p x)
     (λ f. only-no q x (only p xs) f ∙ only-only p q xs ∙ sym (only-no (λ y. p y && q y) x xs ((λ k. e k && f k)))))
     (λ e. ap (only q) (only-no p x xs e) ∙ only-only p q xs ∙ sym (only-no (λ y. p y && q y) x xs (ap (λ (b : Bool). b && q x) e)))
 
+pub those-twice : {A : Type 0} (number : A → ℕ) (a : ℕ) (xs : List A) → those number a (those number a xs) ≡ those number a xs
+unfolding those
+those-twice number a xs = only-only (λ x. eqb (number x) a) (λ x. eqb (number x) a) xs ∙ only-same (λ x. eqb (number x) a && eqb (number x) a) (λ x. eqb (number x) a) (λ x. again (eqb (number x) a)) xs
+  where
+    again : (b : Bool) → (b && b) ≡ b
+    again true = refl
+    again false = refl
+
 -- ---- a test that holds up to a place, and not from there on
 
 cut-next : (p : ℕ → Bool) (n m : ℕ) → Cut p (suc n) (suc m) → Cut (λ i. p (suc i)) n m

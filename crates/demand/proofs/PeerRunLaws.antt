@@ -148,6 +148,14 @@ records-take w (suc k) ys =
 pub slice-records : (w n lo hi : ℕ) (xs : List ℕ) → lo ≤ hi → hi ≤ n → slice lo hi (records w n xs) ≡ records w (hi - lo) (drop (lo * w) xs)
 slice-records w n lo hi xs h l = ap (drop lo) (take-records w n hi xs l) ∙ drop-records w hi lo xs h
 
+-- the part of a table with the records from lo up to hi
+pub records-part : (w n lo hi : ℕ) (xs : List ℕ) → lo ≤ hi → hi ≤ n → records w (hi - lo) (take (hi * w - lo * w) (drop (lo * w) xs)) ≡ slice lo hi (records w n xs)
+records-part w n lo hi xs h l =
+    let k : hi * w - lo * w ≡ (hi - lo) * w = omega (arith, sub-mul w hi lo h) in
+    ap (λ (m : ℕ). records w (hi - lo) (take m (drop (lo * w) xs))) k
+    ∙ records-take w (hi - lo) (drop (lo * w) xs)
+    ∙ sym (slice-records w n lo hi xs h l)
+
 module _ (w n a lo hi : ℕ) (xs run part : List ℕ) (p : Replaceable w n a [] xs) (e : rangeIn w n a xs ≡ Between lo hi) (q : part ≡ take ((hi - lo) * w) (drop (lo * w) xs)) where
   inside : lo * w + (hi - lo) * w ≤ length xs
   inside =

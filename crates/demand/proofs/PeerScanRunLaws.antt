@@ -64,7 +64,7 @@ before-first d [] s e = zero-le
 before-first d (x ∷ r) [] e = contradiction (sym e)
 before-first d (x ∷ r) (y ∷ s) e = ⊎-elim (λ l. omega arith) (λ l. omega arith) (before-cases x y (take d r) (take d s) e)
 
-before-one : (r s : List ℕ) → 1 ≤ length r → before (key 1 r) (key 1 s) ≡ true → firstWord r < firstWord s
+pub before-one : (r s : List ℕ) → 1 ≤ length r → before (key 1 r) (key 1 s) ≡ true → firstWord r < firstWord s
 unfolding before
 before-one [] s h e = absurd (omega arith)
 before-one (x ∷ r) [] h e = contradiction (sym e)
@@ -155,7 +155,7 @@ module _ (w id : ℕ) where
   run-stops low r rs e = ap (λ (b : Bool). cond b (suc (runLength w id (suc (getD r 1 0)) rs)) 0) e
 
   -- what such a key says
-  key-says : (low : ℕ) (r : List ℕ) → isKeyOf w id low r ≡ true → (isOf id r ≡ true) × (low ≤ getD r 1 0) × (areKeyWords w r ≡ true)
+  pub key-says : (low : ℕ) (r : List ℕ) → isKeyOf w id low r ≡ true → (isOf id r ≡ true) × (low ≤ getD r 1 0) × (areKeyWords w r ≡ true)
   unfolding isKeyOf
   key-says low r e =
       let a = both (isOf id r) _ e in
@@ -169,7 +169,7 @@ module _ (w id : ℕ) where
   key-lower : (low high : ℕ) (r : List ℕ) → low ≤ high → isKeyOf w id high r ≡ true → isKeyOf w id low r ≡ true
   key-lower low high r l e = let s = key-says high r e in key-is low r (s .0) (omega (arith, s .1)) (s .2)
 
-  run-keys : (low : ℕ) (rs : List (List ℕ)) → all (isKeyOf w id low) (take (runLength w id low rs) rs) ≡ true
+  pub run-keys : (low : ℕ) (rs : List (List ℕ)) → all (isKeyOf w id low) (take (runLength w id low rs) rs) ≡ true
   unfolding all runLength
   run-keys low [] = refl
   run-keys low (r ∷ rs) = split (isKeyOf w id low r)
@@ -193,7 +193,7 @@ module _ (w id : ℕ) where
       (run-ascends high rs))
       (λ e. ap (λ (m : ℕ). ascending 2 (take m (r ∷ rs))) (run-stops low r rs e))
 
-  run-within : (low : ℕ) (rs : List (List ℕ)) → runLength w id low rs ≤ length rs
+  pub run-within : (low : ℕ) (rs : List (List ℕ)) → runLength w id low rs ≤ length rs
   unfolding runLength
   run-within low [] = zero-le
   run-within low (r ∷ rs) = split (isKeyOf w id low r)
@@ -352,7 +352,7 @@ module _ (w id : ℕ) (xs : List ℕ) (at : ℕ) where
 
 -- ---- the scan: a run
 -- the length of the run from record i on
-abbrev ahead : ℕ → ℕ → ℕ → List ℕ → ℕ → ℕ → ℕ
+abbrev pub ahead : ℕ → ℕ → ℕ → List ℕ → ℕ → ℕ → ℕ
 ahead w n id xs low i = runLength w id low (drop i (records w n xs))
 
 abbrev isHere : ℕ → ℕ → List ℕ → ℕ → ℕ → Bool

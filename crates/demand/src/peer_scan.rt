@@ -3,13 +3,14 @@
 use crate::peer_demand::MAX_PEERS;
 use crate::peer_demand::PEER_WORDS;
 ghost use mathlib.Core.Path.{_≡_};
-ghost use Prim.Native.Nat.{suc, _+_, _-_, _*_, _≤_};
+ghost use mathlib.Core.Bool.{true};
+ghost use Prim.Native.Nat.{suc, _+_, _-_, _*_, _≤_, _<_};
 ghost use lib.ListN.{length, getD, drop};
 ghost use Rattle.records.specs.Records.{records};
 ghost use Rattle.demand.specs.PeerLists.{all};
 ghost use Rattle.demand.specs.Steps.PeerScan.{isTime, isSnapshot, isPastEpoch, isPast, isPeer, arePeerWords};
 ghost use Rattle.demand.specs.Steps.PeerScan.{areKeyWords, isKeyOf, runLength, isRun, areRuns};
-ghost use Rattle.demand.specs.Steps.PeerScan.{arePeers, areKeys, PeersReady, KeysReady};
+ghost use Rattle.demand.specs.Steps.PeerScan.{arePeers, areKeys, PeersReady, KeysReady, Starts};
 
 // Whether a flag and a time are the words of a time that may be missing.
 fn is_time(flag: u64, time: u64) -> bool
@@ -212,7 +213,8 @@ fn is_run(count: usize, flag: u64, least: u64, bound: usize) -> bool
     least <= flag
 }
 
-// Whether the first n records are a run of keys for each peer, in the order of the peers.
+// Whether the first n records are a run of keys for each peer, in the order of the peers; where they
+// are, `starts` says where each run starts, and then where the last one ends.
 fn are_runs(
     t: &[u64],
     w: usize,
@@ -221,11 +223,15 @@ fn are_runs(
     p: usize,
     least: u64,
     bound: usize,
+    starts: &mut [usize],
 ) -> bool
     requires { ⌜ p * 12 ≤ length (now peers) ⌝ }
     requires { ⌜ KeysReady w n (now t) ⌝ }
+    requires { ⌜ p < length (now starts) ⌝ }
     ensures { λ r. ⌜ r ≡ areRuns w least bound (records 12 p (now (peers .entry))) (records w n (now (t .entry))) ⌝ }
+    ensures { λ r. ⌜ (r ≡ true → Starts w n p n (now (t .entry)) (now (peers .entry)) (now (starts .exit))) ⌝ }
 {
+    starts[0] = 0;
     let mut from = 0;
     let mut i = 0;
     while i < p {
@@ -233,8 +239,9 @@ fn are_runs(
         if !is_run(to - from, peers[i * PEER_WORDS + 3], least, bound) {
             return false;
         }
-        from = to;
         i += 1;
+        starts[i] = to;
+        from = to;
     }
     from == n
 }
@@ -254,7 +261,7 @@ pub(crate) fn are_peers(t: &[u64], n: usize) -> bool
 }
 
 // Whether the first n records of w words are those of valid keys of the peers, in their order, at
-// most `bound` of a peer.
+// most `bound` of a peer; where they are, `starts` says where the keys of each peer start.
 pub(crate) fn are_keys(
     t: &[u64],
     w: usize,
@@ -263,13 +270,16 @@ pub(crate) fn are_keys(
     p: usize,
     least: u64,
     bound: usize,
+    starts: &mut [usize],
 ) -> bool
     requires { ⌜ PeersReady p (now peers) ⌝ }
     requires { ⌜ (4 ≤ w) × (bound ≤ 256) × ((32 * bound) * w ≤ length (now t)) ⌝ }
+    requires { ⌜ 32 < length (now starts) ⌝ }
     ensures { λ r. ⌜ r ≡ areKeys w least bound (records 12 p (now (peers .entry))) (records w n (now (t .entry))) ⌝ }
+    ensures { λ r. ⌜ (r ≡ true → Starts w n p n (now (t .entry)) (now (peers .entry)) (now (starts .exit))) ⌝ }
 {
     if MAX_PEERS * bound < n {
         return false;
     }
-    are_runs(t, w, n, peers, p, least, bound)
+    are_runs(t, w, n, peers, p, least, bound, starts)
 }

@@ -18,7 +18,7 @@ use Rattle.demand.specs.PeerRecords.{SnapshotKey, ContestedKey}
 use Rattle.demand.specs.PeerState.{PeersState, PeerTables}
 use Rattle.gcra.specs.Questions.{firstNo}
 use Rattle.demand.specs.PeerCalls.{peersQuestions}
-use Rattle.demand.specs.Steps.PeerScan.{arePeerWords, areKeyWords, PeersReady, KeysReady}
+use Rattle.demand.specs.Steps.PeerScan.{arePeerWords, areKeyWords, PeersReady, KeysReady, Starts}
 
 -- what was heard, if anything
 abbrev pub saidOf : Said → Option Heard
@@ -50,6 +50,11 @@ pub record StateReady (p : PeerDemand) (t : PeerTables) : Type 0 where
   pub pass : all arePeerWords (records 12 (p .peers) (t .peers)) ≡ true
   pub snapshotKeys : KeyTable 4 (p .«snapshot_keys») (t .snapshotKeys)
   pub contested : KeyTable 6 (p .contested) (t .contested)
+
+-- where the keys of each peer start in both tables of keys
+pub record Started (p : PeerDemand) (t : PeerTables) (snapshotStarts contestedStarts : List ℕ) : Type 0 where
+  pub snapshotKeys : Starts 4 (p .«snapshot_keys») (p .peers) (p .«snapshot_keys») (t .snapshotKeys) (t .peers) snapshotStarts
+  pub contested : Starts 6 (p .contested) (p .peers) (p .contested) (t .contested) (t .peers) contestedStarts
 
 -- questions 1 and 2: the number of the first 'no', and where there is none the state can be read
 pub record Asked (p : PeerDemand) (t : PeerTables) (n : ℕ) : Type 0 where

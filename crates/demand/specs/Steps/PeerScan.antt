@@ -1,5 +1,5 @@
 -- Question 2 of the peers' tables, asked word by word: what the private functions of the scan cite. Definitions only.
-use Prim.Native.Nat.{ℕ, zero, suc, _*_, _^_, _≤_}
+use Prim.Native.Nat.{ℕ, zero, suc, _+_, _*_, _^_, _≤_, _<_}
 use mathlib.Core.Path.{_≡_}
 use mathlib.Core.Bool.{Bool, true, cond, _&&_, _||_}
 use mathlib.Core.List.{List, [], _∷_}
@@ -103,3 +103,12 @@ pub record PeersReady (p : ℕ) (xs : List ℕ) : Type 0 where
 pub record KeysReady (w n : ℕ) (xs : List ℕ) : Type 0 where
   pub wide : 4 ≤ w
   pub fit : n * w ≤ length xs
+
+-- where the keys of each of p peers start: those of peer i are the records from its start up to the next one, the last of
+-- which is where they all end
+pub record Starts (w n p last : ℕ) (xs peers starts : List ℕ) : Type 0 where
+  pub room : p < length starts
+  pub begin : getD starts 0 0 ≡ 0
+  pub end : getD starts p 0 ≡ last
+  pub rise : (i : ℕ) → i < p → getD starts i 0 ≤ getD starts (i + 1) 0
+  pub own : (i j : ℕ) → i < p → getD starts i 0 ≤ j → j < getD starts (i + 1) 0 → firstWord (getD (records w n xs) j []) ≡ getD peers (i * 12) 0

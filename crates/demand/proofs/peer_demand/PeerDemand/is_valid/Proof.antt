@@ -3,7 +3,9 @@ use mathlib.Core.Path.{_≡_, sym, _∙_}
 use mathlib.Core.Bool.{true, false}
 use native.Mathlib.Omega.{arith}
 use borrow.Author.Tests.{not-true, not-false}
+use borrow.Author.Needs.{needs}
 use Rattle.records.specs.Records.{records}
+use Rattle.records.proofs.TestLaws.{contradiction}
 use Rattle.demand.specs.PeerState.{tables, isValid}
 use Rattle.demand.specs.Steps.PeerScan.{arePeers, isScanned, PeersReady}
 use Rattle.demand.proofs.PeerScanLaws.{stop, goes}
@@ -15,18 +17,18 @@ scanned : (c : tie.After-shared-slice-known3) → let s = c .before .before .bef
 scanned c =
     let st = c .before .before .before in
     let s = st .args in
-    scanned-is-valid (s .self) (tables (s .peers .now) (s .snapshot-keys .now) (s .contested .now)) (st .pre)
+    scanned-is-valid (s .self) (tables (s .peers .now) (s .snapshot-keys .now) (s .contested .now)) (st .pre .0)
     (all-words (s .peers .now) (λ i. omega (arith, c .before .before .shared-slice-known .given i)))
     (all-words (s .snapshot-keys .now) (λ i. omega (arith, c .before .shared-slice-known2 .given i)))
     (all-words (s .contested .now) (λ i. omega (arith, c .shared-slice-known3 .given i)))
 
 abbrev start : tie.Else1 → tie.Start
-start c = c .before .before .before .before .before
+start c = c .before .before .before .before .before .before .before
 
 roomy : (c : tie.Else1) → let s = start c .args in Roomy (tables (s .peers .now) (s .snapshot-keys .now) (s .contested .now))
 roomy c =
     let s = start c .args in
-    room-says (tables (s .peers .now) (s .snapshot-keys .now) (s .contested .now)) (start c .pre)
+    room-says (tables (s .peers .now) (s .snapshot-keys .now) (s .contested .now)) (start c .pre .0)
 
 passed : (c : tie.Else1) → arePeers (records 12 (start c .args .self .peers) (start c .args .peers .now)) ≡ true
 passed c = sym (c .before .are-peers .ensures) ∙ not-false (c .before .are-peers .result) (c .if1 .left)
@@ -36,38 +38,44 @@ ready c = peers-ready (start c .args .self .peers) (start c .args .peers .now) (
 
 are-peers-requires : tie.Need-are-peers-requires
 are-peers-requires c κs =
-    let st = c .before .before .before in
+    let st = c .before .before .before .before .before in
     let s = st .args in
-    room-says (tables (s .peers .now) (s .snapshot-keys .now) (s .contested .now)) (st .pre) .peers
+    room-says (tables (s .peers .now) (s .snapshot-keys .now) (s .contested .now)) (st .pre .0) .peers
 
 returns : tie.Need-returns
 unfolding isScanned
-returns c = stop _ _ (sym (c .before .are-peers .ensures) ∙ not-true (c .before .are-peers .result) (c .if1 .taken)) ∙ scanned (c .before .before)
+returns c = (stop _ _ (sym (c .before .are-peers .ensures) ∙ not-true (c .before .are-peers .result) (c .if1 .taken)) ∙ scanned (c .before .before .before .before), λ e. contradiction (sym e))
 
 are-keys-requires : tie.Need-are-keys-requires
 are-keys-requires c κs =
-    let s = start c .args in
-    (ready c, (omega arith, omega arith, omega (arith, roomy c .snapshotKeys)))
+    let e = c .before in
+    (ready e, ((omega arith, omega arith, omega (arith, roomy e .snapshotKeys)), start e .pre .1 .0))
 
 returns-2 : tie.Need-returns-2
 unfolding isScanned
 returns-2 c =
-    let e = c .before .before in
-    goes _ _ false (passed e) (stop _ _ (sym (c .before .are-keys .ensures) ∙ not-true (c .before .are-keys .result) (c .if2 .taken))) ∙ scanned (e .before .before)
+    let k = c .before .before .before in
+    let e = k .before .before in
+    (goes _ _ false (passed e) (stop _ _ (sym (k .are-keys .ensures .0) ∙ not-true (k .are-keys .result) (c .if2 .taken))) ∙ scanned (e .before .before .before .before), λ e. contradiction (sym e))
 
 are-keys-requires-2 : tie.Need-are-keys-requires-2
 are-keys-requires-2 c κs =
-    let e = c .before .before in
-    (ready e, (omega arith, omega arith, omega (arith, roomy e .contested)))
+    let e = c .before .before .before .before .before .before in
+    (ready e, ((omega arith, omega arith, omega (arith, roomy e .contested)), start e .pre .1 .1))
 
 returns-3 : tie.Need-returns-3
 unfolding isScanned
 returns-3 c =
-    let f = c .before in
-    let e = f .before .before in
-    goes _ _ _ (passed e) (goes _ _ _ (sym (f .before .are-keys .ensures) ∙ not-false (f .before .are-keys .result) (f .if2 .left)) (c .are-keys2 .ensures)) ∙ scanned (e .before .before)
+    let d = c .before .before in
+    let f = d .before .before in
+    let k = f .before .before .before in
+    let e = k .before .before in
+    let found = not-false (k .are-keys .result) (f .if2 .left) in (
+      goes _ _ _ (passed e) (goes _ _ _ (sym (k .are-keys .ensures .0) ∙ found) (d .are-keys2 .ensures .0)) ∙ scanned (e .before .before .before .before),
+      λ h. record { snapshotKeys = k .are-keys .ensures .1 found; contested = d .are-keys2 .ensures .1 h },
+    )
 
 pub is-valid-spec : {M : Type 1} → statement M
 is-valid-spec =
     tie.close
-    (tie.spec are-peers-requires returns are-keys-requires returns-2 are-keys-requires-2 returns-3)
+    (tie.spec are-peers-requires returns are-keys-requires (λ c. search needs) returns-2 are-keys-requires-2 (λ c. search needs) (λ c. search needs) returns-3)

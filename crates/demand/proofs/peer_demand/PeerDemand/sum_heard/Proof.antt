@@ -15,29 +15,31 @@ use Rattle.demand.proofs.peer_demand.PeerDemand.sum_heard.Statement.{st
 use Rattle.demand.proofs.peer_demand.PeerDemand.sum_heard.Tie as tie
 
 abbrev Inv-loop : tie.InvT-loop
-Inv-loop self peers snapshot-keys contested key n sum₀ i₀ sum i = (i ≤ n) × (totalFrom sum key (stateOf self (tables peers snapshot-keys contested)) (map peerOf (drop i (records 12 (self .peers) peers))) ≡ total key (stateOf self (tables peers snapshot-keys contested)))
+Inv-loop self peers snapshot-keys contested snapshot-starts contested-starts key n sum₀ i₀ sum i = (i ≤ n) × (totalFrom sum key (stateOf self (tables peers snapshot-keys contested)) (map peerOf (drop i (records 12 (self .peers) peers))) ≡ total key (stateOf self (tables peers snapshot-keys contested)))
 
 abbrev μ-loop : tie.MeasureT-loop
-μ-loop self peers snapshot-keys contested key n sum₀ i₀ sum i = n - i
+μ-loop self peers snapshot-keys contested snapshot-starts contested-starts key n sum₀ i₀ sum i = n - i
 
 loop-holds : tie.Need-loop-holds Inv-loop μ-loop
 loop-holds c =
-    let s = c .before .before .before .args in
+    let s = c .before .before .before .before .before .args in
     (omega arith, total-starts (s .self) (tables (s .peers .now) (s .snapshot-keys .now) (s .contested .now)) (s .key))
 
-heard-from-requires : tie.Need-heard-from-requires Inv-loop μ-loop
-heard-from-requires c κs = (c .before .before .before .before .before .pre, c .loop-test .taken)
+heard-among-own-requires : tie.Need-heard-among-own-requires Inv-loop μ-loop
+heard-among-own-requires c κs =
+    let st = c .before .before .before .before .before .before .before in
+    (st .pre .0, (st .pre .1, c .loop-test .taken))
 
 loop-again : tie.Need-loop-again Inv-loop μ-loop
 loop-again c =
-    let s = c .before .before .before .before .before .before .before .args in
+    let s = c .before .before .before .before .before .before .before .before .before .args in
     let l = c .before .before .before .loop in
     let t = tables (s .peers .now) (s .snapshot-keys .now) (s .contested .now) in
-    (omega arith, ap (λ (x : Float). totalFrom x (s .key) (stateOf (s .self) t) (map peerOf (drop (l .i + 1) (records 12 (s .self .peers) (s .peers .now))))) (c .add-heard .ensures ∙ ap (addHeard (l .sum)) (c .before .heard-from .ensures)) ∙ sym (total-goes (s .self) t (s .key) (l .sum) (l .i) (omega arith)) ∙ l .inv .1)
+    (omega arith, ap (λ (x : Float). totalFrom x (s .key) (stateOf (s .self) t) (map peerOf (drop (l .i + 1) (records 12 (s .self .peers) (s .peers .now))))) (c .add-heard .ensures ∙ ap (addHeard (l .sum)) (c .before .heard-among-own .ensures)) ∙ sym (total-goes (s .self) t (s .key) (l .sum) (l .i) (omega arith)) ∙ l .inv .1)
 
 returns : tie.Need-returns Inv-loop μ-loop
 returns c =
-    let s = c .before .before .before .before .before .args in
+    let s = c .before .before .before .before .before .before .before .args in
     let l = c .before .loop in
     sym (total-ends (s .self) (tables (s .peers .now) (s .snapshot-keys .now) (s .contested .now)) (s .key) (l .sum) (l .i) (omega arith)) ∙ l .inv .1
 
@@ -48,7 +50,7 @@ sum-heard-spec =
     Inv-loop
     μ-loop
     loop-holds
-    heard-from-requires
+    heard-among-own-requires
     (λ c κs. search needs)
     (λ c. omega arith)
     (λ c. omega arith)

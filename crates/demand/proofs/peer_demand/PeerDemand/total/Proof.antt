@@ -6,15 +6,31 @@ use Rattle.demand.proofs.peer_demand.PeerDemand.total.Statement.{statem
 use Rattle.demand.proofs.peer_demand.PeerDemand.total.Tie as tie
 
 returns : tie.Need-returns
-returns c = answer-no _ _ (c .before .ask .result) (c .before .ask .ensures .first) (c .if1 .taken)
+returns c =
+    let a = c .before .before .before in
+    answer-no _ _ (a .ask-for-starts .result) (a .ask-for-starts .ensures .0 .first) (c .if1 .taken)
 
 sum-heard-requires : tie.Need-sum-heard-requires
-sum-heard-requires c κs = c .before .ask .ensures .ready (c .if1 .left)
+sum-heard-requires c κs =
+    let e = c .before .before in
+    let a = e .before .before .before in
+    (a .ask-for-starts .ensures .0 .ready (e .if1 .left), a .ask-for-starts .ensures .1 (e .if1 .left))
 
 returns-2 : tie.Need-returns-2
 returns-2 c =
-    let e = c .before in
-    answer-yes _ _ (e .before .ask .result) _ _ (e .before .ask .ensures .first) (e .if1 .left) (c .sum-heard .ensures)
+    let e = c .before .before .before in
+    let a = e .before .before .before in
+    answer-yes _ _ (a .ask-for-starts .result) _ _ (a .ask-for-starts .ensures .0 .first) (e .if1 .left) (c .sum-heard .ensures)
 
 pub total-spec : {M : Type 1} → statement M
-total-spec = tie.close (tie.spec (λ c κs. search needs) returns sum-heard-requires returns-2)
+total-spec =
+    tie.close
+    (tie.spec
+    (λ c. search needs)
+    (λ c. search needs)
+    (λ c κs. search needs)
+    returns
+    (λ c. search needs)
+    (λ c. search needs)
+    sum-heard-requires
+    returns-2)
