@@ -107,6 +107,11 @@ module _ {A : Type 0} (p : A → Bool) (d : A) where
       second-of false true e = refl
       second-of false false e = e
 
+  pub all-pass : (xs : List A) → ((i : ℕ) → i < length xs → p (getD xs i d) ≡ true) → all p xs ≡ true
+  unfolding all
+  all-pass [] h = refl
+  all-pass (x ∷ xs) h = (λ k. h 0 (suc-le-suc zero-le) k && all-pass xs (λ i l. h (suc i) (suc-le-suc l)) k)
+
   -- none passes; the first to pass is at i; those from lo up to hi pass
   pub none-pass : (xs : List A) → ((i : ℕ) → i < length xs → p (getD xs i d) ≡ false) → only p xs ≡ []
   unfolding only

@@ -12,14 +12,14 @@ use lib.ListN.{length, take, drop, getD}
 use lib.Seq.{slice, slice-cons, slice-empty, getD-take, take-nil, drop-nil, length-take-le}
 use Rattle.records.specs.declared.Found.the-variants.{At, Gap}
 use Rattle.records.specs.Records.{before, ascending, isBelow, lowerBound, find, splice}
-use Rattle.records.proofs.TestLaws.{contradiction, split}
+use Rattle.records.proofs.TestLaws.{contradiction, split, same-truth}
 use Rattle.records.proofs.OrderLaws.{keyAt, before-equal, before-irrefl, before-asym, before-word, asc-lt}
 use Rattle.records.proofs.SearchLaws.{Cut}
 use Rattle.records.proofs.PlaceLaws.{lower-bound-first, at-says, gap-place}
 use Rattle.records.proofs.TableLaws.{Wide}
-use Rattle.demand.specs.PeerLists.{only, any, those, replaced}
+use Rattle.demand.specs.PeerLists.{only, all, any, those, replaced}
 pub use Rattle.demand.specs.Steps.PeerScan.{firstWord}
-use Rattle.demand.proofs.PeerListLaws.{only-map}
+use Rattle.demand.proofs.PeerListLaws.{only-map, all-index, all-pass}
 pub use Rattle.demand.proofs.PeerListLaws.{any-map}
 
 -- ---- lists by a test
@@ -283,6 +283,29 @@ module _ (d : ℕ) (number : List ℕ → ℕ) (keyOf : ℕ → List ℕ) (rs : 
 
   pub those-gap : find d (keyOf a) rs ≡ Gap i → those number a rs ≡ []
   those-gap e = those-is number [] a rs i i (gap-low e) (gap-high e) ∙ slice-empty i rs
+
+  -- all are below a where the last is
+  pub last-below : length rs ≡ suc i → ltb (number (getD rs i [])) a ≡ all (λ (r : List ℕ). ltb (number r) a) rs
+  last-below e = same-truth (ltb (number (getD rs i [])) a) (all (λ (r : List ℕ). ltb (number r) a) rs)
+      (λ t. all-pass (λ (r : List ℕ). ltb (number r) a) [] rs (λ j h. ⊎-elim
+      (λ q. ap (λ (n : ℕ). ltb (number (getD rs n [])) a) q ∙ t)
+      (λ q. lt-ltb (number (getD rs j [])) a (omega (arith, rise j i q (omega (arith, e)), ltb-true (number (getD rs i [])) a t)))
+      (eq-or-lt-of-le {n = j} {m = i} (omega (arith, e)))))
+      (λ t. all-index (λ (r : List ℕ). ltb (number r) a) [] rs t i (omega (arith, e)))
+
+-- where all are below a, its gap is at the end
+pub replaced-end : (number : List ℕ → ℕ) (a : ℕ) (rs : List (List ℕ)) → all (λ (r : List ℕ). ltb (number r) a) rs ≡ true → (new : List (List ℕ)) → replaced number a new rs ≡ splice (length rs) (length rs) new rs
+unfolding splice
+replaced-end number a rs e new =
+    let below = all-index (λ (r : List ℕ). ltb (number r) a) [] rs e in
+    replaced-is number [] a rs (length rs) (length rs)
+    (record { within = omega arith; below = below; above = λ j h l. absurd (omega arith) })
+    (record {
+      within = omega arith;
+      below = λ j h. lt-ltb (number (getD rs j [])) (a + 1) (omega (arith, ltb-true (number (getD rs j [])) a (below j h)));
+      above = λ j h l. absurd (omega arith);
+    })
+    new
 
 -- by the first word, and by the second in a run of records that share the first
 pub first-shape : (w : ℕ) (rs : List (List ℕ)) → 1 ≤ w → Wide w rs → (i : ℕ) → i < length rs → keyAt 1 rs i ≡ firstWord (getD rs i []) ∷ []

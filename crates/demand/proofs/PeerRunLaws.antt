@@ -8,7 +8,7 @@ use native.Mathlib.Omega.{arith}
 use borrow.Author.Tests.{ltb-true, ltb-false, lt-ltb, le-ltb, le-leb, eqb-true, eq-eqb}
 use lib.Dec.{ltb, leb, eqb}
 use lib.ListN.{length, take, drop, getD, length-drop}
-use lib.Seq.{slice, length-slice, take-nil, drop-nil, take-take, length-take-le}
+use lib.Seq.{slice, length-slice, take-nil, drop-nil, take-take, getD-take, length-take-le}
 use Rattle.records.specs.declared.Found.the-variants.{At, Gap, Unfit}
 use Rattle.records.specs.declared.Span.the-variants.{Between, NoSpan}
 use Rattle.records.specs.Records.{records, table, fits, keyed, lowerBound, find, findIn, rangeOf, rangeIn, splice, insertAt, overwriteAt, spliceable, spliced, insertable, inserted, overwritable, overwritten, removable}
@@ -20,10 +20,11 @@ use Rattle.records.proofs.SearchLaws.{find-fit}
 use Rattle.records.proofs.PlaceLaws.{find-cases, at-says, gap-place}
 use Rattle.records.proofs.EditLaws.{length-splice, length-insert, length-overwrite}
 use Rattle.records.proofs.TableLaws.{Wide, wide-records, records-spliced, records-inserted, records-overwritten}
-use Rattle.demand.specs.PeerLists.{any, those, replaced}
+use Rattle.demand.specs.PeerLists.{all, any, those, replaced}
 use Rattle.demand.specs.Steps.PeerRuns.{word, replacedRun, Replaceable, Tabled, Front, Run}
 use Rattle.demand.proofs.PeerListLaws.{all-index}
-use Rattle.demand.proofs.PeerRangeLaws.{those-range, replaced-splice, range-ordered, first-cut, replaced-at, replaced-gap, second-shape, second-order, any-number, firstWord, secondWord}
+use Rattle.demand.proofs.PeerRowLaws.{word-at}
+use Rattle.demand.proofs.PeerRangeLaws.{those-range, replaced-splice, range-ordered, first-cut, replaced-at, replaced-gap, last-below, replaced-end, second-shape, second-order, any-number, firstWord, secondWord}
 
 -- what holds of the words holds of the same words
 pub front-as : {w n : ℕ} {rs : List (List ℕ)} {ys zs : List ℕ} → ys ≡ zs → Front w n rs zs → Front w n rs ys
@@ -221,6 +222,14 @@ never-at i e = let z : _≡_ {A = ℕ} 0 1 = cc in omega arith
 never-gap : (i : ℕ) → Unfit ≡ Gap i → ⊥
 never-gap i e = let z : _≡_ {A = ℕ} 0 1 = cc in omega arith
 
+-- the word that records share is the first of their words
+pub run-own : (w id n : ℕ) (xs : List ℕ) → Run w id n xs → 2 ≤ w → Run w (word 0 xs) n xs
+unfolding records all
+run-own w id zero xs u two = record { fit = u .fit; shared = refl; ascends = u .ascends }
+run-own w id (suc n) xs u two =
+    let e : word 0 (take w xs) ≡ id = eqb-true (word 0 (take w xs)) id (all-index (λ (r : List ℕ). eqb (word 0 r) id) [] (records w (suc n) xs) (u .shared) 0 (omega (arith, length-records w (suc n) xs))) in
+    subst (λ (a : ℕ). Run w a (suc n) xs) (sym e ∙ getD-take w xs 0 0 (omega arith)) u
+
 module _ (w id n : ℕ) (xs : List ℕ) (u : Run w id n xs) (two : 2 ≤ w) where
   pub run-wide : Wide w (records w n xs)
   run-wide = wide-records w n xs (u .fit)
@@ -265,12 +274,32 @@ module _ (w id n : ℕ) (xs : List ℕ) (u : Run w id n xs) (two : 2 ≤ w) wher
           front = records-overwritten w n i r xs o ∙ sym (h .1 (r ∷ []));
         }
 
-    pub put-in : (i : ℕ) (r : List ℕ) → length r ≡ w → (n + 1) * w ≤ length xs → findIn w 2 n id k xs ≡ Gap i → Front w (n + 1) (replaced (word 1) k (r ∷ []) (records w n xs)) (inserted w n i r xs)
+    -- all keys are below k where there are none, and where the last is
+    pub above-none : n ≡ 0 → true ≡ all (λ (r : List ℕ). ltb (word 1 r) k) (records w n xs)
+    unfolding records all
+    above-none e = sym (ap (λ (m : ℕ). all (λ (r : List ℕ). ltb (word 1 r) k) (records w m xs)) e)
+
+    pub above-last : (n ≡ 0 → ⊥) → ltb (getD xs ((n - 1) * w + 1) 0) k ≡ all (λ (r : List ℕ). ltb (word 1 r) k) (records w n xs)
+    above-last h =
+        ap (λ (m : ℕ). ltb m k) (sym (word-at w n xs (n - 1) 1 (omega arith) two))
+        ∙ last-below 2 secondWord (λ (x : ℕ). id ∷ x ∷ []) (records w n xs) (u .ascends) run-shape (second-order id) k (n - 1) (omega (arith, length-records w n xs))
+
+    -- a record put in before record i, where its gap is
+    put-before : (i : ℕ) (r : List ℕ) → length r ≡ w → (n + 1) * w ≤ length xs → i ≤ n → replaced (word 1) k (r ∷ []) (records w n xs) ≡ splice i i (r ∷ []) (records w n xs) → Front w (n + 1) (replaced (word 1) k (r ∷ []) (records w n xs)) (inserted w n i r xs)
     unfolding insertable insertAt
+    put-before i r lr room h e =
+        let o : insertable (length xs) w n i (length r) ≡ true = and-intro (eqb (length r) w) _ (eq-eqb (length r) w lr) (and-intro (leb i n) _ (le-leb i n h) (fits-intro (length xs) w (n + 1) (omega arith) room)) in
+        record {
+          count = sym (ap length e ∙ length-insert i r (records w n xs) (omega (arith, length-records w n xs)) ∙ ap (λ (m : ℕ). m + 1) (length-records w n xs));
+          front = records-inserted w n i r xs o ∙ sym e;
+        }
+
+    pub put-in : (i : ℕ) (r : List ℕ) → length r ≡ w → (n + 1) * w ≤ length xs → findIn w 2 n id k xs ≡ Gap i → Front w (n + 1) (replaced (word 1) k (r ∷ []) (records w n xs)) (inserted w n i r xs)
     put-in i r lr room e =
         let h = put-gap i e in
-        let o : insertable (length xs) w n i (length r) ≡ true = and-intro (eqb (length r) w) _ (eq-eqb (length r) w lr) (and-intro (leb i n) _ (le-leb i n (h .0)) (fits-intro (length xs) w (n + 1) (omega arith) room)) in
-        record {
-          count = sym (ap length (h .1 (r ∷ [])) ∙ length-insert i r (records w n xs) (omega (arith, h .0, length-records w n xs)) ∙ ap (λ (m : ℕ). m + 1) (length-records w n xs));
-          front = records-inserted w n i r xs o ∙ sym (h .1 (r ∷ []));
-        }
+        put-before i r lr room (h .0) (h .1 (r ∷ []))
+
+    pub put-last : (r : List ℕ) → length r ≡ w → (n + 1) * w ≤ length xs → all (λ (x : List ℕ). ltb (word 1 x) k) (records w n xs) ≡ true → Front w (n + 1) (replaced (word 1) k (r ∷ []) (records w n xs)) (inserted w n n r xs)
+    put-last r lr room e =
+        put-before n r lr room (omega arith)
+        (replaced-end secondWord k (records w n xs) e (r ∷ []) ∙ ap (λ (m : ℕ). splice m m (r ∷ []) (records w n xs)) (length-records w n xs))
