@@ -16,7 +16,7 @@ mod questions;
 mod script;
 mod text;
 
-use std::io::{self, BufWriter, Read, Write};
+use std::io::{self, BufReader, BufWriter, Write};
 use std::process::ExitCode;
 
 fn main() -> ExitCode {
@@ -38,10 +38,9 @@ fn main() -> ExitCode {
 }
 
 fn answer() -> io::Result<()> {
-    let mut script = Vec::new();
-    io::stdin().lock().read_to_end(&mut script)?;
+    let mut script = BufReader::with_capacity(1 << 20, io::stdin().lock());
     let mut out = BufWriter::with_capacity(1 << 20, io::stdout().lock());
-    script::answer_all(&script, &mut out)?;
+    script::answer_all(&mut script, &mut out)?;
     out.flush()
 }
 

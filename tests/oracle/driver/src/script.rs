@@ -1,7 +1,7 @@
 //! A script: its lines, the state that its calls share, and the table of calls.
 
 use std::collections::HashMap;
-use std::io::{self, Write};
+use std::io::{self, BufRead, Write};
 
 use rateguard_core::hot_set::HotSet;
 use rateguard_core::peer_demand::PeerDemand;
@@ -30,18 +30,29 @@ pub fn no_state() -> Option<String> {
     Some("nostate".into())
 }
 
-/// The lines of a script that get an answer.
-pub fn calls(script: &[u8]) -> impl Iterator<Item = &[u8]> {
-    script.split(|&byte| byte == b'\n').filter(|line| !line.is_empty() && line[0] != b'#')
+/// Whether a line of a script gets an answer.
+fn is_call(line: &[u8]) -> bool {
+    !line.is_empty() && line[0] != b'#'
 }
 
-pub fn answer_all(script: &[u8], out: &mut impl Write) -> io::Result<()> {
+/// The lines of a script that get an answer.
+pub fn calls(script: &[u8]) -> impl Iterator<Item = &[u8]> {
+    script.split(|&byte| byte == b'\n').filter(|line| is_call(line))
+}
+
+/// Answers a script line by line as it is read.
+pub fn answer_all(script: &mut impl BufRead, out: &mut impl Write) -> io::Result<()> {
     let table = table();
     let mut state = State::default();
-    for line in calls(script) {
-        let answer = answer(&table, &mut state, line);
-        out.write_all(answer.as_deref().unwrap_or("?").as_bytes())?;
-        out.write_all(b"\n")?;
+    let mut line = Vec::new();
+    while script.read_until(b'\n', &mut line)? > 0 {
+        let call = line.strip_suffix(b"\n").unwrap_or(&line);
+        if is_call(call) {
+            let answer = answer(&table, &mut state, call);
+            out.write_all(answer.as_deref().unwrap_or("?").as_bytes())?;
+            out.write_all(b"\n")?;
+        }
+        line.clear();
     }
     Ok(())
 }
