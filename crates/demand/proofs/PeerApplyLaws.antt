@@ -1,31 +1,26 @@
 -- Laws: what a report that passed its questions finds in the tables, and what they hold after it.
 use mathlib.Core.Path.{_≡_, refl, sym, ap, _∙_}
 use mathlib.Core.Bool.{Bool, true, false, _||_, or-false}
-use mathlib.Core.List.{List, [], _∷_, _++_, map}
-use mathlib.Core.Option.{Option, none, some}
-use Prim.Native.Nat.{ℕ, suc, _+_, _-_, _*_, _≤_, _<_}
+use mathlib.Core.List.{List, [], _∷_, map}
+use Prim.Native.Nat.{ℕ, _-_, _*_, _≤_, _<_}
 use native.Mathlib.Omega.{arith}
 use borrow.Author.Tests.{lt-ltb, le-ltb, leb-true, le-leb, lt-leb}
 use lib.Dec.{leb}
-use lib.ListN.{length, take, drop, length-append, length-map}
-use lib.Seq.{length-take-le}
-use Rattle.records.specs.Records.{records, flat, table, ascending}
+use lib.ListN.{length, length-map}
+use Rattle.records.specs.Records.{records, ascending}
 use Rattle.records.proofs.TestLaws.{both}
 use Rattle.records.proofs.RecordLaws.{length-records}
-use Rattle.records.proofs.TableLaws.{Wide, length-flat, records-table, drop-table, length-table}
 use Rattle.demand.specs.declared.peer_demand.DemandReport.{DemandReport}
 use Rattle.demand.specs.declared.peer_demand.PeerDemand.{PeerDemand}
 use Rattle.gcra.specs.Questions.{Question, _asks_, passes, firstNo}
 use Rattle.gcra.proofs.Answers.{passed-none, first-no, first-yes, first-none, first-more, first-rest}
-use Rattle.demand.specs.Words.{timeWords}
-use Rattle.demand.specs.PeerRecords.{Snapshot, PeerRecord, SnapshotKey, ContestedKey, snapshotWords, pastWords, peerWords, snapshotKeyWords, contestedWords, peerOf, snapshotKeyOf, contestedOf}
-use Rattle.demand.specs.PeerState.{PeerTables, isKnown, haveRoom, stateOf, exact, areExact, isValid, valid, Holds}
+use Rattle.demand.specs.PeerRecords.{peerWords, snapshotKeyWords, contestedWords, peerOf, snapshotKeyOf, contestedOf}
+use Rattle.demand.specs.PeerState.{PeerTables, isKnown, haveRoom, stateOf, exact, areExact, isValid, valid}
 use Rattle.demand.specs.PeerCalls.{hasDemands, hasPlace, peersQuestions, reportQuestions}
-use Rattle.demand.specs.Steps.PeerRuns.{keysIn, contestedIn, peersIn, Tabled, Passed, Known}
+use Rattle.demand.specs.Steps.PeerRuns.{keysIn, contestedIn, peersIn, Passed, Known}
 use Rattle.demand.proofs.PeerCallLaws.{peers-numbered, report-numbered}
 use Rattle.demand.proofs.PeerWordLaws.{words-of-exact}
 use Rattle.demand.proofs.PeerValidLaws.{Roomy, room-says}
-use Rattle.demand.proofs.PeerTableLaws.{drop-more}
 use Rattle.demand.proofs.PeerKeptLaws.{or-right, ValidState, valid-says, few-keys, few-contested}
 
 -- ---- the questions
@@ -152,48 +147,3 @@ module _ (p : PeerDemand) (t : PeerTables) (o : Tables p t) where
   pub contested-asc : ascending 2 (records 6 (p .contested) (t .contested)) ≡ true
   unfolding stateOf
   contested-asc = ap (ascending 2) (o .contested-exact) ∙ o .valids .contested-ascend
-
--- ---- a table with its records, as a promise
-pub holds-of : (w size n : ℕ) (rs : List (List ℕ)) (xs ys : List ℕ) → Tabled n rs xs ys → Wide w rs → length rs * w ≤ size → size ≤ length xs → Holds w size n rs xs ys
-holds-of w size n rs xs ys t wide few room =
-    let l : length (flat rs) ≡ length rs * w = length-flat w rs wide in
-    let k : length (table rs xs) ≡ length xs = length-table rs xs (omega (arith, l)) in
-    let d : drop size (table rs xs) ≡ drop size xs =
-    drop-more (length (flat rs)) size xs (table rs xs) (omega (arith, l)) (drop-table rs xs) in
-    record {
-      count = t .count;
-      front = ap (records w n) (t .words) ∙ records-table w n rs xs wide (sym (t .count));
-      rest = ap (drop size) (t .words) ∙ d;
-      as-long = ap length (t .words) ∙ k;
-    }
-
-pub wide-map : {A : Type 0} (words : A → List ℕ) (w : ℕ) → ((x : A) → length (words x) ≡ w) → (xs : List A) → Wide w (map words xs)
-wide-map words w h [] = tt
-wide-map words w h (x ∷ xs) = (h x, wide-map words w h xs)
-
-pub holds-same : {A : Type 0} (words : A → List ℕ) (w size n : ℕ) (vs : List A) (xs : List ℕ) → records w n xs ≡ map words vs → Holds w size n (map words vs) xs xs
-holds-same words w size n vs xs e = record { count = sym (length-records w n xs) ∙ ap length e; front = e; rest = refl; as-long = refl }
-
-pub peer-long : (p : PeerRecord) → length (peerWords p) ≡ 12
-unfolding peerWords
-peer-long p = by (p .heldUntil) (p .snapshot) (p .pastEpochs)
-  where
-    four : (es : List ℕ) → length (take 4 (es ++ (0 ∷ 0 ∷ 0 ∷ 0 ∷ []))) ≡ 4
-    four es = length-take-le 4 (es ++ (0 ∷ 0 ∷ 0 ∷ 0 ∷ [])) (omega (arith, length-append es (0 ∷ 0 ∷ 0 ∷ 0 ∷ []), four-zeros))
-      where
-        four-zeros : length {A = ℕ} (0 ∷ 0 ∷ 0 ∷ 0 ∷ []) ≡ 4
-        four-zeros = refl
-
-    by : (h : Option ℕ) (s : Option Snapshot) (es : List ℕ) → length (p .id ∷ (timeWords h ++ (snapshotWords s ++ pastWords es))) ≡ 12
-    by none none es = ap (λ (m : ℕ). suc (suc (suc (suc (suc (suc (suc (suc m)))))))) (four es)
-    by none (some s) es = ap (λ (m : ℕ). suc (suc (suc (suc (suc (suc (suc (suc m)))))))) (four es)
-    by (some h) none es = ap (λ (m : ℕ). suc (suc (suc (suc (suc (suc (suc (suc m)))))))) (four es)
-    by (some h) (some s) es = ap (λ (m : ℕ). suc (suc (suc (suc (suc (suc (suc (suc m)))))))) (four es)
-
-pub key-long : (k : SnapshotKey) → length (snapshotKeyWords k) ≡ 4
-unfolding snapshotKeyWords
-key-long k = refl
-
-pub contested-long : (c : ContestedKey) → length (contestedWords c) ≡ 6
-unfolding contestedWords
-contested-long c = refl

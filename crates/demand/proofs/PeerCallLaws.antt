@@ -1,7 +1,7 @@
 -- Laws: a call's answer by the number of its first 'no'.
 use Prim.Native.Nat.{ℕ}
-use mathlib.Core.Path.{_≡_, refl, sym, _∙_, subst}
-use mathlib.Core.Bool.{true, true≢false}
+use mathlib.Core.Path.{_≡_, refl, ap, _∙_}
+use mathlib.Core.Bool.{true}
 use mathlib.Core.List.{List}
 use native.Mathlib.Omega.{arith}
 use Rattle.records.proofs.TestLaws.{both, and-intro}
@@ -9,30 +9,26 @@ use Rattle.demand.specs.declared.peer_demand.DemandReport.{DemandReport}
 use Rattle.demand.specs.declared.peer_demand.PeerDemand.{PeerDemand}
 use Rattle.demand.specs.declared.peer_demand.PeersChanged.{PeersChanged}
 use Rattle.demand.specs.declared.peer_demand.ChangeAnswer.the-variants as change-answer
-use Rattle.gcra.specs.Questions.{Question, passes, firstNo}
-use Rattle.gcra.proofs.Answers.{Numbered, answer-no, answer-passed, not-passed, passed-none}
-use Rattle.demand.specs.PeerState.{PeersState, PeerTables, haveRoom, stateOf, isValid, Stores, Becomes}
-use Rattle.demand.specs.PeerCalls.{peersQuestions, reportQuestions, Changes, Unchanged}
+use Rattle.gcra.specs.Questions.{Question, passes, changed, firstNo}
+use Rattle.gcra.proofs.Answers.{Numbered, answer-no, answer-passed, kept-no, changed-passed, passed-none}
+use Rattle.demand.specs.PeerState.{PeersState, PeerTables, haveRoom, stateOf, isValid, countsOf, written}
+use Rattle.demand.specs.Steps.PeerRuns.{Stores, Becomes}
+use Rattle.demand.specs.PeerCalls.{peersQuestions, reportQuestions, Changes}
 use Rattle.demand.specs.Steps.PeerSteps.{Valid}
-
-pub unchanged : (p : PeerDemand) (t : PeerTables) → Unchanged p p t t
-unchanged p t = record { value = refl; peers = refl; snapshotKeys = refl; contested = refl }
 
 module _ (qs : List Question) (change : PeersState → PeersState) (p : PeerDemand) (t : PeerTables) where
   -- a 'no' changes nothing
   pub changes-not : (n : ℕ) → n ≡ firstNo qs → (n ≡ 0 → ⊥) → Changes qs change p t (record { answer = change-answer.No n; peers = p }) t
-  changes-not n e h = record {
-    answered = answer-no tt qs n e h;
-    kept = λ l. unchanged p t;
-    stored = λ l. absurd (true≢false (sym l ∙ not-passed qs n e h));
-  }
+  changes-not n e h = record { answered = answer-no tt qs n e h; value = kept-no _ p qs n e h; words = kept-no _ t qs n e h }
 
   pub changes-done : (n : ℕ) (p′ : PeerDemand) (t′ : PeerTables) → Numbered qs → n ≡ firstNo qs → n ≡ 0 → Stores (change (stateOf p t)) p′ t t′ → Changes qs change p t (record { answer = change-answer.Done; peers = p′ }) t′
-  changes-done n p′ t′ w e h s = record {
-    answered = answer-passed tt qs (passed-none qs n w e h);
-    kept = λ l. absurd (true≢false (sym (passed-none qs n w e h) ∙ l));
-    stored = λ l. s;
-  }
+  changes-done n p′ t′ w e h s =
+      let passed : passes qs ≡ true = passed-none qs n w e h in
+      record {
+        answered = answer-passed tt qs passed;
+        value = s .value ∙ changed-passed _ p qs passed;
+        words = s .words ∙ changed-passed _ t qs passed;
+      }
 
 -- the questions have their numbers
 pub peers-numbered : (p : PeerDemand) (t : PeerTables) → Numbered (peersQuestions p t)
@@ -49,8 +45,8 @@ peers-changed change p t n p′ t′ = changes-done (peersQuestions p t) change 
 pub changes-as : (qs : List Question) (f g : PeersState → PeersState) (p : PeerDemand) (t : PeerTables) (r : PeersChanged) (t′ : PeerTables) → f (stateOf p t) ≡ g (stateOf p t) → Changes qs f p t r t′ → Changes qs g p t r t′
 changes-as qs f g p t r t′ e c = record {
   answered = c .answered;
-  kept = c .kept;
-  stored = λ l. subst (λ (x : PeersState). Stores x (r .peers) t t′) e (c .stored l);
+  value = c .value ∙ ap (λ (x : PeersState). changed qs p (countsOf x)) e;
+  words = c .words ∙ ap (λ (x : PeersState). changed qs t (written x t)) e;
 }
 
 -- questions 1 and 2 passed, as one fact and as two

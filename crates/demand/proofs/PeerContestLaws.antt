@@ -3,7 +3,7 @@ use mathlib.Core.Path.{_≡_, refl, sym, ap, _∙_, subst}
 use mathlib.Core.Bool.{Bool, true, false, cond, _||_}
 use mathlib.Core.List.{List, [], _∷_, map}
 use Prim.Native.Nat.{ℕ, zero, suc, _+_, _-_, _*_, _^_, _≤_, _<_, max}
-use native.Mathlib.Nat.{le-of-suc-le-suc, not-suc-le-zero}
+use native.Mathlib.Nat.{not-suc-le-zero}
 use native.Mathlib.Omega.{arith}
 use borrow.Author.Tests.{ltb-true, lt-ltb, le-ltb, eqb-true}
 use lib.Dec.{ltb, eqb}
@@ -22,7 +22,7 @@ use Rattle.demand.specs.PeerRecords.{SnapshotKey, ContestedKey, snapshot
 use Rattle.demand.specs.PeerState.{isWord, isDemand, validSnapshotKey, validContested}
 use Rattle.demand.specs.PeerChanges.{exceeds, fresh, merged, contestedWith, mergeKey, mergeKeys, oldest, withoutOldest, withoutOldests}
 use Rattle.demand.specs.Steps.PeerRuns.{word, keysIn, contestedIn, Front, Run, ContestedRun, KeyRun, OneKey}
-use Rattle.demand.proofs.PeerListLaws.{all-map, all-index, those-map}
+use Rattle.demand.proofs.PeerListLaws.{all-map, all-index, those-map, map-at}
 use Rattle.demand.proofs.PeerRangeLaws.{those-at, those-gap, second-order, secondWord}
 use Rattle.demand.proofs.PeerRunLaws.{run-shape, find-in, put-at}
 use Rattle.demand.proofs.PeerOrderLaws.{length-replaced}
@@ -213,17 +213,13 @@ module _ (id n : ℕ) (keys : List ℕ) (u : KeyRun id n keys) (i : ℕ) (h : i 
     exact =
         part-words
         ∙ ap (λ (l : List (List ℕ)). getD l i []) (u .exact)
-        ∙ at-map i (records 4 n keys) (omega (arith, length-records 4 n keys))
+        ∙ map-at snapshotKeyWords (snapshotKeyOf []) [] (map snapshotKeyOf (records 4 n keys)) i (omega (arith, length-map (records 4 n keys) snapshotKeyOf, length-records 4 n keys))
+        ∙ ap snapshotKeyWords (map-at snapshotKeyOf [] (snapshotKeyOf []) (records 4 n keys) i (omega (arith, length-records 4 n keys)))
         ∙ ap (λ (r : List ℕ). snapshotKeyWords (snapshotKeyOf r)) (sym part-words);
     valid =
         ap (λ (r : List ℕ). validSnapshotKey (snapshotKeyOf r)) part-words
         ∙ all-index (λ (r : List ℕ). validSnapshotKey (snapshotKeyOf r)) [] (records 4 n keys) (sym (all-map snapshotKeyOf validSnapshotKey (records 4 n keys)) ∙ u .keys) i (omega (arith, length-records 4 n keys));
   }
-    where
-      at-map : (i : ℕ) (rs : List (List ℕ)) → i < length rs → getD (map snapshotKeyWords (map snapshotKeyOf rs)) i [] ≡ snapshotKeyWords (snapshotKeyOf (getD rs i []))
-      at-map i [] h = absurd (not-suc-le-zero h)
-      at-map zero (r ∷ rs) h = refl
-      at-map (suc i) (r ∷ rs) h = at-map i rs (le-of-suc-le-suc h)
 
 -- a valid key of a peer
 pub sayable : (id : ℕ) (k : List ℕ) → OneKey k → word 0 k ≡ id → Sayable id (snapshotKeyOf k)

@@ -1,5 +1,5 @@
 -- Laws: a departure and expiry keep the state valid.
-use Prim.Native.Nat.{ℕ, suc, _+_, _*_, _^_, _≤_}
+use Prim.Native.Nat.{ℕ, _+_, _*_, _^_, _≤_}
 use mathlib.Core.Path.{_≡_, refl, sym, ap, _∙_, subst}
 use mathlib.Core.Bool.{Bool, true, false, cond, not, _&&_, _||_, and-comm, and-not-self}
 use mathlib.Core.List.{List, [], _∷_, _++_, map}
@@ -7,11 +7,10 @@ use mathlib.Core.Option.{Option, none, some}
 use native.Mathlib.Omega.{arith}
 use borrow.Author.Tests.{leb-true, le-leb, ltb-true, lt-ltb, eqb-true, eqb-false, eq-eqb, ne-eqb}
 use lib.Dec.{ltb, leb, eqb}
-use lib.ListN.{length, take, getD, length-map, length-take, length-append, take-append-drop}
+use lib.ListN.{length, getD, length-map, take-append-drop}
 use Rattle.records.specs.Records.{ascending, lowerBound}
 use Rattle.records.proofs.TestLaws.{split, both, and-intro}
 use Rattle.records.proofs.SearchLaws.{Cut}
-use Rattle.records.proofs.TableLaws.{Wide}
 use Rattle.demand.specs.PeerLists.{only, all, any, those, replaced, present}
 use Rattle.demand.specs.PeerRecords.{Snapshot, PeerRecord, SnapshotKey, ContestedKey, peerWords, snapshotKeyWords, contestedWords}
 use Rattle.demand.specs.PeerState.{PeersState, maxPeers, maxDemandKeys, maxContested, isWord, valid, validPeers, validPeer, validSnapshotKeys, validSnapshotKey, validContesteds, validContested, isTaken, isKnown, hasSnapshot}
@@ -21,17 +20,11 @@ use Rattle.demand.specs.Steps.PeerSteps.{staysContested, staysPeer}
 use Rattle.demand.proofs.PeerListLaws.{all-map}
 use Rattle.demand.proofs.PeerRangeLaws.{only-yes, only-no, only-append, only-same, only-only, only-front-by, only-back-by, map-append, map-self, any-map, any-same, any-only, after-test, equal-test, first-cut}
 use Rattle.demand.proofs.PeerOrderLaws.{length-only}
+use Rattle.demand.proofs.PeerWordLaws.{wide-map, peer-long, key-long, contested-long}
 use Rattle.demand.proofs.PeerStoreLaws.{leaves-held, leaves-now, map-map}
 use Rattle.demand.proofs.PeerExpireLaws.{ascending-by, ascending-same, any-weaker, bare, keeps, aged-id, aged-held, leftContested, leftPeers, leftKeys, expire-left}
 
 -- ---- a list that ascends by a number, in its parts
-
-wide-only : {A : Type 0} (w : ℕ) (words : A → List ℕ) (p : A → Bool) (xs : List A) → Wide w (map words xs) → Wide w (map words (only p xs))
-unfolding only
-wide-only w words p [] h = tt
-wide-only w words p (x ∷ xs) h = split (p x)
-    (λ e. subst (λ ys. Wide w (map words ys)) (sym (only-yes p x xs e)) (h .0, wide-only w words p xs (h .1)))
-    (λ e. subst (λ ys. Wide w (map words ys)) (sym (only-no p x xs e)) (wide-only w words p xs (h .1)))
 
 none-pass : {A : Type 0} (xs : List A) → only (λ x. false) xs ≡ []
 unfolding only
@@ -45,21 +38,21 @@ map-where f g p h (x ∷ xs) = split (p x)
     (λ e. ap (map f) (only-yes p x xs e) ∙ (λ k. h x e k ∷ map-where f g p h xs k) ∙ sym (ap (map g) (only-yes p x xs e)))
     (λ e. ap (map f) (only-no p x xs e) ∙ map-where f g p h xs ∙ sym (ap (map g) (only-no p x xs e)))
 
-module _ {A : Type 0} (words : A → List ℕ) (d w : ℕ) (hd : 1 ≤ d) (hw : 1 ≤ w) where
+module _ {A : Type 0} (words : A → List ℕ) (d w : ℕ) (hd : 1 ≤ d) (hw : 1 ≤ w) (long : (x : A) → length (words x) ≡ w) where
   abbrev number : A → ℕ
   number x = firstWord (words x)
 
   -- those below a, then the others
-  halves : (a : ℕ) (xs : List A) → Wide w (map words xs) → ascending d (map words xs) ≡ true → only (λ x. ltb (number x) a) xs ++ only (λ x. not (ltb (number x) a)) xs ≡ xs
-  halves a xs h e =
+  halves : (a : ℕ) (xs : List A) → ascending d (map words xs) ≡ true → only (λ x. ltb (number x) a) xs ++ only (λ x. not (ltb (number x) a)) xs ≡ xs
+  halves a xs e =
       let c : Cut (λ n. ltb (firstWord (getD (map words xs) n [])) a) (length xs) (lowerBound 1 (a ∷ []) (map words xs)) =
-      subst (λ (n : ℕ). Cut (λ i. ltb (firstWord (getD (map words xs) i [])) a) n (lowerBound 1 (a ∷ []) (map words xs))) (length-map xs words) (first-cut d w a (map words xs) hd hw h e) in
+      subst (λ (n : ℕ). Cut (λ i. ltb (firstWord (getD (map words xs) i [])) a) n (lowerBound 1 (a ∷ []) (map words xs))) (length-map xs words) (first-cut d w a (map words xs) hd hw (wide-map words w long xs) e) in
       (λ k. only-front-by words (λ r. ltb (firstWord r) a) [] xs (lowerBound 1 (a ∷ []) (map words xs)) c k ++ only-back-by words (λ r. ltb (firstWord r) a) [] xs (lowerBound 1 (a ∷ []) (map words xs)) c k)
       ∙ take-append-drop (lowerBound 1 (a ∷ []) (map words xs)) xs
 
   -- those below a, those of a, those above it
-  parts : (a : ℕ) (xs : List A) → Wide w (map words xs) → ascending d (map words xs) ≡ true → xs ≡ only (λ x. ltb (number x) a) xs ++ (only (λ x. eqb (number x) a) xs ++ only (λ x. ltb a (number x)) xs)
-  parts a xs h e =
+  parts : (a : ℕ) (xs : List A) → ascending d (map words xs) ≡ true → xs ≡ only (λ x. ltb (number x) a) xs ++ (only (λ x. eqb (number x) a) xs ++ only (λ x. ltb a (number x)) xs)
+  parts a xs e =
       let ys : List A = only (λ x. not (ltb (number x) a)) xs in
       let eq : only (λ x. ltb (number x) (a + 1)) ys ≡ only (λ x. eqb (number x) a) xs =
       only-only (λ x. not (ltb (number x) a)) (λ x. ltb (number x) (a + 1)) xs
@@ -67,8 +60,8 @@ module _ {A : Type 0} (words : A → List ℕ) (d w : ℕ) (hd : 1 ≤ d) (hw : 
       let gt : only (λ x. not (ltb (number x) (a + 1))) ys ≡ only (λ x. ltb a (number x)) xs =
       only-only (λ x. not (ltb (number x) a)) (λ x. not (ltb (number x) (a + 1))) xs
       ∙ only-same (λ x. not (ltb (number x) a) && not (ltb (number x) (a + 1))) (λ x. ltb a (number x)) (λ x. above (number x) a ∙ sym (after-test (number x) a)) xs in
-      sym (halves a xs h e)
-      ∙ ap (λ l. only (λ x. ltb (number x) a) xs ++ l) (sym (halves (a + 1) ys (wide-only w words (λ x. not (ltb (number x) a)) xs h) (ascending-by d words (λ x. not (ltb (number x) a)) xs e)) ∙ (λ k. eq k ++ gt k))
+      sym (halves a xs e)
+      ∙ ap (λ l. only (λ x. ltb (number x) a) xs ++ l) (sym (halves (a + 1) ys (ascending-by d words (λ x. not (ltb (number x) a)) xs e)) ∙ (λ k. eq k ++ gt k))
     where
       above : (x y : ℕ) → (not (ltb x y) && not (ltb x (y + 1))) ≡ not (ltb x (y + 1))
       above x y = split (ltb x y)
@@ -76,10 +69,10 @@ module _ {A : Type 0} (words : A → List ℕ) (d w : ℕ) (hd : 1 ≤ d) (hw : 
           (λ f. ap (λ (b : Bool). not b && not (ltb x (y + 1))) f)
 
   -- nothing for those of a: they are dropped
-  pub dropped : (a : ℕ) (xs : List A) → Wide w (map words xs) → ascending d (map words xs) ≡ true → replaced number a [] xs ≡ only (λ x. not (eqb (number x) a)) xs
+  pub dropped : (a : ℕ) (xs : List A) → ascending d (map words xs) ≡ true → replaced number a [] xs ≡ only (λ x. not (eqb (number x) a)) xs
   unfolding replaced
-  dropped a xs h e = sym
-      (ap (only (λ x. not (eqb (number x) a))) (parts a xs h e)
+  dropped a xs e = sym
+      (ap (only (λ x. not (eqb (number x) a))) (parts a xs e)
       ∙ only-append (λ x. not (eqb (number x) a)) (only (λ x. ltb (number x) a) xs) (only (λ x. eqb (number x) a) xs ++ only (λ x. ltb a (number x)) xs)
       ∙ (λ k.
       (only-only (λ x. ltb (number x) a) (λ x. not (eqb (number x) a)) xs ∙ only-same (λ x. ltb (number x) a && not (eqb (number x) a)) (λ x. ltb (number x) a) (λ x. less (number x) a) xs) k
@@ -95,12 +88,12 @@ module _ {A : Type 0} (words : A → List ℕ) (d w : ℕ) (hd : 1 ≤ d) (hw : 
       more x y = split (ltb y x) (λ f. (λ k. f k && not (ne-eqb x y (λ q. omega (arith, ltb-true y x f)) k)) ∙ sym f) (λ f. ap (λ (b : Bool). b && not (eqb x y)) f ∙ sym f)
 
   -- others for those of a: they are changed in their places
-  pub changed : (g : A → A) (a : ℕ) (xs : List A) → Wide w (map words xs) → ascending d (map words xs) ≡ true → replaced number a (map g (those number a xs)) xs ≡ map (λ x. cond (eqb (number x) a) (g x) x) xs
+  pub changed : (g : A → A) (a : ℕ) (xs : List A) → ascending d (map words xs) ≡ true → replaced number a (map g (those number a xs)) xs ≡ map (λ x. cond (eqb (number x) a) (g x) x) xs
   unfolding replaced those
-  changed g a xs h e =
+  changed g a xs e =
       let f : A → A = λ x. cond (eqb (number x) a) (g x) x in
       sym
-      (ap (map f) (parts a xs h e)
+      (ap (map f) (parts a xs e)
       ∙ map-append f (only (λ x. ltb (number x) a) xs) (only (λ x. eqb (number x) a) xs ++ only (λ x. ltb a (number x)) xs)
       ∙ (λ k.
       (map-where f (λ x. x) (λ x. ltb (number x) a) (λ x q. ap (λ (b : Bool). cond b (g x) x) (ne-eqb (number x) a (λ z. omega (arith, ltb-true (number x) a q)))) xs ∙ map-self (only (λ x. ltb (number x) a) xs)) k
@@ -239,35 +232,6 @@ module _ (ps : List PeerRecord) (v : validPeers ps ≡ true) where
       (and-intro (all validPeer (map g ps)) _ (all-map g validPeer ps ∙ all-weaker validPeer (λ p. validPeer (g p)) k ps good-peers)
       (ap (ascending 1) (map-map peerWords g ps) ∙ ascending-same 1 (λ p. peerWords (g p)) peerWords (λ (p : PeerRecord). ap (λ (n : ℕ). n ∷ []) (h p)) ps ∙ peers-ascend))
 
--- ---- the words of a state's records
-
-past-length : (es : List ℕ) → length (take 4 (es ++ (0 ∷ 0 ∷ 0 ∷ 0 ∷ []))) ≡ 4
-past-length es =
-    let z : length {A = ℕ} (0 ∷ 0 ∷ 0 ∷ 0 ∷ []) ≡ 4 = refl in
-    length-take 4 (es ++ (0 ∷ 0 ∷ 0 ∷ 0 ∷ [])) ∙ omega (arith, length-append es (0 ∷ 0 ∷ 0 ∷ 0 ∷ []))
-
-peer-length : (id : ℕ) (held : Option ℕ) (taken : Option Snapshot) (past : List ℕ) → length (peerWords (record { id = id; heldUntil = held; snapshot = taken; pastEpochs = past })) ≡ 12
-unfolding peerWords
-peer-length id none none past = ap (λ (n : ℕ). suc (suc (suc (suc (suc (suc (suc (suc n)))))))) (past-length past)
-peer-length id none (some s) past = ap (λ (n : ℕ). suc (suc (suc (suc (suc (suc (suc (suc n)))))))) (past-length past)
-peer-length id (some t) none past = ap (λ (n : ℕ). suc (suc (suc (suc (suc (suc (suc (suc n)))))))) (past-length past)
-peer-length id (some t) (some s) past = ap (λ (n : ℕ). suc (suc (suc (suc (suc (suc (suc (suc n)))))))) (past-length past)
-
-wide-by : {A : Type 0} (w : ℕ) (words : A → List ℕ) → ((x : A) → length (words x) ≡ w) → (xs : List A) → Wide w (map words xs)
-wide-by w words h [] = tt
-wide-by w words h (x ∷ xs) = (h x, wide-by w words h xs)
-
-wide-peers : (ps : List PeerRecord) → Wide 12 (map peerWords ps)
-wide-peers ps = wide-by 12 peerWords (λ (p : PeerRecord). peer-length (p .id) (p .heldUntil) (p .snapshot) (p .pastEpochs)) ps
-
-wide-keys : (ks : List SnapshotKey) → Wide 4 (map snapshotKeyWords ks)
-unfolding snapshotKeyWords
-wide-keys ks = wide-by 4 snapshotKeyWords (λ k. refl) ks
-
-wide-contested : (cs : List ContestedKey) → Wide 6 (map contestedWords cs)
-unfolding contestedWords
-wide-contested cs = wide-by 6 contestedWords (λ c. refl) cs
-
 -- ---- the parts of validity
 
 module _ (s : PeersState) (v : valid s ≡ true) where
@@ -314,9 +278,9 @@ forget-valid id s v =
     let ps : List PeerRecord = only (λ (p : PeerRecord). not (eqb (p .id) id)) (s .peers) in
     let e : forget id s ≡ record { peers = ps; snapshotKeys = only (λ (k : SnapshotKey). not (eqb (k .peer) id)) (s .snapshotKeys); contested = only (λ (c : ContestedKey). not (eqb (c .peer) id)) (s .contested) } =
     (λ i. record {
-      peers = dropped peerWords 1 12 (omega arith) (omega arith) id (s .peers) (wide-peers (s .peers)) (peers-ascend (s .peers) vp) i;
-      snapshotKeys = dropped snapshotKeyWords 2 4 (omega arith) (omega arith) id (s .snapshotKeys) (wide-keys (s .snapshotKeys)) (rk .1) i;
-      contested = dropped contestedWords 2 6 (omega arith) (omega arith) id (s .contested) (wide-contested (s .contested)) (rc .1) i;
+      peers = dropped peerWords 1 12 (omega arith) (omega arith) peer-long id (s .peers) (peers-ascend (s .peers) vp) i;
+      snapshotKeys = dropped snapshotKeyWords 2 4 (omega arith) (omega arith) key-long id (s .snapshotKeys) (rk .1) i;
+      contested = dropped contestedWords 2 6 (omega arith) (omega arith) contested-long id (s .contested) (rc .1) i;
     }) in
     ap valid e
     ∙ valid-by ps _ _ (peers-some (s .peers) vp (λ (p : PeerRecord). not (eqb (p .id) id)))
@@ -368,7 +332,7 @@ hold-valid id until s u v =
     let rk = keys-refs snapshotKeyWords validSnapshotKey (λ (k : SnapshotKey). k .peer) hasSnapshot (maxPeers * maxDemandKeys) maxDemandKeys (s .peers) (s .snapshotKeys) vk in
     let rc = keys-refs contestedWords validContested (λ (c : ContestedKey). c .peer) isKnown (maxPeers * maxContested) maxContested (s .peers) (s .contested) vc in
     let e : holdPeer id until s ≡ record { peers = map (held-if id until) (s .peers); snapshotKeys = s .snapshotKeys; contested = s .contested } =
-    ap (λ ps. record { peers = ps; snapshotKeys = s .snapshotKeys; contested = s .contested }) (changed peerWords 1 12 (omega arith) (omega arith) (hold until) id (s .peers) (wide-peers (s .peers)) (peers-ascend (s .peers) vp)) in
+    ap (λ ps. record { peers = ps; snapshotKeys = s .snapshotKeys; contested = s .contested }) (changed peerWords 1 12 (omega arith) (omega arith) peer-long (hold until) id (s .peers) (peers-ascend (s .peers) vp)) in
     ap valid e
     ∙ valid-by (map (held-if id until) (s .peers)) (s .snapshotKeys) (s .contested)
     (peers-changed (s .peers) vp (held-if id until) (λ p. held-id (eqb (p .id) id) until p) (λ p w. held-good (eqb (p .id) id) until p u w))

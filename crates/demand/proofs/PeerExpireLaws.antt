@@ -7,7 +7,7 @@ use mathlib.Core.Option.{none}
 use native.Mathlib.Nat.{mul-le-mul-right}
 use native.Mathlib.Omega.{arith}
 use lib.Dec.{eqb}
-use lib.ListN.{length, drop, getD, length-take, length-drop}
+use lib.ListN.{length, drop, getD, length-take, length-drop, length-map}
 use Rattle.records.specs.Records.{records, key, before, leads, ascending, same}
 use Rattle.records.proofs.TestLaws.{split, both, and-intro, same-truth}
 use Rattle.records.proofs.RecordLaws.{length-records}
@@ -17,14 +17,15 @@ use Rattle.records.proofs.TableLaws.{Wide}
 use Rattle.demand.specs.declared.peer_demand.PeerDemand.{PeerDemand}
 use Rattle.demand.specs.PeerLists.{only, all, any}
 use Rattle.demand.specs.PeerRecords.{PeerRecord, SnapshotKey, ContestedKey, peerWords, snapshotKeyWords, contestedWords, peerOf, snapshotKeyOf, contestedOf}
-use Rattle.demand.specs.PeerState.{PeersState, PeerTables, peersSize, snapshotKeysSize, contestedSize, exact, stateOf, isTaken, isHeld, isKnown, hasSnapshot, Holds, Stores}
+use Rattle.demand.specs.PeerState.{PeersState, PeerTables, snapshotKeysSize, contestedSize, exact, stateOf, isTaken, isHeld, isKnown, hasSnapshot}
 use Rattle.demand.specs.PeerChanges.{holdEnded, notEnded, expireHolds, expireAge, expire, agePeer, isLeft, isFresh, isFreshSnapshot, isHeldPeer, freshContested, freshPeers}
+use Rattle.demand.specs.Steps.PeerRuns.{Tabled, Stores}
 use Rattle.demand.specs.Steps.PeerSteps.{inOrder, staysContested, staysPeer}
-use Rattle.demand.proofs.PeerWordLaws.{words-of-exact, peer-of-words}
+use Rattle.demand.proofs.PeerWordLaws.{words-of-exact, peer-of-words, wide-map, peer-long, contested-long}
 use Rattle.demand.proofs.PeerRangeLaws.{map-self, only-yes, only-no, only-same, only-only, map-only, any-map, any-only}
-use Rattle.demand.proofs.PeerOrderLaws.{length-only}
+use Rattle.demand.proofs.PeerOrderLaws.{length-only, wide-only}
 use Rattle.demand.proofs.PeerKindLaws.{contestedKind, all-back}
-use Rattle.demand.proofs.PeerTableLaws.{in-order-says, in-order-intro, holds-more}
+use Rattle.demand.proofs.PeerTableLaws.{in-order-says, in-order-intro, tabled-records, tabled-length, stores-of}
 use Rattle.demand.proofs.PeerStoreLaws.{Sound, Tables, map-map}
 
 -- ---- fewer records
@@ -61,14 +62,15 @@ ascending-same d f g h [] = refl
 ascending-same d f g h (x ∷ []) = refl
 ascending-same d f g h (x ∷ y ∷ xs) = (λ k. before (h x k) (h y k) && ascending-same d f g h (y ∷ xs) k)
 
--- the kept records are in order
-pub only-in-order : (w d n m : ℕ) (p : List ℕ → Bool) (xs ys : List ℕ) → inOrder w d n xs ≡ true → Holds w (n * w) m (only p (records w n xs)) xs ys → inOrder w d m ys ≡ true
-only-in-order w d n m p xs ys e h =
-    let o = in-order-says w d n xs e in
-    let l : m ≤ n = omega (arith, h .count, length-only p (records w n xs), length-records w n xs) in
-    in-order-intro w d m ys (o .keys .some-words) (o .keys .two-words) (o .keys .in-record)
-    (omega (arith, mul-le-mul-right w l, o .words, h .as-long))
-    (ap (ascending d) (h .front) ∙ ascending-only d p (records w n xs) (o .order))
+-- kept of records in order, they are in order
+pub only-in-order : (w d n m : ℕ) (p : List ℕ → Bool) (gs : List (List ℕ)) (xs ys : List ℕ) → 1 ≤ d → d ≤ 2 → d ≤ w → n * w ≤ length xs → length gs ≡ n → Wide w gs → ascending d gs ≡ true → Tabled m (only p gs) xs ys → inOrder w d m ys ≡ true
+only-in-order w d n m p gs xs ys some-words two-words in-record fit l wide a h =
+    let few : m ≤ n = omega (arith, h .count, length-only p gs) in
+    let wo : Wide w (only p gs) = wide-only w p gs wide in
+    let room : m * w ≤ length xs = omega (arith, mul-le-mul-right w few) in
+    in-order-intro w d m ys some-words two-words in-record
+    (omega (arith, tabled-length w m (only p gs) xs ys wo h room))
+    (ap (ascending d) (tabled-records w m (only p gs) xs ys wo h) ∙ ascending-only d p gs a)
 
 exact-only : {A : Type 0} (words : A → List ℕ) (of : List ℕ → A) (p : List ℕ → Bool) (rs : List (List ℕ)) → exact words of rs ≡ true → exact words of (only p rs) ≡ true
 unfolding all only
@@ -80,12 +82,12 @@ exact-only words of p (r ∷ rs) e =
     (λ f. ap (exact words of) (only-no p r rs f) ∙ exact-only words of p rs (q .1))
 
 -- the kept records are the words of what is kept
-pub holds-only : {A : Type 0} (words : A → List ℕ) (of : List ℕ → A) (w d size n : ℕ) (xs : List ℕ) → Sound words of w d size n xs → (p : A → Bool) (m : ℕ) (ys : List ℕ) → Holds w (n * w) m (only (λ x. p (of x)) (records w n xs)) xs ys → Holds w size m (map words (only p (map of (records w n xs)))) xs ys
-holds-only words of w d size n xs o p m ys h =
+pub tabled-only : {A : Type 0} (words : A → List ℕ) (of : List ℕ → A) (w d size n : ℕ) (xs : List ℕ) → Sound words of w d size n xs → (p : A → Bool) (m : ℕ) (ys : List ℕ) → Tabled m (only (λ x. p (of x)) (records w n xs)) xs ys → Tabled m (map words (only p (map of (records w n xs)))) xs ys
+tabled-only words of w d size n xs o p m ys =
     let rs : List (List ℕ) = records w n xs in
     let e : only (λ x. p (of x)) rs ≡ map words (only p (map of rs)) =
     sym (ap (map words) (sym (map-only of p rs)) ∙ words-of-exact words of (only (λ x. p (of x)) rs) (exact-only words of (λ x. p (of x)) rs (o .exactly))) in
-    subst (λ (l : List (List ℕ)). Holds w size m l xs ys) e (holds-more w (n * w) size m (only (λ x. p (of x)) rs) xs ys (o .within) h)
+    subst (λ (l : List (List ℕ)). Tabled m l xs ys) e
 
 -- ---- past epochs that four words hold
 
@@ -225,72 +227,72 @@ module _ (p : PeerDemand) (t : PeerTables) (o : Tables p t) (at age : ℕ) where
   s = record { peers = map peerOf (records 12 (p .peers) (t .peers)); snapshotKeys = map snapshotKeyOf (records 4 (p .«snapshot_keys») (t .snapshotKeys)); contested = map contestedOf (records 6 (p .contested) (t .contested)) }
 
   -- the contested keys that are left
-  module _ (c : ℕ) (cs : List ℕ) (h : Holds 6 (p .contested * 6) c (only (λ x. staysContested at age (map peerOf (records 12 (p .peers) (t .peers))) (contestedOf x .peer) (contestedOf x .heardAt)) (records 6 (p .contested) (t .contested))) (t .contested) cs) where
-    pub contested-stored : Holds 6 contestedSize c (map contestedWords (leftContested at age s)) (t .contested) cs
-    contested-stored = holds-only contestedWords contestedOf 6 2 contestedSize (p .contested) (t .contested) (o .contested) (λ (x : ContestedKey). staysContested at age (s .peers) (x .peer) (x .heardAt)) c cs h
+  module _ (c : ℕ) (cs : List ℕ) (h : Tabled c (only (λ x. staysContested at age (map peerOf (records 12 (p .peers) (t .peers))) (contestedOf x .peer) (contestedOf x .heardAt)) (records 6 (p .contested) (t .contested))) (t .contested) cs) where
+    contested-stored : Tabled c (map contestedWords (leftContested at age s)) (t .contested) cs
+    contested-stored = tabled-only contestedWords contestedOf 6 2 contestedSize (p .contested) (t .contested) (o .contested) (λ (x : ContestedKey). staysContested at age (s .peers) (x .peer) (x .heardAt)) c cs h
 
-    pub contested-read : map contestedOf (records 6 c cs) ≡ leftContested at age s
-    contested-read = ap (map contestedOf) (contested-stored .front) ∙ all-back contestedKind (leftContested at age s)
+    contested-read : map contestedOf (records 6 c cs) ≡ leftContested at age s
+    contested-read =
+        ap (map contestedOf) (tabled-records 6 c (map contestedWords (leftContested at age s)) (t .contested) cs (wide-map contestedWords 6 contested-long (leftContested at age s)) contested-stored)
+        ∙ all-back contestedKind (leftContested at age s)
 
     pub contested-order : inOrder 6 2 c cs ≡ true
-    contested-order = only-in-order 6 2 (p .contested) c (λ x. staysContested at age (s .peers) (contestedOf x .peer) (contestedOf x .heardAt)) (t .contested) cs (o .contested .order) h
+    contested-order =
+        let i = in-order-says 6 2 (p .contested) (t .contested) (o .contested .order) in
+        only-in-order 6 2 (p .contested) c (λ x. staysContested at age (s .peers) (contestedOf x .peer) (contestedOf x .heardAt)) (records 6 (p .contested) (t .contested)) (t .contested) cs (omega arith) (omega arith) (omega arith) (i .words) (length-records 6 (p .contested) (t .contested)) (i .wide) (i .order) h
 
     -- the peers that are left
-    module _ (ps : List ℕ) (a : Holds 12 (p .peers * 12) (p .peers) (map (λ x. peerWords (agePeer at age (peerOf x))) (records 12 (p .peers) (t .peers))) (t .peers) ps) where
+    abbrev agedWords : List (List ℕ)
+    agedWords = map (λ x. peerWords (agePeer at age (peerOf x))) (records 12 (p .peers) (t .peers))
+
+    abbrev stays : List ℕ → Bool
+    stays x = staysPeer at (map contestedOf (records 6 c cs)) (peerOf x .id) (peerOf x .heldUntil) (isTaken (peerOf x))
+
+    module _ (n : ℕ) (ps : List ℕ) (b : Tabled n (only stays agedWords) (t .peers) ps) where
       short : Short (map (agePeer at age) (s .peers))
       short = short-aged at age (s .peers) (short-records (records 12 (p .peers) (t .peers)) (in-order-says 12 1 (p .peers) (t .peers) (o .peers .order) .wide))
 
-      aged : records 12 (p .peers) ps ≡ map peerWords (map (agePeer at age) (s .peers))
+      aged : agedWords ≡ map peerWords (map (agePeer at age) (s .peers))
       aged =
-          a .front
-          ∙ sym (map-map (λ (x : PeerRecord). peerWords (agePeer at age x)) peerOf (records 12 (p .peers) (t .peers)))
+          sym (map-map (λ (x : PeerRecord). peerWords (agePeer at age x)) peerOf (records 12 (p .peers) (t .peers)))
           ∙ sym (map-map peerWords (agePeer at age) (s .peers))
 
-      pub peers-room : p .peers * 12 ≤ length ps
-      peers-room = omega (arith, a .as-long, o .peers .within, o .peers .room)
+      peers-stored : Tabled n (map peerWords (leftPeers at age s)) (t .peers) ps
+      peers-stored = subst (λ (rs : List (List ℕ)). Tabled n rs (t .peers) ps)
+          ((λ k. only (λ x. staysPeer at (contested-read k) (peerOf x .id) (peerOf x .heldUntil) (isTaken (peerOf x))) (aged k))
+          ∙ peers-only (λ (x : PeerRecord). staysPeer at (leftContested at age s) (x .id) (x .heldUntil) (isTaken x)) (map (agePeer at age) (s .peers)) short)
+          b
 
-      aged-order : inOrder 12 1 (p .peers) ps ≡ true
+      peers-read : map peerOf (records 12 n ps) ≡ leftPeers at age s
+      peers-read =
+          ap (map peerOf) (tabled-records 12 n (map peerWords (leftPeers at age s)) (t .peers) ps (wide-map peerWords 12 peer-long (leftPeers at age s)) peers-stored)
+          ∙ peers-back (leftPeers at age s) (short-only (λ (x : PeerRecord). staysPeer at (leftContested at age s) (x .id) (x .heldUntil) (isTaken x)) (map (agePeer at age) (s .peers)) short)
+
+      pub peers-order : inOrder 12 1 n ps ≡ true
       unfolding peerWords
-      aged-order =
-          in-order-intro 12 1 (p .peers) ps (omega arith) (omega arith) (omega arith) peers-room
+      peers-order =
+          let i = in-order-says 12 1 (p .peers) (t .peers) (o .peers .order) in
+          only-in-order 12 1 (p .peers) n stays agedWords (t .peers) ps (omega arith) (omega arith) (omega arith) (i .words)
+          (length-map (records 12 (p .peers) (t .peers)) (λ x. peerWords (agePeer at age (peerOf x))) ∙ length-records 12 (p .peers) (t .peers))
+          (wide-map (λ x. peerWords (agePeer at age (peerOf x))) 12 (λ x. peer-long (agePeer at age (peerOf x))) (records 12 (p .peers) (t .peers)))
           (ap (ascending 1) (aged ∙ map-map peerWords (agePeer at age) (s .peers))
-          ∙ ascending-same 1 (λ (x : PeerRecord). peerWords (agePeer at age x)) peerWords (λ (x : PeerRecord). ap (λ (n : ℕ). n ∷ []) (aged-id at age x)) (s .peers)
+          ∙ ascending-same 1 (λ (x : PeerRecord). peerWords (agePeer at age x)) peerWords (λ (x : PeerRecord). ap (λ (m : ℕ). m ∷ []) (aged-id at age x)) (s .peers)
           ∙ ap (ascending 1) (words-of-exact peerWords peerOf (records 12 (p .peers) (t .peers)) (o .peers .exactly))
-          ∙ in-order-says 12 1 (p .peers) (t .peers) (o .peers .order) .order)
+          ∙ i .order)
+          b
 
-      module _ (n : ℕ) (ps′ : List ℕ) (b : Holds 12 (p .peers * 12) n (only (λ x. staysPeer at (map contestedOf (records 6 c cs)) (peerOf x .id) (peerOf x .heldUntil) (isTaken (peerOf x))) (records 12 (p .peers) ps)) ps ps′) where
-        kept : only (λ x. staysPeer at (map contestedOf (records 6 c cs)) (peerOf x .id) (peerOf x .heldUntil) (isTaken (peerOf x))) (records 12 (p .peers) ps) ≡ map peerWords (leftPeers at age s)
-        kept =
-            (λ k. only (λ x. staysPeer at (contested-read k) (peerOf x .id) (peerOf x .heldUntil) (isTaken (peerOf x))) (aged k))
-            ∙ peers-only (λ (x : PeerRecord). staysPeer at (leftContested at age s) (x .id) (x .heldUntil) (isTaken x)) (map (agePeer at age) (s .peers)) short
-
-        pub peers-stored : Holds 12 peersSize n (map peerWords (leftPeers at age s)) (t .peers) ps′
-        peers-stored =
-            holds-more 12 (p .peers * 12) peersSize n (map peerWords (leftPeers at age s)) (t .peers) ps′ (o .peers .within)
-            (record { count = b .count ∙ ap length kept; front = b .front ∙ kept; rest = b .rest ∙ a .rest; as-long = b .as-long ∙ a .as-long })
-
-        pub peers-read : map peerOf (records 12 n ps′) ≡ leftPeers at age s
-        peers-read =
-            ap (map peerOf) (peers-stored .front)
-            ∙ peers-back (leftPeers at age s) (short-only (λ (x : PeerRecord). staysPeer at (leftContested at age s) (x .id) (x .heldUntil) (isTaken x)) (map (agePeer at age) (s .peers)) short)
-
-        pub peers-order : inOrder 12 1 n ps′ ≡ true
-        peers-order = only-in-order 12 1 (p .peers) n (λ x. staysPeer at (map contestedOf (records 6 c cs)) (peerOf x .id) (peerOf x .heldUntil) (isTaken (peerOf x))) ps ps′ aged-order b
-
-        -- the snapshot keys that are left, and all three
-        pub expired :
-            (k : ℕ) (ks : List ℕ)
-            → Holds 4 (p .«snapshot_keys» * 4) k (only (λ x. hasSnapshot (map peerOf (records 12 n ps′)) (snapshotKeyOf x .peer)) (records 4 (p .«snapshot_keys») (t .snapshotKeys))) (t .snapshotKeys) ks
-            → Stores (expire at age (stateOf p t)) (record { peers = n; «snapshot_keys» = k; contested = c }) t (record { peers = ps′; snapshotKeys = ks; contested = cs })
-        unfolding stateOf
-        expired k ks d =
-            let e : only (λ x. hasSnapshot (map peerOf (records 12 n ps′)) (snapshotKeyOf x .peer)) (records 4 (p .«snapshot_keys») (t .snapshotKeys)) ≡ only (λ x. hasSnapshot (leftPeers at age s) (snapshotKeyOf x .peer)) (records 4 (p .«snapshot_keys») (t .snapshotKeys)) =
-            ap (λ (qs : List PeerRecord). only (λ x. hasSnapshot qs (snapshotKeyOf x .peer)) (records 4 (p .«snapshot_keys») (t .snapshotKeys))) peers-read in
-            subst (λ (x : PeersState). Stores x (record { peers = n; «snapshot_keys» = k; contested = c }) t (record { peers = ps′; snapshotKeys = ks; contested = cs })) (sym (expire-left at age s))
-            (record {
-              peers = peers-stored;
-              snapshotKeys =
-                  holds-only snapshotKeyWords snapshotKeyOf 4 2 snapshotKeysSize (p .«snapshot_keys») (t .snapshotKeys) (o .snapshotKeys) (λ (x : SnapshotKey). hasSnapshot (leftPeers at age s) (x .peer)) k ks
-                  (subst (λ (rs : List (List ℕ)). Holds 4 (p .«snapshot_keys» * 4) k rs (t .snapshotKeys) ks) e d);
-              contested = contested-stored;
-            })
+      -- the snapshot keys that are left, and all three
+      pub expired :
+          (k : ℕ) (ks : List ℕ)
+          → Tabled k (only (λ x. hasSnapshot (map peerOf (records 12 n ps)) (snapshotKeyOf x .peer)) (records 4 (p .«snapshot_keys») (t .snapshotKeys))) (t .snapshotKeys) ks
+          → Stores (expire at age (stateOf p t)) (record { peers = n; «snapshot_keys» = k; contested = c }) t (record { peers = ps; snapshotKeys = ks; contested = cs })
+      unfolding stateOf
+      expired k ks d =
+          let e : only (λ x. hasSnapshot (map peerOf (records 12 n ps)) (snapshotKeyOf x .peer)) (records 4 (p .«snapshot_keys») (t .snapshotKeys)) ≡ only (λ x. hasSnapshot (leftPeers at age s) (snapshotKeyOf x .peer)) (records 4 (p .«snapshot_keys») (t .snapshotKeys)) =
+          ap (λ (qs : List PeerRecord). only (λ x. hasSnapshot qs (snapshotKeyOf x .peer)) (records 4 (p .«snapshot_keys») (t .snapshotKeys))) peers-read in
+          subst (λ (x : PeersState). Stores x (record { peers = n; «snapshot_keys» = k; contested = c }) t (record { peers = ps; snapshotKeys = ks; contested = cs })) (sym (expire-left at age s))
+          (stores-of (record { peers = leftPeers at age s; snapshotKeys = leftKeys at age s; contested = leftContested at age s }) n k c t ps ks cs
+          peers-stored
+          (tabled-only snapshotKeyWords snapshotKeyOf 4 2 snapshotKeysSize (p .«snapshot_keys») (t .snapshotKeys) (o .snapshotKeys) (λ (x : SnapshotKey). hasSnapshot (leftPeers at age s) (x .peer)) k ks
+          (subst (λ (rs : List (List ℕ)). Tabled k rs (t .snapshotKeys) ks) e d))
+          contested-stored)

@@ -1,28 +1,50 @@
--- Laws: records kept by a test, moved to the front one after the other; and records written over.
+-- Laws: records kept by a test, written to the front of their table one after the other; and a table by its records.
 use mathlib.Core.Path.{_≡_, refl, sym, ap, _∙_, subst}
 use mathlib.Core.Bool.{Bool, true, false, cond}
-use mathlib.Core.List.{List, [], _∷_, _++_, append-nil}
-use Prim.Native.Nat.{ℕ, zero, suc, _+_, _-_, _*_, _≤_, _<_, zero-le}
-use native.Mathlib.Nat.{suc-mul, le-of-suc-le-suc, not-suc-le-zero}
+use mathlib.Core.List.{List, [], _∷_, _++_, append-nil, append-assoc}
+use Prim.Native.Nat.{ℕ, zero, suc, _+_, _-_, _*_, _≤_, _<_}
+use native.Mathlib.Nat.{suc-mul, le-of-suc-le-suc, not-suc-le-zero, mul-le-mul-right}
 use native.Mathlib.Numerals.{add-one}
 use native.Mathlib.Omega.{arith}
 use borrow.Author.Tests.{lt-ltb, eq-eqb}
 use lib.Dec.{ltb, eqb}
-use lib.ListN.{length, take, drop, getD, set, length-set}
-use lib.Seq.{slice, length-take-le, take-all, take-suc, take-suc-set, drop-drop, take-set-lt, take-set-le, drop-set-lt, drop-set-add, set-split, set-getD, getD-drop}
+use lib.ListN.{length, take, drop, getD, set, length-append, length-take}
+use lib.Seq.{slice, length-slice, take-all, take-at, take-suc, drop-drop, drop-append-add, take-set-lt, take-set-le, drop-set-lt, drop-set-add, set-split}
 use Rattle.records.specs.Words.{copyWithin, paste}
-use Rattle.records.specs.Records.{records, table, splice, overwriteAt, overwritable, removable, overwritten}
+use Rattle.records.specs.Records.{records, flat, table, splice, overwriteAt, overwritable, removable, overwritten}
 use Rattle.records.proofs.TestLaws.{and-intro}
 use Rattle.records.proofs.WordLaws.{copy-here}
-use Rattle.records.proofs.RecordLaws.{fits-intro, row, length-records, record-at, take-records}
+use Rattle.records.proofs.RecordLaws.{fits-intro, row, record-at, flat-append}
 use Rattle.records.proofs.SpliceLaws.{slice-is, splice-done, overwritable-is, overwritten-is}
-use Rattle.records.proofs.EditLaws.{length-overwrite}
-use Rattle.records.proofs.TableLaws.{Wide, wide-records, wide-splice}
+use Rattle.records.proofs.TableLaws.{Wide, wide-take, length-flat, length-table}
 use Rattle.demand.specs.PeerLists.{only}
-use Rattle.demand.specs.PeerState.{Holds}
+use Rattle.demand.specs.Steps.PeerRuns.{Tabled}
+use Rattle.demand.proofs.PeerOrderLaws.{length-only, wide-only}
 use Rattle.demand.proofs.PeerRangeLaws.{only-yes, only-no, only-append}
 use Rattle.demand.proofs.PeerRowLaws.{word-at}
-use Rattle.demand.proofs.PeerTableLaws.{holds-table}
+
+-- ---- a table and its records
+
+-- past its records a table is as before
+drop-past : (rs : List (List ℕ)) (xs : List ℕ) (m : ℕ) → length (flat rs) ≤ m → drop m (table rs xs) ≡ drop m xs
+unfolding table
+drop-past rs xs m h =
+    let l : ℕ = length (flat rs) in
+    let e : m ≡ l + (m - l) = omega arith in
+    ap (λ (n : ℕ). drop n (flat rs ++ drop l xs)) e ∙ drop-append-add (flat rs) (drop l xs) (m - l) ∙ drop-drop (m - l) l xs ∙ ap (λ (n : ℕ). drop n xs) (sym e)
+
+-- a record pasted behind the others is one more of them
+paste-more : (w : ℕ) (rs : List (List ℕ)) (r xs : List ℕ) → Wide w rs → paste (length rs * w) r (table rs xs) ≡ table (rs ++ (r ∷ [])) xs
+unfolding paste table flat
+paste-more w rs r xs p =
+    let f : List ℕ = flat rs in
+    let l : length f ≡ length rs * w = length-flat w rs p in
+    let m : length rs * w + length r ≡ length (f ++ r) = omega (arith, length-append f r) in
+    let e : flat (rs ++ (r ∷ [])) ≡ f ++ r = flat-append rs (r ∷ []) ∙ ap (λ (zs : List ℕ). f ++ zs) (append-nil r) in
+    (λ k. take-at f (drop (length f) xs) (length rs * w) l k ++ (r ++ drop-past rs xs (length rs * w + length r) (omega arith) k))
+    ∙ sym (append-assoc f r (drop (length rs * w + length r) xs))
+    ∙ ap (λ (n : ℕ). (f ++ r) ++ drop n xs) m
+    ∙ sym (λ k. e k ++ drop (length (e k)) xs)
 
 -- ---- one record written over
 
@@ -35,17 +57,7 @@ module _ (w n i : ℕ) (r xs : List ℕ) (hw : 0 < w) (hx : n * w ≤ length xs)
   unfolding overwritable removable
   fitting = and-intro (eqb (length r) w) _ (eq-eqb (length r) w hr) (and-intro (ltb i n) _ (lt-ltb i n hi) (fits-intro (length xs) w n hw hx))
 
-  pub holds-overwritten : Holds w (n * w) n (overwriteAt i r (records w n xs)) xs (overwritten w n i r xs)
-  unfolding overwritten overwriteAt
-  holds-overwritten =
-      let rs : List (List ℕ) = overwriteAt i r (records w n xs) in
-      let l : length rs ≡ n = length-overwrite i r (records w n xs) (omega (arith, length-records w n xs)) ∙ length-records w n xs in
-      let p : Wide w rs = wide-splice w i (suc i) (r ∷ []) (records w n xs) (hr, tt) (wide-records w n xs hx) in
-      let h : Holds w (n * w) (length rs) rs xs (table rs xs) = holds-table w n rs xs p (omega arith) hx in
-      let e : overwritten w n i r xs ≡ table rs xs = ap (λ (b : Bool). cond b (table rs xs) xs) fitting in
-      subst (λ (m : ℕ). Holds w (n * w) m rs xs (overwritten w n i r xs)) l (subst (λ (ys : List ℕ). Holds w (n * w) (length rs) rs xs ys) (sym e) h)
-
-  pub pasted : paste (i * w) r xs ≡ overwritten w n i r xs
+  pasted : paste (i * w) r xs ≡ overwritten w n i r xs
   pasted =
       let e : (i + 1) * w ≡ i * w + length r = omega arith in
       let k : i * w + length r ≤ n * w = omega (arith, row w n i hi) in
@@ -53,142 +65,115 @@ module _ (w n i : ℕ) (r xs : List ℕ) (hw : 0 < w) (hx : n * w ≤ length xs)
       ∙ splice-done w n i (i + 1) r xs (overwritable-is (length xs) w n i (length r) hr hi ∙ fitting)
       ∙ overwritten-is w n i r xs hr hi
 
--- written over by itself, a table is as it was
-pub holds-same : (w n i : ℕ) (r xs : List ℕ) → i < n → r ≡ getD (records w n xs) i [] → Holds w (n * w) n (overwriteAt i r (records w n xs)) xs xs
-holds-same w n i r xs h e =
-    let rs : List (List ℕ) = records w n xs in
-    let q : overwriteAt i r rs ≡ rs = overwrite-set i r rs (omega (arith, length-records w n xs)) ∙ ap (set rs i) e ∙ set-getD rs i [] in
-    record { count = sym (ap length q ∙ length-records w n xs); front = sym q; rest = refl; as-long = refl }
-
--- a record copied over an earlier one, or over itself
-pub moved : (w n i j : ℕ) (xs : List ℕ) → 0 < w → n * w ≤ length xs → i < n → j ≤ i → Holds w (n * w) n (set (records w n xs) j (getD (records w n xs) i [])) xs (copyWithin (i * w) (i * w + w) (j * w) xs)
-unfolding copyWithin paste
-moved w n i j xs hw hx hi hj =
-    let r : List ℕ = take w (drop (i * w) xs) in
-    let k : i * w + w ≤ n * w = row w n i hi in
-    let s : slice (i * w) (i * w + w) xs ≡ r = sym (slice-is (i * w) w xs (omega arith)) in
-    let l : length r ≡ w = length-take-le w (drop (i * w) xs) (omega (arith, length-dropped (i * w) xs)) in
-    let d : i * w + w - i * w ≡ length r = omega arith in
-    let e : copyWithin (i * w) (i * w + w) (j * w) xs ≡ overwritten w n j r xs =
-    (λ m. take (j * w) xs ++ (s m ++ drop (j * w + d m) xs)) ∙ pasted w n j r xs hw hx (omega arith) l in
-    let h : Holds w (n * w) n (overwriteAt j r (records w n xs)) xs (overwritten w n j r xs) = holds-overwritten w n j r xs hw hx (omega arith) l in
-    let q : overwriteAt j r (records w n xs) ≡ set (records w n xs) j (getD (records w n xs) i []) =
-    overwrite-set j r (records w n xs) (omega (arith, length-records w n xs)) ∙ ap (set (records w n xs) j) (sym (record-at w n xs i hi)) in
-    subst (λ (ys : List ℕ). Holds w (n * w) n (set (records w n xs) j (getD (records w n xs) i [])) xs ys) (sym e)
-    (subst (λ (rs : List (List ℕ)). Holds w (n * w) n rs xs (overwritten w n j r xs)) q h)
-  where
-    length-dropped : (m : ℕ) (l : List ℕ) → length (drop m l) ≡ length l - m
-    length-dropped m l = lib.ListN.length-drop m l
-
 -- ---- records kept
 
--- of the first i records of t₀ those that pass stand first in t, and those from i on are as they were
-pub record Kept (p : List ℕ → Bool) (w n : ℕ) (t₀ t : List ℕ) (i j : ℕ) : Type 0 where
+-- the n records of t₀ become gs; of the first i of these the j that pass were written over the front of t₀, which is now t
+pub record Kept (p : List ℕ → Bool) (w n : ℕ) (gs : List (List ℕ)) (t₀ t : List ℕ) (i j : ℕ) : Type 0 where
   pub width : 0 < w
   pub words : n * w ≤ length t₀
-  pub behind : j ≤ i
-  pub within : i ≤ n
-  pub front : take j (records w n t) ≡ only p (take i (records w n t₀))
-  pub back : drop i (records w n t) ≡ drop i (records w n t₀)
-  pub rest : drop (n * w) t ≡ drop (n * w) t₀
-  pub as-long : length t ≡ length t₀
+  pub wide : Wide w gs
+  pub many : length gs ≡ n
+  pub count : j ≡ length (only p (take i gs))
+  pub front : t ≡ table (only p (take i gs)) t₀
 
-pub kept-none : (p : List ℕ → Bool) (w n : ℕ) (t : List ℕ) → 0 < w → n * w ≤ length t → Kept p w n t t 0 0
-unfolding only
-kept-none p w n t h k = record { width = h; words = k; behind = zero-le; within = zero-le; front = refl; back = refl; rest = refl; as-long = refl }
+pub kept-none : (p : List ℕ → Bool) (w n : ℕ) (gs : List (List ℕ)) (t : List ℕ) → 0 < w → n * w ≤ length t → Wide w gs → length gs ≡ n → Kept p w n gs t t 0 0
+unfolding only table flat
+kept-none p w n gs t h k g e = record { width = h; words = k; wide = g; many = e; count = refl; front = refl }
 
-module _ (p : List ℕ → Bool) (w n : ℕ) (t₀ t : List ℕ) (i j : ℕ) (k : Kept p w n t₀ t i j) (h : i < n) where
-  same-record : getD (records w n t) i [] ≡ getD (records w n t₀) i []
-  same-record =
-      let z : i + 0 ≡ i = omega arith in
-      sym (getD-drop i (records w n t) 0 [] ∙ ap (λ (m : ℕ). getD (records w n t) m []) z)
-      ∙ ap (λ (l : List (List ℕ)). getD l 0 []) (k .back)
-      ∙ (getD-drop i (records w n t₀) 0 [] ∙ ap (λ (m : ℕ). getD (records w n t₀) m []) z)
+module _ (p : List ℕ → Bool) (w n : ℕ) (gs : List (List ℕ)) (t₀ t : List ℕ) (i j : ℕ) (k : Kept p w n gs t₀ t i j) where
+  abbrev kept : List (List ℕ)
+  kept = only p (take i gs)
 
-  -- record i is read as it was
-  pub kept-word : (m : ℕ) → m < w → getD t (i * w + m) 0 ≡ getD (getD (records w n t₀) i []) m 0
-  kept-word m l = sym (word-at w n t i m h l) ∙ ap (λ (r : List ℕ). getD r m 0) same-record
+  wide-kept : Wide w kept
+  wide-kept = wide-only w p (take i gs) (wide-take w i gs (k .wide))
 
-  pub kept-first : getD t (i * w) 0 ≡ getD (getD (records w n t₀) i []) 0 0
-  kept-first =
-      let z : i * w ≡ i * w + 0 = omega arith in
-      ap (λ (m : ℕ). getD t m 0) z ∙ kept-word 0 (k .width)
+  behind : (j ≤ i) × (j ≤ n)
+  behind =
+      let a = length-only p (take i gs) in
+      let b = length-take i gs in
+      (omega (arith, k .count), omega (arith, k .count, k .many))
 
-  -- and it stands within the words
-  pub kept-inside : i * w + w ≤ length t
-  kept-inside = omega (arith, row w n i h, k .words, k .as-long)
+  flat-kept : length (flat kept) ≡ j * w
+  flat-kept = length-flat w kept wide-kept ∙ ap (λ (m : ℕ). m * w) (sym (k .count))
 
-  one-more : take (i + 1) (records w n t₀) ≡ take i (records w n t₀) ++ (getD (records w n t₀) i [] ∷ [])
-  one-more = ap (λ (m : ℕ). take m (records w n t₀)) (add-one i) ∙ take-suc (records w n t₀) i [] (omega (arith, length-records w n t₀))
+  pub kept-long : length t ≡ length t₀
+  kept-long = ap length (k .front) ∙ length-table kept t₀ (omega (arith, flat-kept, mul-le-mul-right w (behind .1), k .words))
 
-  back-more : drop (i + 1) (records w n t) ≡ drop (i + 1) (records w n t₀)
-  back-more = sym (drop-drop 1 i (records w n t)) ∙ ap (drop 1) (k .back) ∙ drop-drop 1 i (records w n t₀)
+  pub kept-all : n ≤ i → Tabled j (only p gs) t₀ t
+  kept-all h =
+      let e : kept ≡ only p gs = ap (only p) (take-all i gs (omega (arith, k .many))) in
+      record { count = k .count ∙ ap length e; words = k .front ∙ ap (λ (rs : List (List ℕ)). table rs t₀) e }
 
-  passed : p (getD (records w n t₀) i []) ≡ false → Kept p w n t₀ t (i + 1) j
-  unfolding only
-  passed e = record {
-    width = k .width;
-    words = k .words;
-    behind = omega (arith, k .behind);
-    within = omega arith;
-    front =
-        k .front
-        ∙ sym (ap (only p) one-more
-        ∙ only-append p (take i (records w n t₀)) (getD (records w n t₀) i [] ∷ [])
-        ∙ ap (λ l. only p (take i (records w n t₀)) ++ l) (only-no p (getD (records w n t₀) i []) [] e)
-        ∙ append-nil (only p (take i (records w n t₀))));
-    back = back-more;
-    rest = k .rest;
-    as-long = k .as-long;
-  }
+  module _ (h : i < n) where
+    -- record i stands within the words, and not before those kept
+    pub kept-inside : (j ≤ i) × (i * w + w ≤ length t)
+    kept-inside = (behind .0, omega (arith, row w n i h, k .words, kept-long))
 
-  stayed : p (getD (records w n t₀) i []) ≡ true → Kept p w n t₀ (copyWithin (i * w) (i * w + w) (j * w) t) (i + 1) (j + 1)
-  unfolding only
-  stayed e =
-      let x : List ℕ = getD (records w n t) i [] in
-      let m = moved w n i j t (k .width) (omega (arith, k .words, k .as-long)) h (k .behind) in
-      let hj : j < length (records w n t) = omega (arith, length-records w n t, k .behind) in
-      record {
-        width = k .width;
-        words = k .words;
-        behind = omega (arith, k .behind);
-        within = omega arith;
-        front =
-            ap (take (j + 1)) (m .front)
-            ∙ ap (λ (q : ℕ). take q (set (records w n t) j x)) (add-one j)
-            ∙ take-suc-set (records w n t) j x hj
-            ∙ (λ q. k .front q ++ (same-record q ∷ []))
-            ∙ sym (ap (only p) one-more
-            ∙ only-append p (take i (records w n t₀)) (getD (records w n t₀) i [] ∷ [])
-            ∙ ap (λ l. only p (take i (records w n t₀)) ++ l) (only-yes p (getD (records w n t₀) i []) [] e));
-        back = ap (drop (i + 1)) (m .front) ∙ drop-set-lt (i + 1) (records w n t) j x (omega (arith, k .behind)) ∙ back-more;
-        rest = m .rest ∙ k .rest;
-        as-long = m .as-long ∙ k .as-long;
-      }
+    -- it is as it was
+    pub kept-here : take w (drop (i * w) t) ≡ getD (records w n t₀) i []
+    kept-here =
+        ap (λ (xs : List ℕ). take w (drop (i * w) xs)) (k .front)
+        ∙ ap (take w) (drop-past kept t₀ (i * w) (omega (arith, flat-kept, mul-le-mul-right w (behind .0))))
+        ∙ sym (record-at w n t₀ i h)
 
-  pub kept-step : (b : Bool) → b ≡ p (getD (records w n t₀) i []) → Kept p w n t₀ (cond b (copyWithin (i * w) (i * w + w) (j * w) t) t) (i + 1) (cond b (j + 1) j)
-  kept-step true e = stayed (sym e)
-  kept-step false e = passed (sym e)
+    -- and so is each of its words
+    pub kept-word : (m : ℕ) → m < w → getD t (i * w + m) 0 ≡ getD (getD (records w n t₀) i []) m 0
+    kept-word m l = sym (word-at w n t i m h l) ∙ ap (λ (r : List ℕ). getD r m 0) (record-at w n t i h ∙ kept-here)
 
-  pub kept-next : (b : Bool) (t′ : List ℕ) (j′ : ℕ) → b ≡ p (getD (records w n t₀) i []) → j′ ≡ cond b (j + 1) j → t′ ≡ cond b (copyWithin (i * w) (i * w + w) (j * w) t) t → Kept p w n t₀ t′ (i + 1) j′
-  kept-next b t′ j′ e q r =
-      subst (λ (ys : List ℕ). Kept p w n t₀ ys (i + 1) j′) (sym r)
-      (subst (λ (m : ℕ). Kept p w n t₀ (cond b (copyWithin (i * w) (i * w + w) (j * w) t) t) (i + 1) m) (sym q) (kept-step b e))
+    pub kept-first : getD t (i * w) 0 ≡ getD (getD (records w n t₀) i []) 0 0
+    kept-first =
+        let z : i * w ≡ i * w + 0 = omega arith in
+        ap (λ (m : ℕ). getD t m 0) z ∙ kept-word 0 (k .width)
 
-pub kept-all : (p : List ℕ → Bool) (w n : ℕ) (t₀ t : List ℕ) (i j : ℕ) → Kept p w n t₀ t i j → n ≤ i → Holds w (n * w) j (only p (records w n t₀)) t₀ t
-kept-all p w n t₀ t i j k h =
-    let e : take j (records w n t) ≡ only p (records w n t₀) = k .front ∙ ap (only p) (take-all i (records w n t₀) (omega (arith, length-records w n t₀))) in
-    let l : j ≤ n = omega (arith, k .behind, k .within) in
-    record {
-      count = sym (length-take-le j (records w n t) (omega (arith, length-records w n t))) ∙ ap length e;
-      front = sym (take-records w n j t l) ∙ e;
-      rest = k .rest;
-      as-long = k .as-long;
+    abbrev next : List ℕ
+    next = getD gs i []
+
+    one-more : (l : List (List ℕ)) → only p (next ∷ []) ≡ l → only p (take (i + 1) gs) ≡ kept ++ l
+    one-more l e =
+        ap (λ (m : ℕ). only p (take m gs)) (add-one i)
+        ∙ ap (only p) (take-suc gs i [] (omega (arith, k .many)))
+        ∙ only-append p (take i gs) (next ∷ [])
+        ∙ ap (λ (rs : List (List ℕ)). kept ++ rs) e
+
+    made : (rs : List (List ℕ)) (t′ : List ℕ) (j′ : ℕ) → only p (take (i + 1) gs) ≡ rs → j′ ≡ length rs → t′ ≡ table rs t₀ → Kept p w n gs t₀ t′ (i + 1) j′
+    made rs t′ j′ e q r = record {
+      width = k .width;
+      words = k .words;
+      wide = k .wide;
+      many = k .many;
+      count = q ∙ ap length (sym e);
+      front = r ∙ ap (λ (l : List (List ℕ)). table l t₀) (sym e);
     }
+
+    step : (b : Bool) → b ≡ p next → Kept p w n gs t₀ (cond b (paste (j * w) next t) t) (i + 1) (cond b (j + 1) j)
+    unfolding only
+    step true e =
+        made (kept ++ (next ∷ [])) (paste (j * w) next t) (j + 1) (one-more (next ∷ []) (only-yes p next [] (sym e)))
+        (omega (arith, k .count, length-append kept (next ∷ [])))
+        ((λ m. paste (k .count m * w) next (k .front m)) ∙ paste-more w kept next t₀ wide-kept)
+    step false e = made kept t j (one-more [] (only-no p next [] (sym e)) ∙ append-nil kept) (k .count) (k .front)
+
+    next-by : (b : Bool) (ys t′ : List ℕ) (j′ : ℕ) → ys ≡ paste (j * w) next t → b ≡ p next → j′ ≡ cond b (j + 1) j → t′ ≡ cond b ys t → Kept p w n gs t₀ t′ (i + 1) j′
+    next-by b ys t′ j′ y e q r =
+        subst (λ (zs : List ℕ). Kept p w n gs t₀ zs (i + 1) j′) (sym (r ∙ ap (λ (zs : List ℕ). cond b zs t) y))
+        (subst (λ (m : ℕ). Kept p w n gs t₀ (cond b (paste (j * w) next t) t) (i + 1) m) (sym q) (step b e))
+
+    -- if it passes it goes behind those kept: copied as it is, or as it becomes
+    pub kept-copied : (b : Bool) (t′ : List ℕ) (j′ : ℕ) → next ≡ getD (records w n t₀) i [] → b ≡ p next → j′ ≡ cond b (j + 1) j → t′ ≡ cond b (copyWithin (i * w) (i * w + w) (j * w) t) t → Kept p w n gs t₀ t′ (i + 1) j′
+    unfolding copyWithin paste
+    kept-copied b t′ j′ e =
+        let s : slice (i * w) (i * w + w) t ≡ next = sym (slice-is (i * w) w t (kept-inside .1)) ∙ kept-here ∙ sym e in
+        let d : i * w + w - i * w ≡ length next = sym (length-slice (i * w) (i * w + w) t (kept-inside .1)) ∙ ap length s in
+        next-by b (copyWithin (i * w) (i * w + w) (j * w) t) t′ j′ (λ m. take (j * w) t ++ (s m ++ drop (j * w + d m) t))
+
+    pub kept-written : (b : Bool) (r t′ : List ℕ) (j′ : ℕ) → length r ≡ w → r ≡ next → b ≡ p next → j′ ≡ cond b (j + 1) j → t′ ≡ cond b (overwritten w n j r t) t → Kept p w n gs t₀ t′ (i + 1) j′
+    kept-written b r t′ j′ l e =
+        next-by b (overwritten w n j r t) t′ j′
+        (sym (pasted w n j r t (k .width) (omega (arith, k .words, kept-long)) (omega (arith, behind .0)) l) ∙ ap (λ (x : List ℕ). paste (j * w) x t) e)
 
 -- ---- one word written
 
-records-set : (w n i k v : ℕ) (xs : List ℕ) → i < n → k < w → records w n (set xs (i * w + k) v) ≡ set (records w n xs) i (set (getD (records w n xs) i []) k v)
+pub records-set : (w n i k v : ℕ) (xs : List ℕ) → i < n → k < w → records w n (set xs (i * w + k) v) ≡ set (records w n xs) i (set (getD (records w n xs) i []) k v)
 unfolding records
 records-set w zero i k v xs hi hk = absurd (not-suc-le-zero hi)
 records-set w (suc n) zero k v xs hi hk =
@@ -201,11 +186,3 @@ records-set w (suc n) (suc i) k v xs hi hk =
     ap (λ (m : ℕ). records w (suc n) (set xs m v)) z
     ∙ (λ q. take-set-le w xs (w + (i * w + k)) v l q ∷ records w n (drop-set-add w xs (i * w + k) v q))
     ∙ ap (λ (rs : List (List ℕ)). take w xs ∷ rs) (records-set w n i k v (drop w xs) (le-of-suc-le-suc hi) hk)
-
-pub set-word : (w n i k v : ℕ) (xs : List ℕ) → n * w ≤ length xs → i < n → k < w → Holds w (n * w) n (set (records w n xs) i (set (getD (records w n xs) i []) k v)) xs (set xs (i * w + k) v)
-set-word w n i k v xs hx hi hk = record {
-  count = sym (length-set (records w n xs) i (set (getD (records w n xs) i []) k v) ∙ length-records w n xs);
-  front = records-set w n i k v xs hi hk;
-  rest = drop-set-lt (n * w) xs (i * w + k) v (omega (arith, row w n i hi));
-  as-long = length-set xs (i * w + k) v;
-}

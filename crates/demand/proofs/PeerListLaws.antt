@@ -136,3 +136,8 @@ any-only p (x ∷ xs) = ap (λ (b : Bool). p x || b) (any-only p xs) ∙ either 
     either : (b : Bool) → (b || present (first (only p xs))) ≡ present (first (cond b (x ∷ only p xs) (only p xs)))
     either true = refl
     either false = refl
+
+pub map-at : {A B : Type 0} (f : A → B) (d : A) (z : B) (xs : List A) (i : ℕ) → i < length xs → getD (map f xs) i z ≡ f (getD xs i d)
+map-at f d z [] i h = absurd (not-suc-le-zero h)
+map-at f d z (x ∷ xs) zero h = refl
+map-at f d z (x ∷ xs) (suc i) h = map-at f d z xs i (le-of-suc-le-suc h)

@@ -1,5 +1,5 @@
 -- Laws: lists by a test, and records that ascend, when some are replaced.
-use mathlib.Core.Path.{_≡_, refl, sym, ap, _∙_}
+use mathlib.Core.Path.{_≡_, refl, sym, ap, _∙_, subst}
 use mathlib.Core.Bool.{Bool, true, _&&_}
 use mathlib.Core.List.{List, [], _∷_, _++_}
 use Prim.Native.Nat.{ℕ, suc, _+_, _-_, _≤_, _<_, zero-le}
@@ -11,6 +11,7 @@ use lib.ListN.{length, take, getD, length-append}
 use Rattle.records.specs.Records.{key, before, leads, ascending}
 use Rattle.records.proofs.TestLaws.{split, both, and-intro}
 use Rattle.records.proofs.OrderLaws.{before-less, before-equal, before-trans}
+use Rattle.records.proofs.TableLaws.{Wide}
 use Rattle.demand.specs.PeerLists.{all, only, those, replaced}
 use Rattle.demand.specs.Steps.PeerRuns.{word}
 use Rattle.demand.proofs.PeerRangeLaws.{only-yes, only-no}
@@ -120,6 +121,13 @@ asc-only d p (r ∷ rs) a = split (p r)
     (λ e. ap (ascending d) (only-no p r rs e) ∙ asc-only d p rs (asc-rest d r rs a))
 
 -- every one of the first is before every one of the second
+pub wide-only : (w : ℕ) (p : List ℕ → Bool) (rs : List (List ℕ)) → Wide w rs → Wide w (only p rs)
+unfolding only
+wide-only w p [] h = tt
+wide-only w p (r ∷ rs) h = split (p r)
+    (λ e. subst (Wide w) (sym (only-yes p r rs e)) (h .0, wide-only w p rs (h .1)))
+    (λ e. subst (Wide w) (sym (only-no p r rs e)) (wide-only w p rs (h .1)))
+
 pub asc-append :
     (d : ℕ) (p q : List ℕ → Bool) (rs ss : List (List ℕ))
     → ((r s : List ℕ) → p r ≡ true → q s ≡ true → before (key d r) (key d s) ≡ true)

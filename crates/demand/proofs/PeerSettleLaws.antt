@@ -2,7 +2,7 @@
 use mathlib.Core.Path.{_≡_, refl, sym, ap, _∙_, subst}
 use mathlib.Core.Bool.{Bool, true, false, cond, _&&_}
 use mathlib.Core.List.{List, [], _∷_, _++_, map}
-use Prim.Native.Nat.{ℕ, suc, _+_, _-_, _*_, _/_, _%_, _≤_, _<_, zero-le, suc-le-suc}
+use Prim.Native.Nat.{ℕ, suc, _-_, _*_, _/_, _%_, _≤_, _<_, zero-le, suc-le-suc}
 use native.Mathlib.Nat.{mul-div-left, mul-mod-left}
 use native.Mathlib.Omega.{arith}
 use borrow.Author.Tests.{lt-ltb, eq-eqb, ne-eqb}
@@ -15,17 +15,17 @@ use Rattle.demand.specs.declared.peer_demand.DemandReport.{DemandReport}
 use Rattle.demand.specs.declared.peer_demand.PeerDemand.{PeerDemand}
 use Rattle.demand.specs.declared.peer_demand.Verdict.{Verdict}
 use Rattle.demand.specs.PeerLists.{first, only, those}
-use Rattle.demand.specs.PeerRecords.{PeerRecord, SnapshotKey, peerWords, snapshotKeyWords, contestedWords, peerOf}
-use Rattle.demand.specs.PeerState.{PeersState, PeerTables, peerWith, isKnown, hasSnapshot, snapshotKeysOf, peersSize, snapshotKeysSize, contestedSize, stateOf, exact, Stores}
+use Rattle.demand.specs.PeerRecords.{PeerRecord, SnapshotKey, peerWords, snapshotKeyWords, peerOf}
+use Rattle.demand.specs.PeerState.{PeersState, PeerTables, peerWith, isKnown, hasSnapshot, snapshotKeysOf, stateOf, exact}
 use Rattle.demand.specs.PeerChanges as changes
-use Rattle.demand.specs.Steps.PeerRuns.{word, keysIn, contestedIn, peersIn, Replaceable, Front, KeyRun, orNew, verdictWith, pastAfter, Reported, Read}
+use Rattle.demand.specs.Steps.PeerRuns.{word, keysIn, Replaceable, Front, KeyRun, orNew, verdictWith, pastAfter, Reported, Read, Stores}
 use Rattle.demand.proofs.PeerOrderLaws.{all-imply, length-replaced}
 use Rattle.demand.proofs.PeerRunLaws.{records-take}
 use Rattle.demand.proofs.PeerRangeLaws.{any-counted}
 use Rattle.demand.proofs.PeerKindLaws.{snapshotKind, Keys, run-typed, front-in, front-run, peer-typed, those-peer}
 use Rattle.demand.proofs.PeerKeptLaws.{taken-known}
 use Rattle.demand.proofs.PeerTakeLaws.{OldPeer, few-of-peer, snapshot-is, past-is}
-use Rattle.demand.proofs.PeerApplyLaws.{Tables, keys-fit, keys-asc, holds-same}
+use Rattle.demand.proofs.PeerApplyLaws.{Tables, keys-fit, keys-asc}
 
 -- ---- a run at the front of its words
 front-lent : (w m : ℕ) (rs : List (List ℕ)) (xs : List ℕ) → 0 < w → m * w ≤ length xs → Front w m rs xs → Front w (length (take (m * w) xs) / w) rs (take (m * w) xs)
@@ -162,14 +162,6 @@ module _ (p : PeerDemand) (t : PeerTables) (id : ℕ) (r : DemandReport) (o : Ta
       some-of : (ps : List PeerRecord) → changes.contests ≡ changes.verdictOn jump r (changes.snapshotIn (first ps)) (changes.pastIn (first ps)) (changes.sameKeys (snapshotKeysOf id (s .snapshotKeys)) (changes.reportKeys id r)) → ltb 0 (length ps) ≡ true
       some-of [] z = let y : _≡_ {A = ℕ} 0 1 = cc in absurd (omega arith)
       some-of (q ∷ ps) z = lt-ltb 0 (suc (length ps)) (suc-le-suc zero-le)
-
-  pub stores-same : Stores (stateOf p t) p t t
-  unfolding stateOf
-  stores-same = record {
-    peers = holds-same peerWords 12 peersSize (p .peers) (peersIn (p .peers) (t .peers)) (t .peers) (o .peers-exact);
-    snapshotKeys = holds-same snapshotKeyWords 4 snapshotKeysSize (p .«snapshot_keys») (keysIn (p .«snapshot_keys») (t .snapshotKeys)) (t .snapshotKeys) (o .keys-exact);
-    contested = holds-same contestedWords 6 contestedSize (p .contested) (contestedIn (p .contested) (t .contested)) (t .contested) (o .contested-exact);
-  }
 
   -- the state after each verdict
   pub stores-as : (at : ℕ) (u v : changes.Verdict) (p′ : PeerDemand) (t′ : PeerTables) → u ≡ v → Stores (changes.applyVerdict id r at u (stateOf p t)) p′ t t′ → Stores (changes.applyVerdict id r at v (stateOf p t)) p′ t t′

@@ -1,10 +1,8 @@
 -- Where the keys of each peer start: as the scan finds it, and what it says of the keys of one peer.
 use Prim.Native.Nat.{ℕ, zero, suc, _+_, _-_, _*_, _≤_, _<_}
 use mathlib.Core.Path.{_≡_, sym, ap, _∙_, subst}
-use mathlib.Core.Bool.{Bool, true, _&&_}
-use mathlib.Core.List.{List, [], _∷_, map}
+use mathlib.Core.List.{List, [], map}
 use native.Mathlib.Nat.{mul-le-mul-right}
-use native.Mathlib.Numerals.{add-one}
 use native.Mathlib.Omega.{arith}
 use borrow.Author.Tests.{ltb-true, ltb-false, lt-ltb, le-ltb, eqb-true}
 use lib.Dec.{ltb, eqb}
@@ -14,7 +12,6 @@ use Rattle.records.specs.Records.{records, ascending}
 use Rattle.records.proofs.TestLaws.{split}
 use Rattle.records.proofs.RecordLaws.{length-records, sub-mul}
 use Rattle.records.proofs.OrderLaws.{asc-lt}
-use Rattle.records.proofs.SearchLaws.{Cut}
 use Rattle.demand.specs.declared.peer_demand.PeerDemand.{PeerDemand}
 use Rattle.demand.specs.PeerLists.{all, first, those}
 use Rattle.demand.specs.PeerRecords.{peerOf, snapshotKeyOf, contestedOf}

@@ -14,13 +14,14 @@ use Rattle.records.proofs.RecordLaws.{length-records}
 use Rattle.demand.specs.declared.peer_demand.PeerDemand.{PeerDemand}
 use Rattle.demand.specs.PeerLists.{only, all, those, replaced}
 use Rattle.demand.specs.PeerRecords.{PeerRecord, SnapshotKey, ContestedKey, peerWords, snapshotKeyWords, contestedWords, peerOf, snapshotKeyOf, contestedOf}
-use Rattle.demand.specs.PeerState.{PeersState, PeerTables, maxPeers, maxDemandKeys, maxContested, peersSize, snapshotKeysSize, contestedSize, haveRoom, exact, areExact, valid, validPeers, validPeer, validSnapshotKeys, validSnapshotKey, validContesteds, validContested, stateOf, isValid, tables, Holds, Stores, Becomes}
+use Rattle.demand.specs.PeerState.{PeersState, PeerTables, maxPeers, maxDemandKeys, maxContested, peersSize, snapshotKeysSize, contestedSize, haveRoom, exact, areExact, valid, validPeers, validPeer, validSnapshotKeys, validSnapshotKey, validContesteds, validContested, stateOf, isValid, tables}
 use Rattle.demand.specs.PeerChanges.{forget, hold, holdPeer, leave, later}
 use Rattle.demand.specs.Steps.PeerScan.{firstWord}
+use Rattle.demand.specs.Steps.PeerRuns.{Tabled, Stores, Becomes}
 use Rattle.demand.specs.Steps.PeerSteps.{inOrder, Valid}
 use Rattle.demand.proofs.PeerWordLaws.{words-of-exact}
 use Rattle.demand.proofs.PeerRangeLaws.{map-only, replaced-words}
-use Rattle.demand.proofs.PeerTableLaws.{in-order-intro, holds-more}
+use Rattle.demand.proofs.PeerTableLaws.{in-order-intro, tabled-same, stores-of}
 
 -- ---- a table of a valid state
 
@@ -77,31 +78,41 @@ module _ {A : Type 0} (words : A → List ℕ) (of : List ℕ → A) (w d size n
   back = words-of-exact words of (records w n xs) (o .exactly)
 
   -- as it was
-  pub holds-still : Holds w size n (map words (map of (records w n xs))) xs xs
-  holds-still = record { count = sym (ap length back ∙ length-records w n xs); front = sym back; rest = refl; as-long = refl }
+  tabled-still : Tabled n (map words (map of (records w n xs))) xs xs
+  tabled-still = tabled-same words w n (map of (records w n xs)) xs (omega (arith, o .within, o .room)) (sym back)
 
   -- other records for those of a number
-  pub holds-replaced : (number : A → ℕ) → ((x : A) → firstWord (words x) ≡ number x) → (a m : ℕ) (new : List A) (ys : List ℕ) → Holds w (n * w) m (replaced firstWord a (map words new) (records w n xs)) xs ys → Holds w size m (map words (replaced number a new (map of (records w n xs)))) xs ys
-  holds-replaced number f a m new ys h =
-      subst (λ (rs : List (List ℕ)). Holds w size m rs xs ys)
+  tabled-replaced : (number : A → ℕ) → ((x : A) → firstWord (words x) ≡ number x) → (a m : ℕ) (new : List A) (ys : List ℕ) → Tabled m (replaced firstWord a (map words new) (records w n xs)) xs ys → Tabled m (map words (replaced number a new (map of (records w n xs)))) xs ys
+  tabled-replaced number f a m new ys =
+      subst (λ (rs : List (List ℕ)). Tabled m rs xs ys)
       (sym (replaced-words number words firstWord f a new (map of (records w n xs)) ∙ ap (replaced firstWord a (map words new)) back))
-      (holds-more w (n * w) size m (replaced firstWord a (map words new) (records w n xs)) xs ys (o .within) h)
+
+-- ---- a state that stays
+
+pub stores-still : (p : PeerDemand) (t : PeerTables) → Valid p t → Stores (stateOf p t) p t t
+unfolding stateOf
+stores-still p t v =
+    let o = tables-of p t v in
+    stores-of (stateOf p t) (p .peers) (p .«snapshot_keys») (p .contested) t (t .peers) (t .snapshotKeys) (t .contested)
+    (tabled-still peerWords peerOf 12 1 peersSize (p .peers) (t .peers) (o .peers))
+    (tabled-still snapshotKeyWords snapshotKeyOf 4 2 snapshotKeysSize (p .«snapshot_keys») (t .snapshotKeys) (o .snapshotKeys))
+    (tabled-still contestedWords contestedOf 6 2 contestedSize (p .contested) (t .contested) (o .contested))
 
 -- ---- a departure
 
 pub forgotten :
     (p : PeerDemand) (t : PeerTables) (id n k c : ℕ) (ps ks cs : List ℕ)
     → Tables p t
-    → Holds 12 (p .peers * 12) n (replaced firstWord id [] (records 12 (p .peers) (t .peers))) (t .peers) ps
-    → Holds 4 (p .«snapshot_keys» * 4) k (replaced firstWord id [] (records 4 (p .«snapshot_keys») (t .snapshotKeys))) (t .snapshotKeys) ks
-    → Holds 6 (p .contested * 6) c (replaced firstWord id [] (records 6 (p .contested) (t .contested))) (t .contested) cs
+    → Tabled n (replaced firstWord id [] (records 12 (p .peers) (t .peers))) (t .peers) ps
+    → Tabled k (replaced firstWord id [] (records 4 (p .«snapshot_keys») (t .snapshotKeys))) (t .snapshotKeys) ks
+    → Tabled c (replaced firstWord id [] (records 6 (p .contested) (t .contested))) (t .contested) cs
     → Stores (forget id (stateOf p t)) (record { peers = n; «snapshot_keys» = k; contested = c }) t (record { peers = ps; snapshotKeys = ks; contested = cs })
 unfolding forget stateOf peerWords snapshotKeyWords contestedWords
-forgotten p t id n k c ps ks cs o h₁ h₂ h₃ = record {
-  peers = holds-replaced peerWords peerOf 12 1 peersSize (p .peers) (t .peers) (o .peers) (λ (x : PeerRecord). x .id) (λ x. refl) id n [] ps h₁;
-  snapshotKeys = holds-replaced snapshotKeyWords snapshotKeyOf 4 2 snapshotKeysSize (p .«snapshot_keys») (t .snapshotKeys) (o .snapshotKeys) (λ (x : SnapshotKey). x .peer) (λ x. refl) id k [] ks h₂;
-  contested = holds-replaced contestedWords contestedOf 6 2 contestedSize (p .contested) (t .contested) (o .contested) (λ (x : ContestedKey). x .peer) (λ x. refl) id c [] cs h₃;
-}
+forgotten p t id n k c ps ks cs o h₁ h₂ h₃ =
+    stores-of (forget id (stateOf p t)) n k c t ps ks cs
+    (tabled-replaced peerWords peerOf 12 1 peersSize (p .peers) (t .peers) (o .peers) (λ (x : PeerRecord). x .id) (λ x. refl) id n [] ps h₁)
+    (tabled-replaced snapshotKeyWords snapshotKeyOf 4 2 snapshotKeysSize (p .«snapshot_keys») (t .snapshotKeys) (o .snapshotKeys) (λ (x : SnapshotKey). x .peer) (λ x. refl) id k [] ks h₂)
+    (tabled-replaced contestedWords contestedOf 6 2 contestedSize (p .contested) (t .contested) (o .contested) (λ (x : ContestedKey). x .peer) (λ x. refl) id c [] cs h₃)
 
 pub map-map : {A B C : Type 0} (f : B → C) (g : A → B) (xs : List A) → map f (map g xs) ≡ map (λ x. f (g x)) xs
 map-map f g [] = refl
@@ -117,19 +128,17 @@ held-words id until rs =
 held-peer-stores :
     (p : PeerDemand) (t : PeerTables) (id until : ℕ) (ps : List ℕ)
     → Tables p t
-    → Holds 12 (p .peers * 12) (p .peers) (replaced firstWord id (map (λ x. peerWords (hold until (peerOf x))) (those firstWord id (records 12 (p .peers) (t .peers)))) (records 12 (p .peers) (t .peers))) (t .peers) ps
+    → Tabled (p .peers) (replaced firstWord id (map (λ x. peerWords (hold until (peerOf x))) (those firstWord id (records 12 (p .peers) (t .peers)))) (records 12 (p .peers) (t .peers))) (t .peers) ps
     → Stores (holdPeer id until (stateOf p t)) p t (record { peers = ps; snapshotKeys = t .snapshotKeys; contested = t .contested })
 unfolding holdPeer stateOf peerWords
 held-peer-stores p t id until ps o h =
     let rs : List (List ℕ) = records 12 (p .peers) (t .peers) in
-    record {
-      peers =
-          holds-replaced peerWords peerOf 12 1 peersSize (p .peers) (t .peers) (o .peers) (λ (x : PeerRecord). x .id) (λ x. refl) id (p .peers)
-          (map (hold until) (those (λ (x : PeerRecord). x .id) id (map peerOf rs))) ps
-          (subst (λ (new : List (List ℕ)). Holds 12 (p .peers * 12) (p .peers) (replaced firstWord id new rs) (t .peers) ps) (held-words id until rs) h);
-      snapshotKeys = holds-still snapshotKeyWords snapshotKeyOf 4 2 snapshotKeysSize (p .«snapshot_keys») (t .snapshotKeys) (o .snapshotKeys);
-      contested = holds-still contestedWords contestedOf 6 2 contestedSize (p .contested) (t .contested) (o .contested);
-    }
+    stores-of (holdPeer id until (stateOf p t)) (p .peers) (p .«snapshot_keys») (p .contested) t ps (t .snapshotKeys) (t .contested)
+    (tabled-replaced peerWords peerOf 12 1 peersSize (p .peers) (t .peers) (o .peers) (λ (x : PeerRecord). x .id) (λ x. refl) id (p .peers)
+    (map (hold until) (those (λ (x : PeerRecord). x .id) id (map peerOf rs))) ps
+    (subst (λ (new : List (List ℕ)). Tabled (p .peers) (replaced firstWord id new rs) (t .peers) ps) (held-words id until rs) h))
+    (tabled-still snapshotKeyWords snapshotKeyOf 4 2 snapshotKeysSize (p .«snapshot_keys») (t .snapshotKeys) (o .snapshotKeys))
+    (tabled-still contestedWords contestedOf 6 2 contestedSize (p .contested) (t .contested) (o .contested))
 
 -- with a time to hold it, and with none
 pub leaves-held : (id at time : ℕ) (s : PeersState) → (time ≡ 0 → ⊥) → leave id at time s ≡ holdPeer id (later at time) s
@@ -145,7 +154,7 @@ pub leave-stores :
     → Tables p t
     → (time ≡ 0 → ⊥)
     → until ≡ later at time
-    → Holds 12 (p .peers * 12) (p .peers) (replaced firstWord id (map (λ x. peerWords (hold until (peerOf x))) (those firstWord id (records 12 (p .peers) (t .peers)))) (records 12 (p .peers) (t .peers))) (t .peers) ps
+    → Tabled (p .peers) (replaced firstWord id (map (λ x. peerWords (hold until (peerOf x))) (those firstWord id (records 12 (p .peers) (t .peers)))) (records 12 (p .peers) (t .peers))) (t .peers) ps
     → Becomes (leave id at time) p t p (tables ps (t .snapshotKeys) (t .contested))
 leave-stores p t id at time until ps o h e k =
     subst (λ (s : PeersState). Stores s p t (tables ps (t .snapshotKeys) (t .contested)))

@@ -1,28 +1,29 @@
 -- Laws of the peers' tables: what a valid one is, and what it holds after records were taken out.
 use mathlib.Core.Path.{_≡_, refl, sym, ap, _∙_, subst}
 use mathlib.Core.Bool.{Bool, true, false, _&&_, or-false}
-use mathlib.Core.List.{List, [], _∷_, map}
+use mathlib.Core.List.{List, [], _∷_, _++_, map}
 use Prim.Native.Nat.{ℕ, suc, _+_, _-_, _*_, _≤_, _<_}
 use native.Mathlib.Nat.{zero-div, zero-mod, mul-le-mul-right}
 use native.Mathlib.Omega.{arith}
 use lib.Dec.{eqb}
-use lib.ListN.{length, drop, getD, take-append-drop}
-use lib.Seq.{drop-drop}
+use lib.ListN.{length, take, drop, getD, length-map, take-append-drop}
+use lib.Seq.{length-take-le}
 use Rattle.records.specs.declared.Found.the-variants.{At, Gap, Unfit}
 use Rattle.records.specs.Records.{records, flat, table, keyed, ascending, find, findIn, splice}
 use Rattle.records.proofs.TestLaws.{both, and-intro}
-use Rattle.records.proofs.RecordLaws.{fits-pos, fits-le, fits-intro, row, length-records}
+use Rattle.records.proofs.RecordLaws.{fits-pos, fits-le, fits-intro, row, length-records, flat-records}
 use Rattle.records.proofs.OrderLaws.{Keyed, keyed-says, keyed-is, before-word}
 use Rattle.records.proofs.PlaceLaws.{at-says}
-use Rattle.records.proofs.TableLaws.{Wide, wide-records, wide-splice, length-flat, records-table, drop-table, length-table}
+use Rattle.records.proofs.TableLaws.{Wide, wide-records, length-flat, records-table, length-table}
 use Rattle.demand.specs.PeerLists.{any, those, replaced}
-use Rattle.demand.specs.PeerState.{Holds}
+use Rattle.demand.specs.PeerRecords.{peerWords, snapshotKeyWords, contestedWords}
+use Rattle.demand.specs.PeerState.{PeersState, PeerTables}
 use Rattle.demand.specs.Steps.PeerScan.{firstWord}
 use Rattle.demand.specs.Steps.PeerSteps.{inOrder}
-use Rattle.demand.specs.Steps.PeerRuns.{replacedRun, Replaceable, Tabled}
+use Rattle.demand.specs.Steps.PeerRuns.{replacedRun, Replaceable, Tabled, Stores}
 use Rattle.demand.proofs.PeerOrderLaws.{length-replaced}
 use Rattle.demand.proofs.PeerRowLaws.{find-says, never-unfit}
-use Rattle.demand.proofs.PeerRangeLaws.{replaced-splice, those-at, those-gap, replaced-at, replaced-gap, first-shape, any-map, any-same, any-those}
+use Rattle.demand.proofs.PeerRangeLaws.{those-at, those-gap, replaced-at, replaced-gap, first-shape, any-map, any-same, any-those}
 
 -- ---- records in order
 
@@ -53,26 +54,49 @@ in-order-intro w d n xs h k l f a =
     (sym (keyed-is (length xs) w d n (λ e. omega arith) k l) ∙ fits-intro (length xs) w n (omega arith) f)
     a
 
--- ---- words past a place
+-- ---- a table and its records
 
-pub drop-more : (k m : ℕ) (xs ys : List ℕ) → k ≤ m → drop k ys ≡ drop k xs → drop m ys ≡ drop m xs
-drop-more k m xs ys h e =
-    let q : k + (m - k) ≡ m = omega arith in
-    sym (drop-drop (m - k) k ys ∙ ap (λ (n : ℕ). drop n ys) q) ∙ ap (drop (m - k)) e ∙ (drop-drop (m - k) k xs ∙ ap (λ (n : ℕ). drop n xs) q)
+-- words with these records at the front that are as before past them
+pub table-of : (w n : ℕ) (rs : List (List ℕ)) (xs ys : List ℕ) → n * w ≤ length ys → records w n ys ≡ rs → drop (n * w) ys ≡ drop (n * w) xs → ys ≡ table rs xs
+unfolding table
+table-of w n rs xs ys h e d =
+    let f : flat rs ≡ take (n * w) ys = ap flat (sym e) ∙ flat-records w n ys in
+    let l : length (flat rs) ≡ n * w = ap length f ∙ length-take-le (n * w) ys h in
+    sym ((λ k. f k ++ drop (l k) xs) ∙ ap (λ (zs : List ℕ). take (n * w) ys ++ zs) (sym d) ∙ take-append-drop (n * w) ys)
 
-pub holds-more : (w s m n : ℕ) (rs : List (List ℕ)) (xs ys : List ℕ) → s ≤ m → Holds w s n rs xs ys → Holds w m n rs xs ys
-holds-more w s m n rs xs ys h o = record { count = o .count; front = o .front; rest = drop-more s m xs ys h (o .rest); as-long = o .as-long }
+pub table-same : (w n : ℕ) (xs : List ℕ) → n * w ≤ length xs → table (records w n xs) xs ≡ xs
+table-same w n xs h = sym (table-of w n (records w n xs) xs xs h refl refl)
 
--- a table with no more records than it had
-pub holds-table : (w n : ℕ) (rs : List (List ℕ)) (xs : List ℕ) → Wide w rs → length rs ≤ n → n * w ≤ length xs → Holds w (n * w) (length rs) rs xs (table rs xs)
-holds-table w n rs xs p h l =
-    let k : length (flat rs) ≤ n * w = omega (arith, length-flat w rs p, mul-le-mul-right w h) in
-    record {
-      count = refl;
-      front = records-table w (length rs) rs xs p refl;
-      rest = drop-more (length (flat rs)) (n * w) xs (table rs xs) k (drop-table rs xs);
-      as-long = length-table rs xs (omega arith);
-    }
+-- with the words of what its records stand for
+pub tabled-same : {A : Type 0} (words : A → List ℕ) (w n : ℕ) (vs : List A) (xs : List ℕ) → n * w ≤ length xs → records w n xs ≡ map words vs → Tabled n (map words vs) xs xs
+tabled-same words w n vs xs h e = record {
+  count = sym (length-records w n xs) ∙ ap length e;
+  words = sym (ap (λ (rs : List (List ℕ)). table rs xs) (sym e) ∙ table-same w n xs h);
+}
+
+-- the records of a table, and its length
+module _ (w n : ℕ) (rs : List (List ℕ)) (xs ys : List ℕ) (wide : Wide w rs) (t : Tabled n rs xs ys) where
+  pub tabled-records : records w n ys ≡ rs
+  tabled-records = ap (records w n) (t .words) ∙ records-table w n rs xs wide (sym (t .count))
+
+  pub tabled-length : n * w ≤ length xs → length ys ≡ length xs
+  tabled-length h = ap length (t .words) ∙ length-table rs xs (omega (arith, length-flat w rs wide, ap (λ (m : ℕ). m * w) (t .count)))
+
+-- a state in its three tables
+pub stores-of :
+    (s : PeersState) (n k c : ℕ) (t : PeerTables) (ps ks cs : List ℕ)
+    → Tabled n (map peerWords (s .peers)) (t .peers) ps
+    → Tabled k (map snapshotKeyWords (s .snapshotKeys)) (t .snapshotKeys) ks
+    → Tabled c (map contestedWords (s .contested)) (t .contested) cs
+    → Stores s (record { peers = n; «snapshot_keys» = k; contested = c }) t (record { peers = ps; snapshotKeys = ks; contested = cs })
+stores-of s n k c t ps ks cs a b d = record {
+  value = (λ i. record {
+    peers = (a .count ∙ length-map (s .peers) peerWords) i;
+    «snapshot_keys» = (b .count ∙ length-map (s .snapshotKeys) snapshotKeyWords) i;
+    contested = (d .count ∙ length-map (s .contested) contestedWords) i;
+  });
+  words = (λ i. record { peers = a .words i; snapshotKeys = b .words i; contested = d .words i });
+}
 
 -- ---- the records of one number taken out
 
@@ -98,14 +122,8 @@ module _ (w d n a : ℕ) (xs : List ℕ) (h : 1 ≤ d) (o : InOrder w d n xs) wh
         omega (arith, mul-le-mul-right w l, o .words);
   }
 
-  pub run-out : (m : ℕ) (ys : List ℕ) → Tabled m (replacedRun w n a [] xs) xs ys → Holds w (n * w) m (replaced firstWord a [] (records w n xs)) xs ys
-  run-out m ys t =
-      let rs : List (List ℕ) = replaced firstWord a [] (records w n xs) in
-      let e : m ≡ length rs = t .count ∙ ap length nothing-new in
-      let cut : rs ≡ splice _ _ [] (records w n xs) = replaced-splice d w a (records w n xs) h (o .width) (o .wide) (o .order) [] in
-      let wide : Wide w rs = subst (Wide w) (sym cut) (wide-splice w _ _ [] (records w n xs) tt (o .wide)) in
-      subst (λ (zs : List ℕ). Holds w (n * w) m rs xs zs) (sym (t .words ∙ ap (λ (l : List (List ℕ)). table l xs) nothing-new))
-      (subst (λ (k : ℕ). Holds w (n * w) k rs xs (table rs xs)) (sym e) (holds-table w n rs xs wide fewer (o .words)))
+  pub run-out : (m : ℕ) (ys : List ℕ) → Tabled m (replacedRun w n a [] xs) xs ys → Tabled m (replaced firstWord a [] (records w n xs)) xs ys
+  run-out m ys = subst (λ (rs : List (List ℕ)). Tabled m rs xs ys) nothing-new
 
 -- ---- the one record with a number, by `find`
 

@@ -3,7 +3,7 @@ use mathlib.Core.Path.{_≡_, refl, sym, ap, _∙_, subst}
 use mathlib.Core.Bool.{Bool, true, false, cond, not, _||_}
 use mathlib.Core.List.{List, [], _∷_, _++_, map}
 use mathlib.Core.Option.{Option, none, some}
-use Prim.Native.Nat.{ℕ, zero, suc, _+_, _-_, _/_, _^_, _≤_, _<_, zero-le, suc-le-suc}
+use Prim.Native.Nat.{ℕ, zero, suc, _-_, _/_, _^_, _≤_, _<_, zero-le, suc-le-suc}
 use native.Mathlib.Omega.{arith}
 use borrow.Author.Tests.{ltb-true, leb-true, le-leb, eqb-true, eqb-false, eq-eqb}
 use lib.Dec.{ltb, leb, eqb}
@@ -17,11 +17,11 @@ use Rattle.demand.specs.declared.peer_demand.PeerDemand.{PeerDemand}
 use Rattle.demand.specs.PeerLists.{all, any, first, only, those, replaced}
 use Rattle.demand.specs.Words.{timeWords}
 use Rattle.demand.specs.PeerRecords.{Snapshot, PeerRecord, SnapshotKey, ContestedKey, snapshotWords, pastWords, peerWords, snapshotKeyWords, contestedWords, peerOf, snapshotKeyOf}
-use Rattle.demand.specs.PeerState.{PeersState, PeerTables, isWord, peerWith, isKnown, snapshotKeysOf, contestedKeysOf, peersSize, snapshotKeysSize, contestedSize, stateOf, exact, valid, validSnapshot, validPast, validPeer, validSnapshotKey, Holds, Stores}
+use Rattle.demand.specs.PeerState.{PeersState, PeerTables, isWord, peerWith, isKnown, snapshotKeysOf, contestedKeysOf, stateOf, exact, valid, validSnapshot, validPast, validPeer, validSnapshotKey}
 use Rattle.demand.specs.PeerChanges as changes
 use Rattle.demand.specs.PeerCalls.{hasPlace, Widths}
-use Rattle.demand.specs.Steps.PeerRuns.{word, keysIn, contestedIn, peersIn, replacedRun, Replaceable, Tabled, KeyRun, contestedAfter, Contestable, orNew, nextPast, pastAfter, Reported, Read}
-use Rattle.demand.proofs.PeerWordLaws.{peer-of-words}
+use Rattle.demand.specs.Steps.PeerRuns.{word, keysIn, contestedIn, peersIn, replacedRun, Replaceable, Tabled, KeyRun, contestedAfter, Contestable, orNew, nextPast, pastAfter, Reported, Read, Stores}
+use Rattle.demand.proofs.PeerWordLaws.{peer-of-words, peer-long}
 use Rattle.demand.proofs.PeerValidLaws.{all-take}
 use Rattle.demand.proofs.PeerOrderLaws.{all-only, all-imply, length-replaced}
 use Rattle.demand.proofs.PeerRangeLaws.{replaced-words}
@@ -30,7 +30,8 @@ use Rattle.demand.proofs.PeerRangeLaws.{any-counted}
 use Rattle.demand.proofs.PeerReportLaws.{PeerFacts, snapshot-none, snapshot-some, no-peer-valid}
 use Rattle.demand.proofs.PeerKindLaws.{snapshotKind, contestedKind, Keys, Contesteds, run-typed, peer-typed, with-peer}
 use Rattle.demand.proofs.PeerKeptLaws.{or-right, ValidState, few-keys, few-contested, contested-kept, report-kept, taken-valid, only-nothing}
-use Rattle.demand.proofs.PeerApplyLaws.{Tables, known-table, peers-fit, keys-fit, contested-fit, keys-asc, contested-asc, holds-of, holds-same, wide-map, peer-long, key-long, contested-long}
+use Rattle.demand.proofs.PeerApplyLaws.{Tables, known-table, peers-fit, keys-fit, contested-fit, keys-asc, contested-asc}
+use Rattle.demand.proofs.PeerTableLaws.{tabled-same, stores-of}
 
 found : {A : Type 0} (number : A → ℕ) (k : ℕ) (xs : List A) → any (λ x. eqb (number x) k) xs ≡ true → 0 < length (those number k xs)
 unfolding those
@@ -322,13 +323,6 @@ module _ (p : PeerDemand) (t : PeerTables) (id at : ℕ) (r : DemandReport) (o :
           (λ i. cond ((e ∙ ap (λ (b : Bool). cond b false keep) h) i) (changes.contest (word 5 old) (word 6 old) (rd .are i) (contestedKeysOf id (s .contested))) (contestedKeysOf id (s .contested)))
           ∙ sym (ap (λ (x : Option Snapshot). changes.keepReplaced keep x (snapshotKeysOf id (s .snapshotKeys)) (contestedKeysOf id (s .contested))) (q ∙ snapshot-some old (op .facts) (eqb-false (word 3 old) 0 h))))
 
-      abbrev left : Bool → List ContestedKey
-      left b = cond b (changes.contest (word 5 old) (word 6 old) (keysIn (length held / 4) held) (contestedKeysOf id (s .contested))) (contestedKeysOf id (s .contested))
-
-      left-few : (b : Bool) → length (map contestedWords (changes.withContested id (left b) (s .contested))) ≤ 8192
-      left-few true = omega (arith, length-map (changes.withContested id (left true) (s .contested)) contestedWords, few-contested _ (after _ contested-held (contest-few (word 5 old) (word 6 old) (keysIn (length held / 4) held) (contestedKeysOf id (s .contested)))))
-      left-few false = omega (arith, length-map (changes.withContested id (left false) (s .contested)) contestedWords, few-contested _ any-after)
-
       pub take-stores :
           (keep kept : Bool)
           → kept ≡ cond (eqb (word 3 old) 0) false keep
@@ -338,14 +332,11 @@ module _ (p : PeerDemand) (t : PeerTables) (id at : ℕ) (r : DemandReport) (o :
           → Tabled c (map contestedWords (changes.withContested id (cond kept (changes.contest (word 5 old) (word 6 old) (keysIn (length held / 4) held) (contestedKeysOf id (contestedIn (p .contested) (t .contested)))) (contestedKeysOf id (contestedIn (p .contested) (t .contested)))) (contestedIn (p .contested) (t .contested)))) (t .contested) cs′
           → Stores (changes.takeReport id r at (pastAfter r old) keep (stateOf p t)) (record { peers = n; «snapshot_keys» = k; contested = c }) t (record { peers = ps′; snapshotKeys = ks′; contested = cs′ })
       unfolding changes.takeReport stateOf
-      take-stores keep kept ek n k c ps′ ks′ cs′ tn tk tc = record {
-        peers = holds-of 12 peersSize n (map peerWords (changes.withPeer id (changes.takenPeer id r at (pastAfter r old) ∷ []) (s .peers))) (t .peers) ps′
-            (subst (λ (rs : List (List ℕ)). Tabled n rs (t .peers) ps′) peers-words tn) (wide-map peerWords 12 peer-long (changes.withPeer id (changes.takenPeer id r at (pastAfter r old) ∷ []) (s .peers))) (omega (arith, peers-few)) (o .roomy .peers);
-        snapshotKeys = holds-of 4 snapshotKeysSize k (map snapshotKeyWords (changes.withSnapshotKeys id (changes.reportKeys id r) (s .snapshotKeys))) (t .snapshotKeys) ks′
-            (subst (λ (rs : List (List ℕ)). Tabled k rs (t .snapshotKeys) ks′) keys-words tk) (wide-map snapshotKeyWords 4 key-long (changes.withSnapshotKeys id (changes.reportKeys id r) (s .snapshotKeys))) (omega (arith, keys-few)) (o .roomy .snapshotKeys);
-        contested = subst (λ (l : List ContestedKey). Holds 6 contestedSize c (map contestedWords (changes.withContested id l (s .contested))) (t .contested) cs′) (kept-is keep kept ek)
-            (holds-of 6 contestedSize c (map contestedWords (changes.withContested id (left kept) (s .contested))) (t .contested) cs′ tc (wide-map contestedWords 6 contested-long (changes.withContested id (left kept) (s .contested))) (omega (arith, left-few kept)) (o .roomy .contested));
-      }
+      take-stores keep kept ek n k c ps′ ks′ cs′ tn tk tc =
+          stores-of (changes.takeReport id r at (pastAfter r old) keep (stateOf p t)) n k c t ps′ ks′ cs′
+          (subst (λ (rs : List (List ℕ)). Tabled n rs (t .peers) ps′) peers-words tn)
+          (subst (λ (rs : List (List ℕ)). Tabled k rs (t .snapshotKeys) ks′) keys-words tk)
+          (subst (λ (l : List ContestedKey). Tabled c (map contestedWords (changes.withContested id l (s .contested))) (t .contested) cs′) (kept-is keep kept ek) tc)
 
   -- ---- contested
   module _ (keys : List ℕ) (rp : Reported id r keys) (known : isKnown (s .peers) id ≡ true) where
@@ -362,10 +353,8 @@ module _ (p : PeerDemand) (t : PeerTables) (id at : ℕ) (r : DemandReport) (o :
         → Tabled c (map contestedWords (contestedAfter (p .contested) id keys (r .round) at (t .contested))) (t .contested) cs′
         → Stores (changes.contestReport id r at (stateOf p t)) (record { peers = p .peers; «snapshot_keys» = p .«snapshot_keys»; contested = c }) t (record { peers = t .peers; snapshotKeys = t .snapshotKeys; contested = cs′ })
     unfolding changes.contestReport stateOf
-    contest-stores c cs′ tc = record {
-      peers = holds-same peerWords 12 peersSize (p .peers) (s .peers) (t .peers) (o .peers-exact);
-      snapshotKeys = holds-same snapshotKeyWords 4 snapshotKeysSize (p .«snapshot_keys») (s .snapshotKeys) (t .snapshotKeys) (o .keys-exact);
-      contested = subst (λ (ks : List SnapshotKey). Holds 6 contestedSize c (map contestedWords (changes.withContested id (changes.contest (r .round) at ks (contestedKeysOf id (s .contested))) (s .contested))) (t .contested) cs′) (rp .are)
-          (holds-of 6 contestedSize c (map contestedWords (contestedAfter (p .contested) id keys (r .round) at (t .contested))) (t .contested) cs′ tc (wide-map contestedWords 6 contested-long (contestedAfter (p .contested) id keys (r .round) at (t .contested)))
-          (omega (arith, length-map (contestedAfter (p .contested) id keys (r .round) at (t .contested)) contestedWords, few-contested _ contested-after)) (o .roomy .contested));
-    }
+    contest-stores c cs′ tc =
+        stores-of (changes.contestReport id r at (stateOf p t)) (p .peers) (p .«snapshot_keys») c t (t .peers) (t .snapshotKeys) cs′
+        (tabled-same peerWords 12 (p .peers) (s .peers) (t .peers) (peers-fit p t o) (o .peers-exact))
+        (tabled-same snapshotKeyWords 4 (p .«snapshot_keys») (s .snapshotKeys) (t .snapshotKeys) (keys-fit p t o) (o .keys-exact))
+        (subst (λ (ks : List SnapshotKey). Tabled c (map contestedWords (changes.withContested id (changes.contest (r .round) at ks (contestedKeysOf id (s .contested))) (s .contested))) (t .contested) cs′) (rp .are) tc)

@@ -1,28 +1,34 @@
 -- What every call on the peers keeps: a value and tables that pass questions 1 and 2 pass them again after it, refused or not. A call
 -- that reads is lent what it cannot write.
-use Prim.Native.Nat.{ℕ}
+use Prim.Native.Nat.{ℕ, _*_, _≤_}
 use mathlib.Core.Path.{_≡_, refl, sym, ap, _∙_, subst}
-use mathlib.Core.Bool.{Bool, true, _&&_}
+use mathlib.Core.Bool.{Bool, true, false, cond, _&&_}
 use mathlib.Core.List.{List, [], _∷_, map}
+use native.Mathlib.Omega.{arith}
 use lib.Dec.{leb}
-use Rattle.records.specs.Records.{records, same, ascending}
+use lib.ListN.{length, length-map}
+use Rattle.records.proofs.TableLaws.{records-table, length-flat, length-table}
+use Rattle.records.specs.Records.{records, table, same, ascending}
 use Rattle.records.proofs.OrderLaws.{eq-same}
 use Rattle.records.proofs.TestLaws.{split, both, and-intro}
 use Rattle.gcra.specs.Questions.{Question, passes, given}
-use Rattle.gcra.proofs.Answers.{given-passed, none-passed}
+use Rattle.gcra.proofs.Answers.{changed-passed, given-passed, none-passed}
 use Rattle.demand.specs.declared.peer_demand.DemandReport.{DemandReport}
 use Rattle.demand.specs.declared.peer_demand.PeerDemand.{PeerDemand}
 use Rattle.demand.specs.declared.peer_demand.PeersChanged.{PeersChanged}
 use Rattle.demand.specs.declared.peer_demand.PeersAnswer.{PeersAnswer}
 use Rattle.demand.specs.PeerLists.{all}
 use Rattle.demand.specs.PeerRecords.{PeerRecord, peerWords, snapshotKeyWords, contestedWords, peerOf, snapshotKeyOf, contestedOf}
-use Rattle.demand.specs.PeerState.{PeersState, PeerTables, peersSize, snapshotKeysSize, contestedSize, validPeer, validSnapshotKey, validContested, valid, validPeers, validSnapshotKeys, validContesteds, haveRoom, stateOf, exact, areExact, isValid, Stores}
+use Rattle.demand.specs.PeerState.{PeersState, PeerTables, peersSize, snapshotKeysSize, contestedSize, validPeer, validSnapshotKey, validContested, valid, validPeers, validSnapshotKeys, validContesteds, haveRoom, stateOf, exact, areExact, isValid, countsOf, written}
 use Rattle.demand.specs.PeerChanges as changes
 use Rattle.demand.specs.PeerCalls.{Widths, fitsWidths, peersAnswer, newQuestions, peersQuestions, reportQuestions, Changes, IsNew, Applies, Forgets, Leaves, Expires}
 use Rattle.demand.specs.Steps.PeerSteps.{Valid}
-use Rattle.demand.proofs.PeerWordLaws.{peer-of-words, snapshot-key-of-words, contested-of-words}
+use Rattle.demand.proofs.PeerWordLaws.{peer-of-words, snapshot-key-of-words, contested-of-words, wide-map, peer-long, key-long, contested-long}
 use Rattle.demand.proofs.PeerCallLaws.{valid-passes, passes-valid}
-use Rattle.demand.proofs.PeerKeptLaws.{valid-says}
+use Rattle.demand.proofs.PeerKeptLaws.{valid-says, few-keys, few-contested}
+use Rattle.demand.proofs.PeerValidLaws.{room-says}
+use Rattle.demand.proofs.PeerStoreLaws.{stores-still}
+use Rattle.demand.proofs.PeerSettleLaws.{applies-other}
 use Rattle.demand.proofs.PeerTakeLaws.{past-few}
 use Rattle.demand.proofs.PeerApplyLaws.{passed-says}
 use Rattle.demand.proofs.PeerReportValidLaws.{apply-valid}
@@ -43,50 +49,98 @@ exactly words of good h (x ∷ xs) a =
     let b = both (good x) (all good xs) a in
     and-intro (same (words (of (words x))) (words x)) _ (eq-same (words (of (words x))) (words x) (ap words (h x (b .0)))) (exactly words of good h xs (b .1))
 
--- ---- a valid state that is stored passes questions 1 and 2
-module _ (s : PeersState) (p : PeerDemand) (t t′ : PeerTables) (h : Stores s p t t′) (e : valid s ≡ true) where
+-- ---- a valid state that is written passes questions 1 and 2
+module _ {A : Type 0} (words : A → List ℕ) (w : ℕ) (long : (x : A) → length (words x) ≡ w) (vs : List A) (xs : List ℕ) where
+  records-written : records w (length vs) (table (map words vs) xs) ≡ map words vs
+  records-written = records-table w (length vs) (map words vs) xs (wide-map words w long vs) (length-map vs words)
+
+  length-written : length vs * w ≤ length xs → length (table (map words vs) xs) ≡ length xs
+  length-written h = length-table (map words vs) xs (omega (arith, length-flat w (map words vs) (wide-map words w long vs), ap (λ (m : ℕ). m * w) (length-map vs words)))
+
+module _ (s : PeersState) (t : PeerTables) (e : valid s ≡ true) where
   peer-back : (x : PeerRecord) → validPeer x ≡ true → peerOf (peerWords x) ≡ x
   peer-back x v = peer-of-words x (past-few x v)
 
-  read-back : stateOf p t′ ≡ s
+  peers-written : records 12 (length (s .peers)) (written s t .peers) ≡ map peerWords (s .peers)
+  peers-written = records-written peerWords 12 peer-long (s .peers) (t .peers)
+
+  keys-written : records 4 (length (s .snapshotKeys)) (written s t .snapshotKeys) ≡ map snapshotKeyWords (s .snapshotKeys)
+  keys-written = records-written snapshotKeyWords 4 key-long (s .snapshotKeys) (t .snapshotKeys)
+
+  contested-written : records 6 (length (s .contested)) (written s t .contested) ≡ map contestedWords (s .contested)
+  contested-written = records-written contestedWords 6 contested-long (s .contested) (t .contested)
+
+  read-back : stateOf (countsOf s) (written s t) ≡ s
   unfolding stateOf
   read-back =
       let v = valid-says s e in
       (λ i. record {
-        peers = (ap (map peerOf) (h .peers .front) ∙ back peerWords peerOf validPeer peer-back (s .peers) (v .peers)) i;
-        snapshotKeys = (ap (map snapshotKeyOf) (h .snapshotKeys .front) ∙ back snapshotKeyWords snapshotKeyOf validSnapshotKey (λ k _. snapshot-key-of-words k) (s .snapshotKeys) (v .keys)) i;
-        contested = (ap (map contestedOf) (h .contested .front) ∙ back contestedWords contestedOf validContested (λ c _. contested-of-words c) (s .contested) (v .contested)) i;
+        peers = (ap (map peerOf) peers-written ∙ back peerWords peerOf validPeer peer-back (s .peers) (v .peers)) i;
+        snapshotKeys = (ap (map snapshotKeyOf) keys-written ∙ back snapshotKeyWords snapshotKeyOf validSnapshotKey (λ k _. snapshot-key-of-words k) (s .snapshotKeys) (v .keys)) i;
+        contested = (ap (map contestedOf) contested-written ∙ back contestedWords contestedOf validContested (λ c _. contested-of-words c) (s .contested) (v .contested)) i;
       })
 
-  stored-exact : areExact p t′ ≡ true
+  written-exact : areExact (countsOf s) (written s t) ≡ true
   unfolding areExact
-  stored-exact =
+  written-exact =
       let v = valid-says s e in
-      and-intro (exact peerWords peerOf (records 12 (p .peers) (t′ .peers))) _
-      (ap (exact peerWords peerOf) (h .peers .front) ∙ exactly peerWords peerOf validPeer peer-back (s .peers) (v .peers))
-      (and-intro (exact snapshotKeyWords snapshotKeyOf (records 4 (p .«snapshot_keys») (t′ .snapshotKeys))) _
-      (ap (exact snapshotKeyWords snapshotKeyOf) (h .snapshotKeys .front) ∙ exactly snapshotKeyWords snapshotKeyOf validSnapshotKey (λ k _. snapshot-key-of-words k) (s .snapshotKeys) (v .keys))
-      (ap (exact contestedWords contestedOf) (h .contested .front) ∙ exactly contestedWords contestedOf validContested (λ c _. contested-of-words c) (s .contested) (v .contested)))
+      and-intro (exact peerWords peerOf (records 12 (length (s .peers)) (written s t .peers))) _
+      (ap (exact peerWords peerOf) peers-written ∙ exactly peerWords peerOf validPeer peer-back (s .peers) (v .peers))
+      (and-intro (exact snapshotKeyWords snapshotKeyOf (records 4 (length (s .snapshotKeys)) (written s t .snapshotKeys))) _
+      (ap (exact snapshotKeyWords snapshotKeyOf) keys-written ∙ exactly snapshotKeyWords snapshotKeyOf validSnapshotKey (λ k _. snapshot-key-of-words k) (s .snapshotKeys) (v .keys))
+      (ap (exact contestedWords contestedOf) contested-written ∙ exactly contestedWords contestedOf validContested (λ c _. contested-of-words c) (s .contested) (v .contested)))
 
-  pub stored-valid : haveRoom t ≡ true → Valid p t′
+  written-valid : haveRoom t ≡ true → Valid (countsOf s) (written s t)
   unfolding haveRoom isValid
-  stored-valid room = record {
-    room = (λ i. leb peersSize (h .peers .as-long i) && (leb snapshotKeysSize (h .snapshotKeys .as-long i) && leb contestedSize (h .contested .as-long i))) ∙ room;
-    state = and-intro (areExact p t′) (valid (stateOf p t′)) stored-exact (ap valid read-back ∙ e);
-  }
+  written-valid room =
+      let v = valid-says s e in
+      let r = room-says t room in
+      record {
+        room =
+            (λ i. leb peersSize (length-written peerWords 12 peer-long (s .peers) (t .peers) (omega (arith, v .few-peers, r .peers)) i)
+            && (leb snapshotKeysSize (length-written snapshotKeyWords 4 key-long (s .snapshotKeys) (t .snapshotKeys) (omega (arith, few-keys s v, r .snapshotKeys)) i)
+            && leb contestedSize (length-written contestedWords 6 contested-long (s .contested) (t .contested) (omega (arith, few-contested s v, r .contested)) i)))
+            ∙ room;
+        state = and-intro (areExact (countsOf s) (written s t)) (valid (stateOf (countsOf s) (written s t))) written-exact (ap valid read-back ∙ e);
+      }
 
 valid-now : (p : PeerDemand) (t : PeerTables) → Valid p t → valid (stateOf p t) ≡ true
 unfolding isValid
 valid-now p t v = both (areExact p t) (valid (stateOf p t)) (v .state) .1
 
 -- ---- every call that changes the state
-module _ (qs : List Question) (change : PeersState → PeersState) (p : PeerDemand) (t : PeerTables) (r : PeersChanged) (t′ : PeerTables) (c : Changes qs change p t r t′) (before : passes (peersQuestions p t) ≡ true) where
-  changed-again : (passes qs ≡ true → valid (change (stateOf p t)) ≡ true) → passes (peersQuestions (r .peers) t′) ≡ true
-  changed-again keeps = split (passes qs)
-      (λ e. valid-passes (r .peers) t′ (stored-valid (change (stateOf p t)) (r .peers) t t′ (c .stored e) (keeps e) (passes-valid p t before .room)))
+module _ (qs : List Question) (change : PeersState → PeersState) (p : PeerDemand) (t : PeerTables) (r : PeersChanged) (t′ : PeerTables) (c : Changes qs change p t r t′) where
+  -- all questions answered 'yes', and one answered 'no'
+  after-yes : passes qs ≡ true → (r .peers ≡ countsOf (change (stateOf p t))) × (t′ ≡ written (change (stateOf p t)) t)
+  after-yes e = (c .value ∙ sym (changed-passed _ p qs e), c .words ∙ sym (changed-passed _ t qs e))
+
+  after-no : passes qs ≡ false → (r .peers ≡ p) × (t′ ≡ t)
+  after-no e = (c .value ∙ ap (λ (b : Bool). cond b (countsOf (change (stateOf p t))) p) e, c .words ∙ ap (λ (b : Bool). cond b (written (change (stateOf p t)) t) t) e)
+
+  changed-again : passes (peersQuestions p t) ≡ true → (passes qs ≡ true → valid (change (stateOf p t)) ≡ true) → passes (peersQuestions (r .peers) t′) ≡ true
+  changed-again before keeps = split (passes qs)
       (λ e.
-      let u = c .kept e in
-      (λ i. passes (peersQuestions (u .value i) (record { peers = u .peers i; snapshotKeys = u .snapshotKeys i; contested = u .contested i }))) ∙ before)
+      let u = after-yes e in
+      (λ i. passes (peersQuestions (u .0 i) (u .1 i))) ∙ valid-passes _ _ (written-valid (change (stateOf p t)) t (keeps e) (passes-valid p t before .room)))
+      (λ e.
+      let u = after-no e in
+      (λ i. passes (peersQuestions (u .0 i) (u .1 i))) ∙ before)
+
+  -- a change that leaves a valid state as it is leaves the value and every word of the tables
+  pub unmoved : (passes qs ≡ true → Valid p t) → change (stateOf p t) ≡ stateOf p t → (r .peers ≡ p) × (t′ ≡ t)
+  unmoved ok same = split (passes qs)
+      (λ e.
+      let u = after-yes e in
+      let k = stores-still p t (ok e) in
+      (u .0 ∙ ap countsOf same ∙ sym (k .value), u .1 ∙ ap (λ (s : PeersState). written s t) same ∙ sym (k .words)))
+      after-no
+
+-- 01: 'A report that passes every question but whose origin is not the sender changes nothing'
+pub ignored : (p : PeerDemand) (t t′ : PeerTables) (r : PeersChanged) (id at : ℕ) (report : DemandReport) → Applies p t id report at r t′ → (report .origin ≡ id → ⊥) → (r .peers ≡ p) × (t′ ≡ t)
+ignored p t t′ r id at report c other =
+    unmoved (reportQuestions p t id report) (changes.apply changes.implausibleJump id report at) p t r t′ c
+    (λ e. let d = passed-says p t id report (record { questions = none-passed (reportQuestions p t id report) e }) in record { room = d .room; state = d .state })
+    (sym (applies-other changes.implausibleJump id at report (stateOf p t) other))
 
 module _ (p : PeerDemand) (t t′ : PeerTables) (r : PeersChanged) (before : passes (peersQuestions p t) ≡ true) where
   was-valid : valid (stateOf p t) ≡ true
@@ -94,7 +148,7 @@ module _ (p : PeerDemand) (t t′ : PeerTables) (r : PeersChanged) (before : pas
 
   pub applied-again : (id at : ℕ) (report : DemandReport) → Widths id at report → all fitsWidths (report .keys) ≡ true → Applies p t id report at r t′ → passes (peersQuestions (r .peers) t′) ≡ true
   applied-again id at report ws fit c =
-      changed-again (reportQuestions p t id report) (changes.apply changes.implausibleJump id report at) p t r t′ (c .applied) before
+      changed-again (reportQuestions p t id report) (changes.apply changes.implausibleJump id report at) p t r t′ c before
       (λ e.
       let d = passed-says p t id report (record { questions = none-passed (reportQuestions p t id report) e }) in
       apply-valid changes.implausibleJump id at report (stateOf p t) ws fit (d .count) (d .demands) (d .place) was-valid)

@@ -1,18 +1,20 @@
 -- Records and their words: each is the other's inverse where it should be.
-use Prim.Native.Nat.{ℕ, _≤_}
+use Prim.Native.Nat.{ℕ, suc, _≤_}
 use mathlib.Core.Path.{_≡_, refl, ap, _∙_}
 use mathlib.Core.Bool.{Bool, true, false}
 use mathlib.Core.List.{List, [], _∷_, _++_, map}
 use mathlib.Core.Option.{Option, none, some}
 use native.Mathlib.Omega.{arith}
-use lib.ListN.{length, take}
+use lib.ListN.{length, take, length-append}
+use lib.Seq.{length-take-le}
 use Rattle.records.specs.Records.{same}
 use Rattle.records.proofs.OrderLaws.{same-eq}
+use Rattle.records.proofs.TableLaws.{Wide}
 use Rattle.records.proofs.TestLaws.{both}
 use Rattle.demand.specs.PeerLists.{all}
 use Rattle.demand.specs.PeerState.{exact}
-use Rattle.demand.specs.Words.{flagWord, flagOf}
-use Rattle.demand.specs.PeerRecords.{Snapshot, PeerRecord, SnapshotKey, ContestedKey, peerWords, snapshotKeyWords, contestedWords, peerOf, snapshotKeyOf, contestedOf}
+use Rattle.demand.specs.Words.{flagWord, flagOf, timeWords}
+use Rattle.demand.specs.PeerRecords.{Snapshot, PeerRecord, SnapshotKey, ContestedKey, snapshotWords, pastWords, peerWords, snapshotKeyWords, contestedWords, peerOf, snapshotKeyOf, contestedOf}
 
 pub flag-of-word : (b : Bool) → flagOf (flagWord b) ≡ b
 flag-of-word false = refl
@@ -71,3 +73,32 @@ words-of-exact words of [] h = refl
 words-of-exact words of (r ∷ rs) h =
     ap (λ (x : List ℕ). x ∷ map words (map of rs)) (same-eq (words (of r)) r (both (same (words (of r)) r) (exact words of rs) h .0))
     ∙ ap (λ (xs : List (List ℕ)). r ∷ xs) (words-of-exact words of rs (both (same (words (of r)) r) (exact words of rs) h .1))
+
+-- ---- the words of a record are as many as it takes
+pub wide-map : {A : Type 0} (words : A → List ℕ) (w : ℕ) → ((x : A) → length (words x) ≡ w) → (xs : List A) → Wide w (map words xs)
+wide-map words w h [] = tt
+wide-map words w h (x ∷ xs) = (h x, wide-map words w h xs)
+
+pub peer-long : (p : PeerRecord) → length (peerWords p) ≡ 12
+unfolding peerWords
+peer-long p = by (p .heldUntil) (p .snapshot) (p .pastEpochs)
+  where
+    four : (es : List ℕ) → length (take 4 (es ++ (0 ∷ 0 ∷ 0 ∷ 0 ∷ []))) ≡ 4
+    four es = length-take-le 4 (es ++ (0 ∷ 0 ∷ 0 ∷ 0 ∷ [])) (omega (arith, length-append es (0 ∷ 0 ∷ 0 ∷ 0 ∷ []), four-zeros))
+      where
+        four-zeros : length {A = ℕ} (0 ∷ 0 ∷ 0 ∷ 0 ∷ []) ≡ 4
+        four-zeros = refl
+
+    by : (h : Option ℕ) (s : Option Snapshot) (es : List ℕ) → length (p .id ∷ (timeWords h ++ (snapshotWords s ++ pastWords es))) ≡ 12
+    by none none es = ap (λ (m : ℕ). suc (suc (suc (suc (suc (suc (suc (suc m)))))))) (four es)
+    by none (some s) es = ap (λ (m : ℕ). suc (suc (suc (suc (suc (suc (suc (suc m)))))))) (four es)
+    by (some h) none es = ap (λ (m : ℕ). suc (suc (suc (suc (suc (suc (suc (suc m)))))))) (four es)
+    by (some h) (some s) es = ap (λ (m : ℕ). suc (suc (suc (suc (suc (suc (suc (suc m)))))))) (four es)
+
+pub key-long : (k : SnapshotKey) → length (snapshotKeyWords k) ≡ 4
+unfolding snapshotKeyWords
+key-long k = refl
+
+pub contested-long : (c : ContestedKey) → length (contestedWords c) ≡ 6
+unfolding contestedWords
+contested-long c = refl

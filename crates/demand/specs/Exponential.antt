@@ -7,6 +7,7 @@ unfoldable pub den : (c n : ℕ) → ℕ
 den c zero = 1
 den c (suc n) = den c n * (suc n * c)
 
+-- an odd number
 unfoldable pub odd : ℕ → Bool
 odd zero = false
 odd (suc n) = not (odd n)

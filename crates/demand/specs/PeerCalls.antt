@@ -1,7 +1,7 @@
 -- The promise of each call on the peers: 01's questions in their order, its answer, and what the value and the tables hold afterwards. Definitions only.
 use Prim.Native.Nat.{ℕ, _<_, _^_}
 use mathlib.Core.Path.{_≡_}
-use mathlib.Core.Bool.{Bool, true, false, _&&_, _||_}
+use mathlib.Core.Bool.{Bool, _&&_, _||_}
 use mathlib.Core.List.{List, [], _∷_}
 use mathlib.Core.Option.{Option, none, some}
 use lib.Dec.{ltb, leb, eqb}
@@ -27,11 +27,11 @@ use Rattle.demand.specs.declared.peer_demand.FlagAnswer.{FlagAnswer}
 use Rattle.demand.specs.declared.peer_demand.FlagAnswer.the-variants as flag-answer
 use Rattle.demand.specs.declared.peer_demand.LenAnswer.{LenAnswer}
 use Rattle.demand.specs.declared.peer_demand.LenAnswer.the-variants as len-answer
-use Rattle.gcra.specs.Questions.{Question, _asks_, Answer, refused, given, answer, passes}
+use Rattle.gcra.specs.Questions.{Question, _asks_, Answer, refused, given, answer, changed}
 use Rattle.demand.specs.Allocation.{isClusterSize}
 use Rattle.demand.specs.PeerLists.{all}
 use Rattle.demand.specs.PeerRecords.{PeerRecord}
-use Rattle.demand.specs.PeerState.{PeersState, PeerTables, maxPeers, maxDemandKeys, isWord, isKnown, haveRoom, stateOf, isValid, Becomes}
+use Rattle.demand.specs.PeerState.{PeersState, PeerTables, maxPeers, maxDemandKeys, isWord, isKnown, haveRoom, stateOf, isValid, countsOf, written}
 use Rattle.demand.specs.PeerChanges as changes
 use Rattle.demand.specs.PeerReaders as readers
 
@@ -112,23 +112,14 @@ fitsWidths k = isWord (k .«key_hash») && fits binary32 (k .demand)
 
 -- ---- calls that change the state
 
--- all is as before
-pub record Unchanged (p p′ : PeerDemand) (t t′ : PeerTables) : Type 0 where
-  pub value : p′ ≡ p
-  pub peers : t′ .peers ≡ t .peers
-  pub snapshotKeys : t′ .snapshotKeys ≡ t .snapshotKeys
-  pub contested : t′ .contested ≡ t .contested
-
--- the answer; a 'no' changes nothing; else the value and the tables hold the state changed
+-- the answer; and the value and the tables that hold the state changed, where every question is answered 'yes'
 pub record Changes (qs : List Question) (change : PeersState → PeersState) (p : PeerDemand) (t : PeerTables) (r : PeersChanged) (t′ : PeerTables) : Type 0 where
   pub answered : changeAnswer (r .answer) ≡ answer qs tt
-  pub kept : passes qs ≡ false → Unchanged p (r .peers) t t′
-  pub stored : passes qs ≡ true → Becomes change p t (r .peers) t′
+  pub value : r .peers ≡ changed qs p (countsOf (change (stateOf p t)))
+  pub words : t′ ≡ changed qs t (written (change (stateOf p t)) t)
 
--- 'A report that passes every question but whose origin is not the sender changes nothing', not a word of the tables
-pub record Applies (p : PeerDemand) (t : PeerTables) (id : ℕ) (report : DemandReport) (at : ℕ) (r : PeersChanged) (t′ : PeerTables) : Type 0 where
-  pub applied : Changes (reportQuestions p t id report) (changes.apply changes.implausibleJump id report at) p t r t′
-  pub ignored : eqb (report .origin) id ≡ false → Unchanged p (r .peers) t t′
+abbrev pub Applies : PeerDemand → PeerTables → ℕ → DemandReport → ℕ → PeersChanged → PeerTables → Type 0
+Applies p t id report at r t′ = Changes (reportQuestions p t id report) (changes.apply changes.implausibleJump id report at) p t r t′
 
 abbrev pub Forgets : PeerDemand → PeerTables → ℕ → PeersChanged → PeerTables → Type 0
 Forgets p t id r t′ = Changes (peersQuestions p t) (changes.forget id) p t r t′

@@ -5,8 +5,8 @@ use mathlib.Core.Bool.{Bool, true, _&&_, _||_}
 use mathlib.Core.List.{List, map}
 use mathlib.Core.Option.{Option, none, some}
 use lib.Dec.{ltb, leb, eqb}
-use lib.ListN.{drop, length}
-use Rattle.records.specs.Records.{records, ascending, same}
+use lib.ListN.{length}
+use Rattle.records.specs.Records.{records, table, ascending, same}
 use Rattle.demand.specs.declared.peer_demand.PeerDemand.{PeerDemand}
 use Rattle.demand.specs.PeerLists.{all, any, first, present, those}
 use Rattle.demand.specs.PeerRecords.{maxPastEpochs, Snapshot, PeerRecord, SnapshotKey, ContestedKey, peerWords, snapshotKeyWords, contestedWords, peerOf, snapshotKeyOf, contestedOf}
@@ -155,19 +155,11 @@ areExact p t =
 unfoldable pub isValid : PeerDemand → PeerTables → Bool
 isValid p t = areExact p t && valid (stateOf p t)
 
--- n records, exactly `rs`, at the front of a table that held xs and holds ys; as before from the formula's size on
-pub record Holds (w size n : ℕ) (rs : List (List ℕ)) (xs ys : List ℕ) : Type 0 where
-  pub count : n ≡ length rs
-  pub front : records w n ys ≡ rs
-  pub rest : drop size ys ≡ drop size xs
-  pub as-long : length ys ≡ length xs
+-- how many records a state has of each kind
+abbrev pub countsOf : PeersState → PeerDemand
+countsOf s = record { peers = length (s .peers); «snapshot_keys» = length (s .snapshotKeys); contested = length (s .contested) }
 
--- the value p and the tables t′ hold the state s, in tables that were t
-pub record Stores (s : PeersState) (p : PeerDemand) (t t′ : PeerTables) : Type 0 where
-  pub peers : Holds 12 peersSize (p .peers) (map peerWords (s .peers)) (t .peers) (t′ .peers)
-  pub snapshotKeys : Holds 4 snapshotKeysSize (p .«snapshot_keys») (map snapshotKeyWords (s .snapshotKeys)) (t .snapshotKeys) (t′ .snapshotKeys)
-  pub contested : Holds 6 contestedSize (p .contested) (map contestedWords (s .contested)) (t .contested) (t′ .contested)
-
--- what p and t held, changed, is what p′ and t′ hold
-abbrev pub Becomes : (PeersState → PeersState) → PeerDemand → PeerTables → PeerDemand → PeerTables → Type 0
-Becomes change p t p′ t′ = Stores (change (stateOf p t)) p′ t t′
+-- the tables with the records of a state, each as it was past them
+abbrev pub written : PeersState → PeerTables → PeerTables
+written s t =
+    tables (table (map peerWords (s .peers)) (t .peers)) (table (map snapshotKeyWords (s .snapshotKeys)) (t .snapshotKeys)) (table (map contestedWords (s .contested)) (t .contested))

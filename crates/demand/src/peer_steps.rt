@@ -11,13 +11,14 @@ ghost use mathlib.Core.List.{[], map};
 ghost use Prim.Native.Nat.{_+_, _*_, _≤_, _<_};
 ghost use lib.ListN.{length, getD};
 ghost use Rattle.records.specs.Words.{copyWithin};
-ghost use Rattle.records.specs.Records.{records, overwriteAt};
+ghost use Rattle.records.specs.Records.{records, overwritten};
 ghost use Rattle.demand.specs.PeerLists.{only, those, replaced};
 ghost use Rattle.demand.specs.Words.{flagOf, timeOf};
 ghost use Rattle.demand.specs.PeerRecords.{peerWords, peerOf, snapshotKeyOf, contestedOf, snapshotOf};
-ghost use Rattle.demand.specs.PeerState.{hasSnapshot, isTaken, exact, Holds};
+ghost use Rattle.demand.specs.PeerState.{hasSnapshot, isTaken, exact};
 ghost use Rattle.demand.specs.PeerChanges.{isFresh, hold, agePeer};
 ghost use Rattle.demand.specs.Steps.PeerScan.{firstWord};
+ghost use Rattle.demand.specs.Steps.PeerRuns.{Tabled};
 ghost use Rattle.demand.specs.Steps.PeerSteps.{inOrder, staysContested, isStale, staysPeer};
 
 // One step of keeping records: the one at `i` goes behind the `kept` first ones, if it stays. Tells
@@ -92,7 +93,7 @@ pub(crate) fn retain_contested(
 ) -> usize
     requires { ⌜ (inOrder 12 1 n (now peers) ≡ true) × (c * 6 ≤ length (now contested)) ⌝ }
     ensures { λ r. ⌜
-        Holds 6 (c * 6) r
+        Tabled r
         (only
         (λ x. staysContested reading «max_age» (map peerOf (records 12 n (now (peers .entry))))
         (contestedOf x .peer) (contestedOf x .heardAt)) (records 6 c (now (contested .entry))))
@@ -123,47 +124,28 @@ fn is_stale(held: u64, taken: u64, heard_at: u64, reading: u64, max_age: u64) ->
     !is_fresh(reading, max_age, heard_at)
 }
 
-// Takes from peer i a snapshot that is too old, with its past epochs.
-fn age_peer(peers: &mut [u64], n: usize, i: usize, reading: u64, max_age: u64)
-    requires { ⌜
-        (n * 12 ≤ length (now peers)) × (i < n) ×
-        (peerWords (peerOf (getD (records 12 n (now peers)) i [])) ≡ getD (records 12 n (now peers)) i [])
-        ⌝ }
-    ensures { λ _. ⌜
-        Holds 12 (n * 12) n
-        (overwriteAt i
-        (peerWords
-        (agePeer reading «max_age» (peerOf (getD (records 12 n (now (peers .entry))) i []))))
-        (records 12 n (now (peers .entry)))) (now (peers .entry)) (now (peers .exit))
-        ⌝ }
+// The words of a peer, without a snapshot that is too old and its past epochs.
+fn aged_words(words: &[u64], reading: u64, max_age: u64) -> [u64; 12]
+    requires { ⌜ (length (now words) ≡ 12) × (peerWords (peerOf (now words)) ≡ now words) ⌝ }
+    ensures { λ r. ⌜ r ≡ peerWords (agePeer reading «max_age» (peerOf (now (words .entry)))) ⌝ }
 {
-    let at = i * PEER_WORDS;
-    if is_stale(
-        peers[at + 1],
-        peers[at + 3],
-        peers[at + 6],
-        reading,
-        max_age,
-    ) {
-        let bare: [u64; 12] = [peers[at], 0, 0, 0, 0, 0, 0, 0, 0, 0, 0, 0];
-        records::overwrite(peers, PEER_WORDS, n, i, &bare);
+    if is_stale(words[1], words[3], words[6], reading, max_age) {
+        return [words[0], 0, 0, 0, 0, 0, 0, 0, 0, 0, 0, 0];
     }
-}
-
-// The same for every peer.
-pub(crate) fn age_peers(peers: &mut [u64], n: usize, reading: u64, max_age: u64)
-    requires { ⌜ (n * 12 ≤ length (now peers)) × (exact peerWords peerOf (records 12 n (now peers)) ≡ true) ⌝ }
-    ensures { λ _. ⌜
-        Holds 12 (n * 12) n
-        (map (λ x. peerWords (agePeer reading «max_age» (peerOf x))) (records 12 n (now (peers .entry))))
-        (now (peers .entry)) (now (peers .exit))
-        ⌝ }
-{
-    let mut i = 0;
-    while i < n {
-        age_peer(peers, n, i, reading, max_age);
-        i += 1;
-    }
+    [
+        words[0],
+        words[1],
+        words[2],
+        words[3],
+        words[4],
+        words[5],
+        words[6],
+        words[7],
+        words[8],
+        words[9],
+        words[10],
+        words[11],
+    ]
 }
 
 // Whether a peer stays, of which these words are known.
@@ -191,37 +173,60 @@ fn stays_peer(
     peer_runs::has_run(contested, CONTESTED_WORDS, c, id)
 }
 
-// Keeps the peers that stay, and tells how many.
+// One step of keeping peers: the words of one go behind the `kept` first ones, if it stays. Tells
+// how many are kept.
+fn keep_peer(peers: &mut [u64], n: usize, kept: usize, words: &[u64], stays: bool) -> usize
+    requires { ⌜ (kept < n) × (n * 12 ≤ length (now peers)) × (length (now words) ≡ 12) ⌝ }
+    ensures { λ r. ⌜ r ≡ cond stays (kept + 1) kept ⌝ }
+    ensures { λ _. ⌜
+        now (peers .exit) ≡ cond stays (overwritten 12 n kept (now (words .entry)) (now (peers .entry)))
+        (now (peers .entry))
+        ⌝ }
+{
+    if stays {
+        records::overwrite(peers, PEER_WORDS, n, kept, words);
+        return kept + 1;
+    }
+    kept
+}
+
+// Keeps the peers that stay once each has lost a snapshot that is too old, and tells how many.
 pub(crate) fn retain_peers(
     contested: &[u64],
     c: usize,
     peers: &mut [u64],
     n: usize,
     reading: u64,
+    max_age: u64,
 ) -> usize
-    requires { ⌜ (inOrder 6 2 c (now contested) ≡ true) × (n * 12 ≤ length (now peers)) ⌝ }
+    requires { ⌜
+        (inOrder 6 2 c (now contested) ≡ true) × (n * 12 ≤ length (now peers)) ×
+        (exact peerWords peerOf (records 12 n (now peers)) ≡ true)
+        ⌝ }
     ensures { λ r. ⌜
-        Holds 12 (n * 12) r
+        Tabled r
         (only
         (λ x. staysPeer reading (map contestedOf (records 6 c (now (contested .entry))))
         (peerOf x .id) (peerOf x .heldUntil) (isTaken (peerOf x)))
-        (records 12 n (now (peers .entry)))) (now (peers .entry)) (now (peers .exit))
+        (map (λ x. peerWords (agePeer reading «max_age» (peerOf x)))
+        (records 12 n (now (peers .entry))))) (now (peers .entry)) (now (peers .exit))
         ⌝ }
 {
     let mut kept = 0;
     let mut i = 0;
     while i < n {
         let at = i * PEER_WORDS;
+        let words = aged_words(&peers[at..at + PEER_WORDS], reading, max_age);
         let stays = stays_peer(
             contested,
             c,
-            peers[at],
-            peers[at + 1],
-            peers[at + 2],
-            peers[at + 3],
+            words[0],
+            words[1],
+            words[2],
+            words[3],
             reading,
         );
-        kept = keep_record(peers, PEER_WORDS, i, kept, stays);
+        kept = keep_peer(peers, n, kept, &words, stays);
         i += 1;
     }
     kept
@@ -236,7 +241,7 @@ pub(crate) fn retain_snapshot_keys(
 ) -> usize
     requires { ⌜ (inOrder 12 1 n (now peers) ≡ true) × (k * 4 ≤ length (now «snapshot_keys»)) ⌝ }
     ensures { λ r. ⌜
-        Holds 4 (k * 4) r
+        Tabled r
         (only (λ x. hasSnapshot (map peerOf (records 12 n (now (peers .entry)))) (snapshotKeyOf x .peer))
         (records 4 k (now («snapshot_keys» .entry)))) (now («snapshot_keys» .entry))
         (now («snapshot_keys» .exit))
@@ -257,7 +262,7 @@ pub(crate) fn retain_snapshot_keys(
 pub(crate) fn hold_peer(peers: &mut [u64], n: usize, id: u64, until: u64)
     requires { ⌜ (inOrder 12 1 n (now peers) ≡ true) × (exact peerWords peerOf (records 12 n (now peers)) ≡ true) ⌝ }
     ensures { λ _. ⌜
-        Holds 12 (n * 12) n
+        Tabled n
         (replaced firstWord id
         (map (λ x. peerWords (hold until (peerOf x)))
         (those firstWord id (records 12 n (now (peers .entry)))))

@@ -13,7 +13,7 @@ use Rattle.demand.specs.declared.peer_demand.Verdict.the-variants as ver
 use Rattle.demand.specs.PeerLists.{all, replaced}
 use Rattle.demand.specs.PeerRecords.{Snapshot, PeerRecord, SnapshotKey, ContestedKey, peerWords, snapshotKeyWords, contestedWords, peerOf, snapshotKeyOf, contestedOf}
 use Rattle.gcra.specs.Questions.{firstNo}
-use Rattle.demand.specs.PeerState.{PeersState, PeerTables, stateOf, contestedKeysOf, peerWith, snapshotKeysOf, validPeer, validSnapshotKey, validContested}
+use Rattle.demand.specs.PeerState.{PeersState, PeerTables, stateOf, countsOf, written, contestedKeysOf, peerWith, snapshotKeysOf, validPeer, validSnapshotKey, validContested}
 use Rattle.demand.specs.PeerCalls.{reportQuestions}
 use Rattle.demand.specs.declared.peer_demand.PeerDemand.{PeerDemand}
 use Rattle.demand.specs.PeerChanges as changes
@@ -51,6 +51,15 @@ pub record Replaceable (w n a : ℕ) (new xs : List ℕ) : Type 0 where
 pub record Tabled (n : ℕ) (rs : List (List ℕ)) (xs ys : List ℕ) : Type 0 where
   pub count : n ≡ length rs
   pub words : ys ≡ table rs xs
+
+-- the value p and the tables t′ hold the state s, in tables that were t
+pub record Stores (s : PeersState) (p : PeerDemand) (t t′ : PeerTables) : Type 0 where
+  pub value : p ≡ countsOf s
+  pub words : t′ ≡ written s t
+
+-- what p and t held, changed, is what p′ and t′ hold
+abbrev pub Becomes : (PeersState → PeersState) → PeerDemand → PeerTables → PeerDemand → PeerTables → Type 0
+Becomes change p t p′ t′ = Stores (change (stateOf p t)) p′ t t′
 
 -- n records at the front are rs
 pub record Front (w n : ℕ) (rs : List (List ℕ)) (xs : List ℕ) : Type 0 where

@@ -104,8 +104,8 @@ pub record KeysReady (w n : ℕ) (xs : List ℕ) : Type 0 where
   pub wide : 4 ≤ w
   pub fit : n * w ≤ length xs
 
--- where the keys of each of p peers start: those of peer i are the records from its start up to the next one, the last of
--- which is where they all end
+-- where the keys of each of p peers start in their table: those of peer i are the records from its start up to the next
+-- start, and after the starts of all peers comes the place where the last one's keys end
 pub record Starts (w n p last : ℕ) (xs peers starts : List ℕ) : Type 0 where
   pub room : p < length starts
   pub begin : getD starts 0 0 ≡ 0

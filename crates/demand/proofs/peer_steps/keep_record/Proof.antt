@@ -1,7 +1,6 @@
 -- `keep_record` meets its contract.
 use Prim.Native.Nat.{_*_, _≤_}
-use mathlib.Core.Path.{_≡_, sym, ap, _∙_}
-use mathlib.Core.Bool.{Bool, true, cond}
+use mathlib.Core.Path.{_∙_}
 use native.Mathlib.Nat.{mul-le-mul-right}
 use native.Mathlib.Omega.{arith}
 use borrow.Author.Needs.{needs}
@@ -9,9 +8,6 @@ use Rattle.records.proofs.RecordLaws.{count-le}
 use Rattle.records.proofs.WordLaws.{copied-is}
 use Rattle.demand.proofs.peer_steps.keep_record.Statement.{statement}
 use Rattle.demand.proofs.peer_steps.keep_record.Tie as tie
-
-yes : {A : Type 0} (b : Bool) (x y : A) → b ≡ true → x ≡ cond b x y
-yes b x y e = sym (ap (λ (z : Bool). cond z x y) e)
 
 -- the places of the two records
 sizes : (s : tie.Start) → (s .args .kept * s .args .w ≤ s .args .i * s .args .w) × (s .args .i ≤ s .args .i * s .args .w)
@@ -28,7 +24,7 @@ returns c =
     let m = c .before .before in
     let s = m .before .before .before .before in
     let e = m .before .before .if1 .taken in
-    (yes _ _ _ e, m .copy-words .ensures .1 ∙ copied-is _ _ _ _ (omega (arith, sizes s)) ∙ yes _ _ _ e)
+    (rw e, m .copy-words .ensures .1 ∙ copied-is _ _ _ _ (omega (arith, sizes s)) ∙ rw e)
 
 pub keep-record-spec : {M : Type 1} → statement M
 keep-record-spec =

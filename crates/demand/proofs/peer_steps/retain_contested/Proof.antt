@@ -1,14 +1,16 @@
 -- `retain_contested` meets its contract: the invariant is `Kept`.
 use Prim.Native.Nat.{ℕ, _+_, _-_, _*_, _≤_}
-use mathlib.Core.Path.{_∙_}
+use mathlib.Core.Path.{refl, _∙_}
 use mathlib.Core.Bool.{Bool}
 use mathlib.Core.List.{List, map}
 use native.Mathlib.Omega.{arith}
 use lib.ListN.{length}
 use Rattle.records.specs.Records.{records}
+use Rattle.records.proofs.RecordLaws.{length-records}
+use Rattle.records.proofs.TableLaws.{wide-records}
 use Rattle.demand.specs.PeerRecords.{peerOf, contestedOf}
 use Rattle.demand.specs.Steps.PeerSteps.{staysContested}
-use Rattle.demand.proofs.PeerKeepLaws.{Kept, kept-none, kept-first, kept-word, kept-inside, kept-next, kept-all}
+use Rattle.demand.proofs.PeerKeepLaws.{Kept, kept-none, kept-long, kept-all, kept-first, kept-word, kept-inside, kept-copied}
 use Rattle.demand.proofs.peer_steps.retain_contested.Statement.{statement}
 use Rattle.demand.proofs.peer_steps.retain_contested.Tie as tie
 
@@ -16,21 +18,23 @@ abbrev test : List ℕ → ℕ → ℕ → ℕ → List ℕ → Bool
 test peers n at age x = staysContested at age (map peerOf (records 12 n peers)) (contestedOf x .peer) (contestedOf x .heardAt)
 
 abbrev Inv-loop : tie.InvT-loop
-Inv-loop peers n contested₀ c reading max-age kept₀ i₀ contested kept i = Kept (test peers n reading max-age) 6 c contested₀ contested i kept
+Inv-loop peers n contested₀ c reading max-age kept₀ i₀ contested kept i = Kept (test peers n reading max-age) 6 c (records 6 c contested₀) contested₀ contested i kept
 
 abbrev μ-loop : tie.MeasureT-loop
 μ-loop peers n contested₀ c reading max-age kept₀ i₀ contested kept i = c - i
 
-inside : (c : tie.In-loop Inv-loop μ-loop) → c .before .loop .i * 6 + 6 ≤ length (c .before .loop .contested)
+inside : (c : tie.In-loop Inv-loop μ-loop) → (c .before .loop .kept ≤ c .before .loop .i) × (c .before .loop .i * 6 + 6 ≤ length (c .before .loop .contested))
 inside c =
     let s = c .before .before .before .before .args in
     let l = c .before .loop in
-    kept-inside (test (s .peers .now) (s .n) (s .reading) (s .max-age)) 6 (s .c) (s .contested .now) (l .contested) (l .i) (l .kept) (l .inv) (c .loop-test .taken)
+    kept-inside (test (s .peers .now) (s .n) (s .reading) (s .max-age)) 6 (s .c) (records 6 (s .c) (s .contested .now)) (s .contested .now) (l .contested) (l .i) (l .kept) (l .inv) (c .loop-test .taken)
 
 loop-holds : tie.Need-loop-holds Inv-loop μ-loop
 loop-holds c =
     let s = c .before .before in
-    kept-none (test (s .args .peers .now) (s .args .n) (s .args .reading) (s .args .max-age)) 6 (s .args .c) (s .args .contested .now) (omega arith) (s .pre .1)
+    let xs : List ℕ = s .args .contested .now in
+    kept-none (test (s .args .peers .now) (s .args .n) (s .args .reading) (s .args .max-age)) 6 (s .args .c) (records 6 (s .args .c) xs) xs (omega arith) (s .pre .1)
+    (wide-records 6 (s .args .c) xs (s .pre .1)) (length-records 6 (s .args .c) xs)
 
 mul-at : tie.Need-mul-at Inv-loop μ-loop
 mul-at c = omega (arith, inside c)
@@ -56,7 +60,7 @@ stays-contested-requires c κs = c .before .before .before .before .before .befo
 keep-record-requires : tie.Need-keep-record-requires Inv-loop μ-loop
 keep-record-requires c κs =
     let l = c .before .before .before .before in
-    (omega arith, l .before .loop .inv .behind, inside l)
+    (omega arith, inside l .0, inside l .1)
 
 loop-again : tie.Need-loop-again Inv-loop μ-loop
 unfolding contestedOf
@@ -66,24 +70,29 @@ loop-again c =
     let t = h .before .before .before in
     let l = t .before .loop in
     let s = t .before .before .before .before .args in
+    let xs : List ℕ = s .contested .now in
+    let rs : List (List ℕ) = records 6 (s .c) xs in
     let p : List ℕ → Bool = test (s .peers .now) (s .n) (s .reading) (s .max-age) in
-    kept-next p 6 (s .c) (s .contested .now) (l .contested) (l .i) (l .kept) (l .inv) (t .loop-test .taken)
-    (h .stays-contested .result) (r .keep-record .last .0) (r .keep-record .result)
+    kept-copied p 6 (s .c) rs xs (l .contested) (l .i) (l .kept) (l .inv) (t .loop-test .taken)
+    (h .stays-contested .result) (r .keep-record .last .0) (r .keep-record .result) refl
     (h .stays-contested .ensures
     ∙ (λ k. staysContested (s .reading) (s .max-age) (map peerOf (records 12 (s .n) (s .peers .now)))
-    (kept-first p 6 (s .c) (s .contested .now) (l .contested) (l .i) (l .kept) (l .inv) (t .loop-test .taken) k)
-    (kept-word p 6 (s .c) (s .contested .now) (l .contested) (l .i) (l .kept) (l .inv) (t .loop-test .taken) 5 (omega arith) k)))
+    (kept-first p 6 (s .c) rs xs (l .contested) (l .i) (l .kept) (l .inv) (t .loop-test .taken) k)
+    (kept-word p 6 (s .c) rs xs (l .contested) (l .i) (l .kept) (l .inv) (t .loop-test .taken) 5 (omega arith) k)))
     (r .keep-record .ensures .0)
     (r .keep-record .ensures .1)
 
 same-length : tie.Need-same-length Inv-loop μ-loop
-same-length c = c .before .loop .inv .as-long
+same-length c =
+    let l = c .before .loop in
+    let s = c .before .before .before .before .args in
+    kept-long (test (s .peers .now) (s .n) (s .reading) (s .max-age)) 6 (s .c) (records 6 (s .c) (s .contested .now)) (s .contested .now) (l .contested) (l .i) (l .kept) (l .inv)
 
 returns : tie.Need-returns Inv-loop μ-loop
 returns c =
     let l = c .before .loop in
     let s = c .before .before .before .before .args in
-    kept-all (test (s .peers .now) (s .n) (s .reading) (s .max-age)) 6 (s .c) (s .contested .now) (l .contested) (l .i) (l .kept) (l .inv) (c .loop-test .left)
+    kept-all (test (s .peers .now) (s .n) (s .reading) (s .max-age)) 6 (s .c) (records 6 (s .c) (s .contested .now)) (s .contested .now) (l .contested) (l .i) (l .kept) (l .inv) (c .loop-test .left)
 
 pub retain-contested-spec : {M : Type 1} → statement M
 retain-contested-spec =

@@ -1,116 +1,156 @@
--- `retain_peers` meets its contract: the invariant is `Kept`.
+-- `retain_peers` meets its contract: the invariant is `Kept`, of the peers as they are once they have aged.
 use Prim.Native.Nat.{ℕ, _+_, _-_, _*_, _≤_}
-use mathlib.Core.Path.{ap, _∙_}
+use mathlib.Core.Path.{_≡_, sym, ap, _∙_}
 use mathlib.Core.Bool.{Bool}
 use mathlib.Core.List.{List, [], map}
 use native.Mathlib.Omega.{arith}
-use lib.ListN.{length, getD}
+use borrow.Author.Needs.{needs}
+use lib.ListN.{length, take, drop, getD, length-map}
 use Rattle.records.specs.Records.{records}
+use Rattle.records.proofs.RecordLaws.{length-records}
 use Rattle.demand.specs.Words.{timeOf, flagOf}
-use Rattle.demand.specs.PeerRecords.{peerOf, contestedOf}
+use Rattle.demand.specs.PeerRecords.{ContestedKey, peerOf, peerWords, contestedOf}
 use Rattle.demand.specs.PeerState.{isTaken}
+use Rattle.demand.specs.PeerChanges.{agePeer}
 use Rattle.demand.specs.Steps.PeerSteps.{staysPeer}
-use Rattle.demand.specs.PeerRecords.{ContestedKey}
 use Rattle.demand.proofs.PeerStayLaws.{taken-flag}
-use Rattle.demand.proofs.PeerKeepLaws.{Kept, kept-none, kept-first, kept-word, kept-inside, kept-next, kept-all}
+use Rattle.demand.proofs.PeerWordLaws.{wide-map, peer-long}
+use Rattle.demand.proofs.PeerListLaws.{map-at}
+use Rattle.demand.proofs.PeerKeepLaws.{Kept, kept-none, kept-long, kept-all, kept-inside, kept-here, kept-written}
+use Rattle.demand.proofs.PeerHoldLaws.{exact-at}
 use Rattle.demand.proofs.peer_steps.retain_peers.Statement.{statement}
 use Rattle.demand.proofs.peer_steps.retain_peers.Tie as tie
 
 abbrev test : List ℕ → ℕ → ℕ → List ℕ → Bool
 test contested c at x = staysPeer at (map contestedOf (records 6 c contested)) (peerOf x .id) (peerOf x .heldUntil) (isTaken (peerOf x))
 
+abbrev aged : ℕ → ℕ → List ℕ → List ℕ
+aged at age x = peerWords (agePeer at age (peerOf x))
+
 abbrev Inv-loop : tie.InvT-loop
-Inv-loop contested c peers₀ n reading kept₀ i₀ peers kept i = Kept (test contested c reading) 12 n peers₀ peers i kept
+Inv-loop contested c peers₀ n reading max-age kept₀ i₀ peers kept i = Kept (test contested c reading) 12 n (map (aged reading max-age) (records 12 n peers₀)) peers₀ peers i kept
 
 abbrev μ-loop : tie.MeasureT-loop
-μ-loop contested c peers₀ n reading kept₀ i₀ peers kept i = n - i
+μ-loop contested c peers₀ n reading max-age kept₀ i₀ peers kept i = n - i
 
-inside : (c : tie.In-loop Inv-loop μ-loop) → c .before .loop .i * 12 + 12 ≤ length (c .before .loop .peers)
+abbrev start : tie.In-loop Inv-loop μ-loop → tie.Start Inv-loop μ-loop
+start c = c .before .before .before .before
+
+abbrev made : tie.In-loop Inv-loop μ-loop → List (List ℕ)
+made c = map (aged (start c .args .reading) (start c .args .max-age)) (records 12 (start c .args .n) (start c .args .peers .now))
+
+-- the peer that is reached
+abbrev peer : tie.In-loop Inv-loop μ-loop → List ℕ
+peer c = getD (records 12 (start c .args .n) (start c .args .peers .now)) (c .before .loop .i) []
+
+-- its words, as they are lent
+abbrev lent : tie.In-loop Inv-loop μ-loop → List ℕ
+lent c = let at = c .before .loop .i * 12 in take (at + 12 - at) (drop at (c .before .loop .peers))
+
+inside : (c : tie.In-loop Inv-loop μ-loop) → (c .before .loop .kept ≤ c .before .loop .i) × (c .before .loop .i * 12 + 12 ≤ length (c .before .loop .peers))
 inside c =
-    let s = c .before .before .before .before .args in
+    let s = start c .args in
     let l = c .before .loop in
-    kept-inside (test (s .contested .now) (s .c) (s .reading)) 12 (s .n) (s .peers .now) (l .peers) (l .i) (l .kept) (l .inv) (c .loop-test .taken)
+    kept-inside (test (s .contested .now) (s .c) (s .reading)) 12 (s .n) (made c) (s .peers .now) (l .peers) (l .i) (l .kept) (l .inv) (c .loop-test .taken)
+
+lent-is : (c : tie.In-loop Inv-loop μ-loop) → lent c ≡ peer c
+lent-is c =
+    let s = start c .args in
+    let l = c .before .loop in
+    let twelve : l .i * 12 + 12 - l .i * 12 ≡ 12 = omega arith in
+    ap (λ (m : ℕ). take m (drop (l .i * 12) (l .peers))) twelve
+    ∙ kept-here (test (s .contested .now) (s .c) (s .reading)) 12 (s .n) (made c) (s .peers .now) (l .peers) (l .i) (l .kept) (l .inv) (c .loop-test .taken)
 
 loop-holds : tie.Need-loop-holds Inv-loop μ-loop
 loop-holds c =
     let s = c .before .before in
-    kept-none (test (s .args .contested .now) (s .args .c) (s .args .reading)) 12 (s .args .n) (s .args .peers .now) (omega arith) (s .pre .1)
+    let rs : List (List ℕ) = records 12 (s .args .n) (s .args .peers .now) in
+    let f : List ℕ → List ℕ = aged (s .args .reading) (s .args .max-age) in
+    kept-none (test (s .args .contested .now) (s .args .c) (s .args .reading)) 12 (s .args .n) (map f rs) (s .args .peers .now) (omega arith) (s .pre .1)
+    (wide-map f 12 (λ x. peer-long (agePeer (s .args .reading) (s .args .max-age) (peerOf x))) rs)
+    (length-map rs f ∙ length-records 12 (s .args .n) (s .args .peers .now))
 
 mul-at : tie.Need-mul-at Inv-loop μ-loop
 mul-at c = omega (arith, inside c)
 
-mul-stays-peer : tie.Need-mul-stays-peer Inv-loop μ-loop
-mul-stays-peer c = omega (arith, inside c)
+add-aged-words : tie.Need-add-aged-words Inv-loop μ-loop
+add-aged-words c = omega (arith, inside c)
 
-slice-read-stays-peer : tie.Need-slice-read-stays-peer Inv-loop μ-loop
-slice-read-stays-peer c = omega (arith, inside (c .before))
+mul-aged-words : tie.Need-mul-aged-words Inv-loop μ-loop
+mul-aged-words c = omega (arith, inside c)
 
-add-stays-peer : tie.Need-add-stays-peer Inv-loop μ-loop
-add-stays-peer c = omega (arith, inside (c .before))
+part-aged-words-start : tie.Need-part-aged-words-start Inv-loop μ-loop
+part-aged-words-start c = omega (arith, inside (c .before))
 
-mul-stays-peer-2 : tie.Need-mul-stays-peer-2 Inv-loop μ-loop
-mul-stays-peer-2 c = omega (arith, inside (c .before))
+part-aged-words-end : tie.Need-part-aged-words-end Inv-loop μ-loop
+part-aged-words-end c = omega (arith, inside (c .before))
 
-slice-read-stays-peer-2 : tie.Need-slice-read-stays-peer-2 Inv-loop μ-loop
-slice-read-stays-peer-2 c = omega (arith, inside (c .before .before))
+aged-words-requires : tie.Need-aged-words-requires Inv-loop μ-loop
+aged-words-requires c κs =
+    let t = c .before .before in
+    let s = start t in
+    let e = exact-at peerWords peerOf (records 12 (s .args .n) (s .args .peers .now)) (s .pre .2) (t .before .loop .i) (omega (arith, t .loop-test .taken, length-records 12 (s .args .n) (s .args .peers .now))) in (
+      ap length (lent-is t ∙ sym e) ∙ peer-long (peerOf (peer t)),
+      ap (λ (x : List ℕ). peerWords (peerOf x)) (lent-is t) ∙ e ∙ sym (lent-is t),
+    )
 
-add-stays-peer-2 : tie.Need-add-stays-peer-2 Inv-loop μ-loop
-add-stays-peer-2 c = omega (arith, inside (c .before .before))
+-- the words of the peer once it has aged
+aged-is : (c : tie.After-aged-words Inv-loop μ-loop) → let t = c .before .before .before in c .aged-words .result ≡ getD (made t) (t .before .loop .i) []
+aged-is c =
+    let t = c .before .before .before in
+    let s = start t .args in
+    c .aged-words .ensures
+    ∙ ap (aged (s .reading) (s .max-age)) (lent-is t)
+    ∙ sym (map-at (aged (s .reading) (s .max-age)) [] [] (records 12 (s .n) (s .peers .now)) (t .before .loop .i) (omega (arith, t .loop-test .taken, length-records 12 (s .n) (s .peers .now))))
 
-mul-stays-peer-3 : tie.Need-mul-stays-peer-3 Inv-loop μ-loop
-mul-stays-peer-3 c = omega (arith, inside (c .before .before))
-
-slice-read-stays-peer-3 : tie.Need-slice-read-stays-peer-3 Inv-loop μ-loop
-slice-read-stays-peer-3 c = omega (arith, inside (c .before .before .before))
-
-add-stays-peer-3 : tie.Need-add-stays-peer-3 Inv-loop μ-loop
-add-stays-peer-3 c = omega (arith, inside (c .before .before .before))
-
-mul-stays-peer-4 : tie.Need-mul-stays-peer-4 Inv-loop μ-loop
-mul-stays-peer-4 c = omega (arith, inside (c .before .before .before))
-
-slice-read-stays-peer-4 : tie.Need-slice-read-stays-peer-4 Inv-loop μ-loop
-slice-read-stays-peer-4 c = omega (arith, inside (c .before .before .before .before))
+aged-long : (c : tie.After-aged-words Inv-loop μ-loop) → length (c .aged-words .result) ≡ 12
+aged-long c =
+    let t = c .before .before .before in
+    ap length (c .aged-words .ensures) ∙ peer-long (agePeer (start t .args .reading) (start t .args .max-age) (peerOf (lent t)))
 
 stays-peer-requires : tie.Need-stays-peer-requires Inv-loop μ-loop
-stays-peer-requires c κs = c .before .before .before .before .before .before .before .before .pre .0
+stays-peer-requires c κs = start (c .before .before .before) .pre .0
 
-keep-record-requires : tie.Need-keep-record-requires Inv-loop μ-loop
-keep-record-requires c κs =
-    let l = c .before .before .before .before .before .before in
-    (omega arith, l .before .loop .inv .behind, inside l)
+keep-peer-requires : tie.Need-keep-peer-requires Inv-loop μ-loop
+keep-peer-requires c κs =
+    let a = c .before .before .before in
+    let t = a .before .before .before in
+    let s = start t in
+    let l = t .before .loop in
+    let e = kept-long (test (s .args .contested .now) (s .args .c) (s .args .reading)) 12 (s .args .n) (made t) (s .args .peers .now) (l .peers) (l .i) (l .kept) (l .inv) in
+    (omega (arith, inside t, t .loop-test .taken), omega (arith, e, s .pre .1), aged-long a)
 
 loop-again : tie.Need-loop-again Inv-loop μ-loop
 unfolding peerOf
 loop-again c =
     let r = c .before .before in
-    let h = r .before .before in
-    let t = h .before .before .before .before .before in
+    let h = r .before .before .before in
+    let a = h .before in
+    let t = a .before .before .before in
     let l = t .before .loop in
-    let s = t .before .before .before .before .args in
+    let s = start t .args in
     let p : List ℕ → Bool = test (s .contested .now) (s .c) (s .reading) in
-    let x : List ℕ = getD (records 12 (s .n) (s .peers .now)) (l .i) [] in
     let cs : List ContestedKey = map contestedOf (records 6 (s .c) (s .contested .now)) in
-    kept-next p 12 (s .n) (s .peers .now) (l .peers) (l .i) (l .kept) (l .inv) (t .loop-test .taken)
-    (h .stays-peer .result) (r .keep-record .last .0) (r .keep-record .result)
+    let x : List ℕ = getD (made t) (l .i) [] in
+    kept-written p 12 (s .n) (made t) (s .peers .now) (l .peers) (l .i) (l .kept) (l .inv) (t .loop-test .taken)
+    (h .stays-peer .result) (a .aged-words .result) (r .keep-peer .last .0) (r .keep-peer .result) (aged-long a) (aged-is a)
     (h .stays-peer .ensures
-    ∙ (λ k. staysPeer (s .reading) cs
-    (kept-first p 12 (s .n) (s .peers .now) (l .peers) (l .i) (l .kept) (l .inv) (t .loop-test .taken) k)
-    (timeOf (kept-word p 12 (s .n) (s .peers .now) (l .peers) (l .i) (l .kept) (l .inv) (t .loop-test .taken) 1 (omega arith) k)
-    (kept-word p 12 (s .n) (s .peers .now) (l .peers) (l .i) (l .kept) (l .inv) (t .loop-test .taken) 2 (omega arith) k))
-    (flagOf (kept-word p 12 (s .n) (s .peers .now) (l .peers) (l .i) (l .kept) (l .inv) (t .loop-test .taken) 3 (omega arith) k)))
+    ∙ ap (λ (y : List ℕ). staysPeer (s .reading) cs (getD y 0 0) (timeOf (getD y 1 0) (getD y 2 0)) (flagOf (getD y 3 0))) (aged-is a)
     ∙ ap (staysPeer (s .reading) cs (getD x 0 0) (timeOf (getD x 1 0) (getD x 2 0))) (taken-flag (getD x 3 0) (getD x 4 0) (getD x 5 0) (getD x 6 0)))
-    (r .keep-record .ensures .0)
-    (r .keep-record .ensures .1)
+    (r .keep-peer .ensures .0)
+    (r .keep-peer .ensures .1)
 
 same-length : tie.Need-same-length Inv-loop μ-loop
-same-length c = c .before .loop .inv .as-long
+same-length c =
+    let l = c .before .loop in
+    let s = c .before .before .before .before .args in
+    kept-long (test (s .contested .now) (s .c) (s .reading)) 12 (s .n) (map (aged (s .reading) (s .max-age)) (records 12 (s .n) (s .peers .now))) (s .peers .now) (l .peers) (l .i) (l .kept) (l .inv)
 
 returns : tie.Need-returns Inv-loop μ-loop
 returns c =
     let l = c .before .loop in
     let s = c .before .before .before .before .args in
-    kept-all (test (s .contested .now) (s .c) (s .reading)) 12 (s .n) (s .peers .now) (l .peers) (l .i) (l .kept) (l .inv) (c .loop-test .left)
+    kept-all (test (s .contested .now) (s .c) (s .reading)) 12 (s .n) (map (aged (s .reading) (s .max-age)) (records 12 (s .n) (s .peers .now))) (s .peers .now) (l .peers) (l .i) (l .kept) (l .inv) (c .loop-test .left)
 
 pub retain-peers-spec : {M : Type 1} → statement M
 retain-peers-spec =
@@ -120,19 +160,19 @@ retain-peers-spec =
     μ-loop
     loop-holds
     mul-at
-    mul-stays-peer
-    slice-read-stays-peer
-    add-stays-peer
-    mul-stays-peer-2
-    slice-read-stays-peer-2
-    add-stays-peer-2
-    mul-stays-peer-3
-    slice-read-stays-peer-3
-    add-stays-peer-3
-    mul-stays-peer-4
-    slice-read-stays-peer-4
+    add-aged-words
+    mul-aged-words
+    (λ c. search needs)
+    part-aged-words-start
+    part-aged-words-end
+    aged-words-requires
+    (λ c. search needs)
+    (λ c. search needs)
+    (λ c. search needs)
+    (λ c. search needs)
     stays-peer-requires
-    keep-record-requires
+    (λ c. search needs)
+    keep-peer-requires
     (λ c. omega arith)
     (λ c. omega arith)
     loop-again

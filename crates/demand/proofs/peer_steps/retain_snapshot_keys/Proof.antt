@@ -1,14 +1,16 @@
 -- `retain_snapshot_keys` meets its contract: the invariant is `Kept`.
 use Prim.Native.Nat.{ℕ, _+_, _-_, _*_, _≤_}
-use mathlib.Core.Path.{ap, _∙_}
+use mathlib.Core.Path.{refl, ap, _∙_}
 use mathlib.Core.Bool.{Bool}
 use mathlib.Core.List.{List, map}
 use native.Mathlib.Omega.{arith}
 use lib.ListN.{length}
 use Rattle.records.specs.Records.{records}
+use Rattle.records.proofs.RecordLaws.{length-records}
+use Rattle.records.proofs.TableLaws.{wide-records}
 use Rattle.demand.specs.PeerRecords.{peerOf, snapshotKeyOf}
 use Rattle.demand.specs.PeerState.{hasSnapshot}
-use Rattle.demand.proofs.PeerKeepLaws.{Kept, kept-none, kept-first, kept-inside, kept-next, kept-all}
+use Rattle.demand.proofs.PeerKeepLaws.{Kept, kept-none, kept-long, kept-all, kept-first, kept-inside, kept-copied}
 use Rattle.demand.proofs.peer_steps.retain_snapshot_keys.Statement.{statement}
 use Rattle.demand.proofs.peer_steps.retain_snapshot_keys.Tie as tie
 
@@ -16,21 +18,23 @@ abbrev test : List ℕ → ℕ → List ℕ → Bool
 test peers n x = hasSnapshot (map peerOf (records 12 n peers)) (snapshotKeyOf x .peer)
 
 abbrev Inv-loop : tie.InvT-loop
-Inv-loop peers n snapshot-keys₀ k kept₀ i₀ snapshot-keys kept i = Kept (test peers n) 4 k snapshot-keys₀ snapshot-keys i kept
+Inv-loop peers n snapshot-keys₀ k kept₀ i₀ snapshot-keys kept i = Kept (test peers n) 4 k (records 4 k snapshot-keys₀) snapshot-keys₀ snapshot-keys i kept
 
 abbrev μ-loop : tie.MeasureT-loop
 μ-loop peers n snapshot-keys₀ k kept₀ i₀ snapshot-keys kept i = k - i
 
-inside : (c : tie.In-loop Inv-loop μ-loop) → c .before .loop .i * 4 + 4 ≤ length (c .before .loop .snapshot-keys)
+inside : (c : tie.In-loop Inv-loop μ-loop) → (c .before .loop .kept ≤ c .before .loop .i) × (c .before .loop .i * 4 + 4 ≤ length (c .before .loop .snapshot-keys))
 inside c =
     let s = c .before .before .before .before .args in
     let l = c .before .loop in
-    kept-inside (test (s .peers .now) (s .n)) 4 (s .k) (s .snapshot-keys .now) (l .snapshot-keys) (l .i) (l .kept) (l .inv) (c .loop-test .taken)
+    kept-inside (test (s .peers .now) (s .n)) 4 (s .k) (records 4 (s .k) (s .snapshot-keys .now)) (s .snapshot-keys .now) (l .snapshot-keys) (l .i) (l .kept) (l .inv) (c .loop-test .taken)
 
 loop-holds : tie.Need-loop-holds Inv-loop μ-loop
 loop-holds c =
     let s = c .before .before in
-    kept-none (test (s .args .peers .now) (s .args .n)) 4 (s .args .k) (s .args .snapshot-keys .now) (omega arith) (s .pre .1)
+    let xs : List ℕ = s .args .snapshot-keys .now in
+    kept-none (test (s .args .peers .now) (s .args .n)) 4 (s .args .k) (records 4 (s .args .k) xs) xs (omega arith) (s .pre .1)
+    (wide-records 4 (s .args .k) xs (s .pre .1)) (length-records 4 (s .args .k) xs)
 
 mul-at : tie.Need-mul-at Inv-loop μ-loop
 mul-at c = omega (arith, inside c)
@@ -47,7 +51,7 @@ has-snapshot-requires c κs = c .before .before .before .before .before .pre .0
 keep-record-requires : tie.Need-keep-record-requires Inv-loop μ-loop
 keep-record-requires c κs =
     let l = c .before .before .before in
-    (omega arith, l .before .loop .inv .behind, inside l)
+    (omega arith, inside l .0, inside l .1)
 
 loop-again : tie.Need-loop-again Inv-loop μ-loop
 unfolding snapshotKeyOf
@@ -57,20 +61,26 @@ loop-again c =
     let t = h .before .before in
     let l = t .before .loop in
     let s = t .before .before .before .before .args in
-    kept-next (test (s .peers .now) (s .n)) 4 (s .k) (s .snapshot-keys .now) (l .snapshot-keys) (l .i) (l .kept) (l .inv) (t .loop-test .taken)
-    (h .has-snapshot .result) (r .keep-record .last .0) (r .keep-record .result)
-    (h .has-snapshot .ensures ∙ ap (hasSnapshot (map peerOf (records 12 (s .n) (s .peers .now)))) (kept-first (test (s .peers .now) (s .n)) 4 (s .k) (s .snapshot-keys .now) (l .snapshot-keys) (l .i) (l .kept) (l .inv) (t .loop-test .taken)))
+    let xs : List ℕ = s .snapshot-keys .now in
+    let rs : List (List ℕ) = records 4 (s .k) xs in
+    let p : List ℕ → Bool = test (s .peers .now) (s .n) in
+    kept-copied p 4 (s .k) rs xs (l .snapshot-keys) (l .i) (l .kept) (l .inv) (t .loop-test .taken)
+    (h .has-snapshot .result) (r .keep-record .last .0) (r .keep-record .result) refl
+    (h .has-snapshot .ensures ∙ ap (hasSnapshot (map peerOf (records 12 (s .n) (s .peers .now)))) (kept-first p 4 (s .k) rs xs (l .snapshot-keys) (l .i) (l .kept) (l .inv) (t .loop-test .taken)))
     (r .keep-record .ensures .0)
     (r .keep-record .ensures .1)
 
 same-length : tie.Need-same-length Inv-loop μ-loop
-same-length c = c .before .loop .inv .as-long
+same-length c =
+    let l = c .before .loop in
+    let s = c .before .before .before .before .args in
+    kept-long (test (s .peers .now) (s .n)) 4 (s .k) (records 4 (s .k) (s .snapshot-keys .now)) (s .snapshot-keys .now) (l .snapshot-keys) (l .i) (l .kept) (l .inv)
 
 returns : tie.Need-returns Inv-loop μ-loop
 returns c =
     let l = c .before .loop in
     let s = c .before .before .before .before .args in
-    kept-all (test (s .peers .now) (s .n)) 4 (s .k) (s .snapshot-keys .now) (l .snapshot-keys) (l .i) (l .kept) (l .inv) (c .loop-test .left)
+    kept-all (test (s .peers .now) (s .n)) 4 (s .k) (records 4 (s .k) (s .snapshot-keys .now)) (s .snapshot-keys .now) (l .snapshot-keys) (l .i) (l .kept) (l .inv) (c .loop-test .left)
 
 pub retain-snapshot-keys-spec : {M : Type 1} → statement M
 retain-snapshot-keys-spec =

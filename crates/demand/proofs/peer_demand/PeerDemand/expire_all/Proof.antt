@@ -3,7 +3,7 @@ use native.Mathlib.Omega.{arith}
 use borrow.Author.Needs.{needs}
 use Rattle.demand.specs.PeerState.{PeerTables, tables}
 use Rattle.demand.proofs.PeerStoreLaws.{Tables, tables-of}
-use Rattle.demand.proofs.PeerExpireLaws.{contested-order, peers-room, peers-order, expired}
+use Rattle.demand.proofs.PeerExpireLaws.{contested-order, peers-order, expired}
 use Rattle.demand.proofs.peer_demand.PeerDemand.expire_all.Statement.{statement}
 use Rattle.demand.proofs.peer_demand.PeerDemand.expire_all.Tie as tie
 
@@ -16,39 +16,31 @@ sound c = tables-of (c .args .self) (lent c) (c .pre)
 abbrev first : tie.After-retain-contested → tie.Start
 first c = c .before .before .before .before .before .before
 
-abbrev second : tie.After-age-peers → tie.After-retain-contested
-second c = c .before .before .before .before
-
-abbrev third : tie.After-retain-peers → tie.After-age-peers
-third c = c .before .before .before .before .before
+abbrev second : tie.After-retain-peers → tie.After-retain-contested
+second c = c .before .before .before .before .before
 
 retain-contested-requires : tie.Need-retain-contested-requires
 retain-contested-requires c κs =
     let o = sound (c .before .before .before .before .before) in
     (o .peers .order, omega (arith, o .contested .within, o .contested .room))
 
-age-peers-requires : tie.Need-age-peers-requires
-age-peers-requires c κs =
-    let o = sound (first (c .before .before .before)) in
-    (omega (arith, o .peers .within, o .peers .room), o .peers .exactly)
-
 retain-peers-requires : tie.Need-retain-peers-requires
 retain-peers-requires c κs =
-    let a = c .before .before .before .before in
-    let r = second a in
-    let s = first r in (
-      contested-order (s .args .self) (lent s) (sound s) (s .args .reading) (s .args .max-age) (r .retain-contested .result) (r .retain-contested .last .1 .1 .0) (r .retain-contested .ensures),
-      peers-room (s .args .self) (lent s) (sound s) (s .args .reading) (s .args .max-age) (r .retain-contested .result) (r .retain-contested .last .1 .1 .0) (r .retain-contested .ensures) (a .age-peers .last .0) (a .age-peers .ensures),
+    let r = c .before .before .before .before in
+    let s = first r in
+    let o = sound s in (
+      contested-order (s .args .self) (lent s) o (s .args .reading) (s .args .max-age) (r .retain-contested .result) (r .retain-contested .last .1 .1 .0) (r .retain-contested .ensures),
+      omega (arith, o .peers .within, o .peers .room),
+      o .peers .exactly,
     )
 
 retain-snapshot-keys-requires : tie.Need-retain-snapshot-keys-requires
 retain-snapshot-keys-requires c κs =
     let q = c .before .before .before .before in
-    let a = third q in
-    let r = second a in
+    let r = second q in
     let s = first r in
     let o = sound s in (
-      peers-order (s .args .self) (lent s) o (s .args .reading) (s .args .max-age) (r .retain-contested .result) (r .retain-contested .last .1 .1 .0) (r .retain-contested .ensures) (a .age-peers .last .0) (a .age-peers .ensures)
+      peers-order (s .args .self) (lent s) o (s .args .reading) (s .args .max-age) (r .retain-contested .result) (r .retain-contested .last .1 .1 .0) (r .retain-contested .ensures)
           (q .retain-peers .result) (q .retain-peers .last .1 .1 .0) (q .retain-peers .ensures),
       omega (arith, o .snapshotKeys .within, o .snapshotKeys .room),
     )
@@ -57,10 +49,9 @@ returns : tie.Need-returns
 returns c =
     let k = c .before .before in
     let q = k .before .before .before .before .before in
-    let a = third q in
-    let r = second a in
+    let r = second q in
     let s = first r in
-    expired (s .args .self) (lent s) (sound s) (s .args .reading) (s .args .max-age) (r .retain-contested .result) (r .retain-contested .last .1 .1 .0) (r .retain-contested .ensures) (a .age-peers .last .0) (a .age-peers .ensures)
+    expired (s .args .self) (lent s) (sound s) (s .args .reading) (s .args .max-age) (r .retain-contested .result) (r .retain-contested .last .1 .1 .0) (r .retain-contested .ensures)
     (q .retain-peers .result) (q .retain-peers .last .1 .1 .0) (q .retain-peers .ensures)
     (k .retain-snapshot-keys .result) (k .retain-snapshot-keys .last .1 .1 .0) (k .retain-snapshot-keys .ensures)
 
@@ -69,7 +60,6 @@ expire-all-spec =
     tie.close
     (tie.spec
     retain-contested-requires
-    age-peers-requires
     retain-peers-requires
     retain-snapshot-keys-requires
     (λ c. search needs)
