@@ -44,42 +44,11 @@ minus-low s p q d n c P T R δ ε' h t = simp sums (omega (arith, simp sums at (
 pub plus-low : (s p q d n c P T R δ : ℕ) → P * d + s * q ≤ s * p + δ * d → T * (d * (n * c)) ≤ s * R → (P + T) * (d * (n * c)) + s * (q * (n * c)) ≤ s * (p * (n * c) + R) + δ * (d * (n * c))
 plus-low s p q d n c P T R δ h t = simp sums (omega (arith, simp sums at (mul-le-mul-right (n * c) h), simp sums at t))
 
--- A power, one factor more: E' is E * F / s, rounded down, and F is within a of s * h / b.
+-- The product of two, rounded down: W is P * E / s, P is within ε of s * hi / d or s * lo / d, and E within η of s * H / B or s * L / B.
 
-pub power-high : (s E E' F h b H B ε a : ℕ) → zero < s → s * h ≤ (F + a) * b → s * H ≤ (E + ε) * B → E * F ≤ (E' + 1) * s → E ≤ s → s + a * s + ε * F + a * ε ≤ ε * s
-    → s * (H * h) ≤ (E' + ε) * (B * b)
-power-high s E E' F h b H B ε a hs h₁ h₂ h₃ hE side =
-    le-of-mul-le-mul-right {k = s}
-    (simp sums
-    (omega (
-      arith,
-      simp sums at (mul-le-mul h₂ h₁),
-      simp sums at (mul-le-mul-right (B * b) h₃),
-      simp sums at (mul-le-mul-right (a * (B * b)) hE),
-      simp sums at (mul-le-mul-right (B * b) side),
-    )))
-    hs
-
-pub power-low : (s E E' F l b L B δ a g : ℕ) → zero < s → F * b ≤ s * l + a * b → E * B ≤ s * L + δ * B → E' * s ≤ E * F → L ≤ B → s * l ≤ g * b → a * s + δ * g + a * δ ≤ δ * s
-    → E' * (B * b) ≤ s * (L * l) + δ * (B * b)
-power-low s E E' F l b L B δ a g hs h₁ h₂ h₃ hL hg side =
-    le-of-mul-le-mul-right {k = s}
-    (simp sums
-    (omega (
-      arith,
-      simp sums at (mul-le-mul h₂ h₁),
-      simp sums at (mul-le-mul-right (B * b) h₃),
-      simp sums at (mul-le-mul-right (s * (a * b)) hL),
-      simp sums at (mul-le-mul-right (δ * B) hg),
-      simp sums at (mul-le-mul-right (B * b) side),
-    )))
-    hs
-
--- The product of the two, rounded down.
-
-pub product-high : (s P E W hi d H B ε η z : ℕ) → zero < s → s * hi ≤ (P + ε) * d → s * H ≤ (E + η) * B → P * E ≤ (W + 1) * s → P ≤ s → E ≤ s → s + η * s + ε * s + ε * η ≤ z * s
+pub product-high : (s P E W hi d H B ε η z : ℕ) → zero < s → s * hi ≤ (P + ε) * d → s * H ≤ (E + η) * B → P * E ≤ (W + 1) * s → P ≤ s → s + η * s + ε * E + ε * η ≤ z * s
     → s * (hi * H) ≤ (W + z) * (d * B)
-product-high s P E W hi d H B ε η z hs h₁ h₂ h₃ hP hE side =
+product-high s P E W hi d H B ε η z hs h₁ h₂ h₃ hP side =
     le-of-mul-le-mul-right {k = s}
     (simp sums
     (omega (
@@ -87,14 +56,13 @@ product-high s P E W hi d H B ε η z hs h₁ h₂ h₃ hP hE side =
       simp sums at (mul-le-mul h₁ h₂),
       simp sums at (mul-le-mul-right (d * B) h₃),
       simp sums at (mul-le-mul-right (η * (d * B)) hP),
-      simp sums at (mul-le-mul-right (ε * (d * B)) hE),
       simp sums at (mul-le-mul-right (d * B) side),
     )))
     hs
 
-pub product-low : (s P E W lo d L B ε η z : ℕ) → zero < s → P * d ≤ s * lo + ε * d → E * B ≤ s * L + η * B → W * s ≤ P * E → lo ≤ d → L ≤ B → η * s + ε * s + ε * η ≤ z * s
+pub product-low : (s P E W lo d L B ε η z g : ℕ) → zero < s → P * d ≤ s * lo + ε * d → E * B ≤ s * L + η * B → W * s ≤ P * E → lo ≤ d → s * L ≤ g * B → η * s + ε * g + ε * η ≤ z * s
     → W * (d * B) ≤ s * (lo * L) + z * (d * B)
-product-low s P E W lo d L B ε η z hs h₁ h₂ h₃ hlo hL side =
+product-low s P E W lo d L B ε η z g hs h₁ h₂ h₃ hlo hg side =
     le-of-mul-le-mul-right {k = s}
     (simp sums
     (omega (
@@ -102,7 +70,7 @@ product-low s P E W lo d L B ε η z hs h₁ h₂ h₃ hlo hL side =
       simp sums at (mul-le-mul h₁ h₂),
       simp sums at (mul-le-mul-right (d * B) h₃),
       simp sums at (mul-le-mul-right (s * (η * B)) hlo),
-      simp sums at (mul-le-mul-right (ε * (d * s)) hL),
+      simp sums at (mul-le-mul-right (ε * d) hg),
       simp sums at (mul-le-mul-right (d * B) side),
     )))
     hs

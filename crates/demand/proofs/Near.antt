@@ -9,7 +9,7 @@ use borrow.Author.Tests.{ne-eqb, leb-true, leb-false}
 use Rattle.demand.specs.Weight.{S, next, term, sum, series, power, weight}
 use Rattle.demand.specs.Exponential.{den, odd, plus, minus, Within}
 use Rattle.demand.proofs.Division.{scaled-lt, quotient-next}
-use Rattle.demand.proofs.Bounds.{sums, power-high, power-low, product-high, product-low}
+use Rattle.demand.proofs.Bounds.{sums, product-high, product-low}
 use Rattle.demand.proofs.Alpha.{power-le, series-le}
 use Rattle.demand.proofs.Series.{sum-high, sum-low}
 use Rattle.demand.proofs.Powers.{expSum, den-pos, sum-at-most, sum-at-least}
@@ -73,14 +73,14 @@ unfolding next term sum series power
 powers-low n h zero = rw (pow-zero (expSum 1 1 n), pow-zero (den 1 n)) (lit≤ tt)
 powers-low n h (suc q) =
     rw (pow-suc (den 1 n) q, pow-suc (expSum 1 1 n) q)
-    (power-low S (power q) (power (suc q)) (series S) (den 1 n) (expSum 1 1 n) (den 1 n ^ q) (expSum 1 1 n ^ q) 5 2 (series S + 2) (lit< tt) (one-low n h) (powers-low n h q) (div-mul-le-self (power q * series S) S) (pow-le-pow-left (den-le 1 1 n) q) (one-high n (le-of-lt h)) (lit≤ tt))
+    (product-low S (power q) (series S) (power (suc q)) (den 1 n ^ q) (expSum 1 1 n ^ q) (den 1 n) (expSum 1 1 n) 5 2 5 (series S + 2) (lit< tt) (powers-low n h q) (one-low n h) (div-mul-le-self (power q * series S) S) (pow-le-pow-left (den-le 1 1 n) q) (one-high n (le-of-lt h)) (lit≤ tt))
 
 powers-high : (n : ℕ) → 20 ≤ n → (q : ℕ) → S * den 1 n ^ q ≤ (power q + 5) * expSum 1 1 n ^ q
 unfolding next term sum series power
 powers-high n h zero = rw (pow-zero (expSum 1 1 n), pow-zero (den 1 n)) (lit≤ tt)
 powers-high n h (suc q) =
     rw (pow-suc (den 1 n) q, pow-suc (expSum 1 1 n) q)
-    (power-high S (power q) (power (suc q)) (series S) (den 1 n) (expSum 1 1 n) (den 1 n ^ q) (expSum 1 1 n ^ q) 5 2 (lit< tt) (one-high n h) (powers-high n h q) (quotient-next (power q * series S) S (lit< tt)) (power-le q) (lit≤ tt))
+    (product-high S (power q) (series S) (power (suc q)) (den 1 n ^ q) (expSum 1 1 n ^ q) (den 1 n) (expSum 1 1 n) 5 2 5 (lit< tt) (powers-high n h q) (one-high n h) (quotient-next (power q * series S) S (lit< tt)) (power-le q) (lit≤ tt))
 
 -- ---- exp(e / c) is exp(r / c) * exp(1) ^ q for e = q * c + r, sum by sum
 
@@ -221,12 +221,12 @@ module _ (e c : ℕ) (pos : zero < c) where
   early n h l = record {
     not-above =
         above-product (e % c) c (e / c) D 64 pos n
-        (product-low S (series (e % c * S / c)) (power (e / c)) D (den c n) (expSum (e % c) c n) (den 1 n ^ (e / c)) (expSum 1 1 n ^ (e / c)) 31 5 64 (lit< tt)
-        (series-low (e % c) c rest-lt n (omega arith)) (powers-low n (omega arith) (e / c)) (div-mul-le-self _ S) (den-le (e % c) c n) (pow-le-pow-left (den-le 1 1 n) (e / c)) (lit≤ tt));
+        (product-low S (series (e % c * S / c)) (power (e / c)) D (den c n) (expSum (e % c) c n) (den 1 n ^ (e / c)) (expSum 1 1 n ^ (e / c)) 31 5 64 S (lit< tt)
+        (series-low (e % c) c rest-lt n (omega arith)) (powers-low n (omega arith) (e / c)) (div-mul-le-self _ S) (den-le (e % c) c n) (mul-le-mul-left S (pow-le-pow-left (den-le 1 1 n) (e / c))) (lit≤ tt));
     not-below =
         below-product (e % c) c (e / c) D 64 pos 20 n (omega arith)
         (product-high S (series (e % c * S / c)) (power (e / c)) D (den c 20) (expSum (e % c) c 20) (den 1 20 ^ (e / c)) (expSum 1 1 20 ^ (e / c)) 30 5 64 (lit< tt)
-        (series-high (e % c) c rest-lt 20 (lit≤ tt)) (powers-high 20 (lit≤ tt) (e / c)) (quotient-next _ S (lit< tt)) series-at-most (power-le (e / c)) (lit≤ tt));
+        (series-high (e % c) c rest-lt 20 (lit≤ tt)) (powers-high 20 (lit≤ tt) (e / c)) (quotient-next _ S (lit< tt)) series-at-most (omega (arith, power-le (e / c))));
   }
 
   -- from there on
