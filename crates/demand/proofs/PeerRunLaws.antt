@@ -157,15 +157,14 @@ records-part w n lo hi xs h l =
     ∙ records-take w (hi - lo) (drop (lo * w) xs)
     ∙ sym (slice-records w n lo hi xs h l)
 
-module _ (w n a lo hi : ℕ) (xs run part : List ℕ) (p : Replaceable w n a [] xs) (e : rangeIn w n a xs ≡ Between lo hi) (q : part ≡ take ((hi - lo) * w) (drop (lo * w) xs)) where
-  inside : lo * w + (hi - lo) * w ≤ length xs
-  inside =
-      let l = run-ordered w n a lo hi [] xs p e in
-      let h = run-within w n a lo hi [] xs p e in
-      omega (arith, sub-mul w hi lo l, mul-le-mul-right w h, fits-le (length xs) w n (p .fit))
+module _ (w n a lo hi : ℕ) (xs run : List ℕ) (p : Replaceable w n a [] xs) (e : rangeIn w n a xs ≡ Between lo hi) where
+  abbrev part : List ℕ
+  part = take (hi * w - lo * w) (drop (lo * w) xs)
 
   part-length : length part ≡ (hi - lo) * w
-  part-length = ap length q ∙ length-take-le ((hi - lo) * w) (drop (lo * w) xs) (omega (arith, inside, length-drop (lo * w) xs))
+  part-length =
+      let l = sub-mul w hi lo (run-ordered w n a lo hi [] xs p e) in
+      length-take-le (hi * w - lo * w) (drop (lo * w) xs) (omega (arith, run-words w n a lo hi [] xs p e, length-drop (lo * w) xs)) ∙ omega (arith, l)
 
   load-width : 0 < w
   load-width = fits-pos (length xs) w n (p .fit)
@@ -174,13 +173,9 @@ module _ (w n a lo hi : ℕ) (xs run part : List ℕ) (p : Replaceable w n a [] 
   part-count = ap (λ (m : ℕ). m / w) part-length ∙ mul-div-left (hi - lo) load-width
 
   part-records : records w (hi - lo) part ≡ those (word 0) a (records w n xs)
-  part-records =
-      ap (records w (hi - lo)) q
-      ∙ records-take w (hi - lo) (drop (lo * w) xs)
-      ∙ sym (slice-records w n lo hi xs (run-ordered w n a lo hi [] xs p e) (run-within w n a lo hi [] xs p e))
-      ∙ sym (run-those w n a lo hi [] xs p e)
+  part-records = records-part w n lo hi xs (run-ordered w n a lo hi [] xs p e) (run-within w n a lo hi [] xs p e) ∙ sym (run-those w n a lo hi [] xs p e)
 
-  pub load-count : hi - lo ≡ length (those (word 0) a (records w n xs))
+  load-count : hi - lo ≡ length (those (word 0) a (records w n xs))
   load-count = sym (length-records w (hi - lo) part) ∙ ap length part-records
 
   pub loaded : length (those (word 0) a (records w n xs)) * w ≤ length run → Front w (hi - lo) (those (word 0) a (records w n xs)) (spliced w 0 0 0 part run)
@@ -204,16 +199,6 @@ module _ (w n a lo hi : ℕ) (xs run part : List ℕ) (p : Replaceable w n a [] 
             ∙ ap (λ (m : ℕ). records w m part) part-count
             ∙ part-records;
       }
-
-pub loaded-part :
-    (w n a lo hi : ℕ) (xs run : List ℕ)
-    → Replaceable w n a [] xs
-    → rangeIn w n a xs ≡ Between lo hi
-    → length (those (word 0) a (records w n xs)) * w ≤ length run
-    → Front w (hi - lo) (those (word 0) a (records w n xs)) (spliced w 0 0 0 (take (hi * w - lo * w) (drop (lo * w) xs)) run)
-loaded-part w n a lo hi xs run p e room =
-    let k : hi * w - lo * w ≡ (hi - lo) * w = omega (arith, sub-mul w hi lo (run-ordered w n a lo hi [] xs p e)) in
-    loaded w n a lo hi xs run (take (hi * w - lo * w) (drop (lo * w) xs)) p e (ap (λ (m : ℕ). take m (drop (lo * w) xs)) k) room
 
 -- ---- put
 never-at : (i : ℕ) → Unfit ≡ At i → ⊥

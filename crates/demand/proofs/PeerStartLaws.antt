@@ -103,6 +103,7 @@ module _ (w n p : ℕ) (xs peers starts : List ℕ) (ready : PeersReady p peers)
       omega (arith, ap start q, s .end)
   start-within (suc d) k e = omega (arith, s .rise k (omega arith), start-within d (k + 1) (omega arith))
 
+  -- the records before a start are of smaller ids, those from the next start on of greater ones
   below : (k j : ℕ) → k < p → j < start k → of j < id k
   below zero j h l = absurd (omega (arith, s .begin))
   below (suc k) j h l =
@@ -126,7 +127,7 @@ module _ (w n p : ℕ) (xs peers starts : List ℕ) (ready : PeersReady p peers)
     pub own-ordered : (start i ≤ start (i + 1)) × (start (i + 1) ≤ n)
     own-ordered = (s .rise i h, start-within (p - (i + 1)) (i + 1) (omega arith))
 
-    pub own-keys : those firstWord (id i) rs ≡ slice (start i) (start (i + 1)) rs
+    own-keys : those firstWord (id i) rs ≡ slice (start i) (start (i + 1)) rs
     own-keys = those-is firstWord [] (id i) rs (start i) (start (i + 1))
         (record {
           within = omega (arith, own-ordered, length-records w n xs);
@@ -159,10 +160,10 @@ module _ (w n p : ℕ) (xs peers starts : List ℕ) (ready : PeersReady p peers)
     part-is : records w size part ≡ those firstWord (id i) rs
     part-is = records-part w n (start i) (start (i + 1)) xs (own-ordered .0) (own-ordered .1) ∙ sym own-keys
 
-    pub own-those : those firstWord (id i) (records w size part) ≡ those firstWord (id i) rs
+    own-those : those firstWord (id i) (records w size part) ≡ those firstWord (id i) rs
     own-those = ap (those firstWord (id i)) part-is ∙ those-twice firstWord (id i) rs
 
-    pub own-table : KeyTable w n xs → KeyTable w size part
+    own-table : KeyTable w n xs → KeyTable w size part
     unfolding those
     own-table table = record {
       ready = record {
