@@ -1,6 +1,5 @@
 -- The peers' state, when it is valid (01, 'The saved image'), and the tables that hold it. Definitions only.
 use Prim.Native.Nat.{ℕ, _+_, _*_, _^_}
-use mathlib.Core.Path.{_≡_}
 use mathlib.Core.Bool.{Bool, true, _&&_, _||_}
 use mathlib.Core.List.{List, map}
 use mathlib.Core.Option.{Option, none, some}

@@ -6,7 +6,7 @@ use native.Mathlib.Nat.{le-trans, le-of-eq, lt-of-lt-of-le, lt-of-le-of-lt, mul-
 use native.Mathlib.Omega.{arith}
 use mathlib.Core.Bool.{Bool, true, false, cond}
 use lib.IntN.{ℤ}
-use lib.Dec.{T, ltb, eqb, ltb→lt, eqb→eq, not-T, lit<, lit≤}
+use lib.Dec.{T, eqb, ltb→lt, eqb→eq, not-T, lit<, lit≤}
 use lib.Ieee.Bits.{cond-no}
 use lib.Pow.{pow-add, pow-pos}
 use lib.Ieee.{Float, nan, inf, fin, Format, binary32, binary64, prec, emax, low, size, up, down, round, mul, div, neg}
