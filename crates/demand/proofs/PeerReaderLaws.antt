@@ -29,9 +29,9 @@ use Rattle.demand.specs.Steps.PeerHeard.{counted, isListed, KeyTable, St
 use Rattle.demand.specs.PeerCalls.{peersQuestions}
 use Rattle.demand.proofs.PeerListLaws.{mapped, any-map, only-map, all-index, any-here, any-end, only-here, only-end, any-only}
 use Rattle.demand.proofs.PeerRangeLaws.{secondWord}
-use Rattle.demand.proofs.PeerFindLaws.{Long, key-1}
+use Rattle.demand.proofs.PeerFindLaws.{Long}
 use Rattle.demand.proofs.PeerValidLaws.{all-words, record-length, room-says, peers-ready, keys-ready, scanned-is-valid}
-use Rattle.demand.proofs.PeerRowLaws.{word-at, first-at}
+use Rattle.demand.proofs.PeerRowLaws.{word-at, first-at, key-at}
 use Rattle.demand.proofs.PeerCallLaws.{peers-numbered, asked-all}
 use Rattle.demand.proofs.PeerHeardLaws.{peer-of-id, word-found, word-missing, any-epoch, hasWords, picked-words, table-found, table-missing}
 
@@ -89,15 +89,13 @@ module _ (n : ℕ) (xs : List ℕ) (ready : PeersReady n xs) where
 
   pub peer-at : (i : ℕ) → i < n → find 1 (getD xs (i * 12) 0 ∷ []) (records 12 n xs) ≡ At i
   peer-at i h =
-      let l : i < length (records 12 n xs) = omega (arith, h, length-records 12 n xs) in
-      find-at 1 (getD xs (i * 12) 0 ∷ []) (records 12 n xs) i (ready .ascend) l
-      (key-1 (getD (records 12 n xs) i []) (long-peers i l) ∙ ap (λ (a : ℕ). a ∷ []) (first-at 12 n xs i h (omega arith)))
+      find-at 1 (getD xs (i * 12) 0 ∷ []) (records 12 n xs) i (ready .ascend) (omega (arith, h, length-records 12 n xs)) (key-at 12 n xs i h (omega arith) (ready .fit))
 
   pub id-at : (id i : ℕ) → find 1 (id ∷ []) (records 12 n xs) ≡ At i → (i < n) × (getD xs (i * 12) 0 ≡ id)
   id-at id i e =
       let at = at-says 1 (id ∷ []) (records 12 n xs) i e in
       let h : i < n = omega (arith, at .0, length-records 12 n xs) in
-      (h, sym (first-at 12 n xs i h (omega arith)) ∙ ap (λ (l : List ℕ). getD l 0 0) (sym (key-1 (getD (records 12 n xs) i []) (long-peers i (at .0))) ∙ at .1))
+      (h, ap (λ (l : List ℕ). getD l 0 0) (sym (key-at 12 n xs i h (omega arith) (ready .fit)) ∙ at .1))
 
   pub snapshot-at : (i : ℕ) → i < n → snapshotIn (peerWith (getD xs (i * 12) 0) (map peerOf (records 12 n xs))) ≡ snapshotOf (getD xs (i * 12 + 3) 0) (getD xs (i * 12 + 4) 0) (getD xs (i * 12 + 5) 0) (getD xs (i * 12 + 6) 0)
   unfolding peerOf

@@ -15,13 +15,15 @@ use Rattle.records.specs.declared.Found.the-variants.{Unfit}
 use Rattle.records.specs.Records.{records, keyed, find, findIn}
 use Rattle.records.proofs.TestLaws.{split}
 use Rattle.records.proofs.RecordLaws.{length-records, record-at, fits-intro}
-use Rattle.records.proofs.OrderLaws.{keyed-is}
+use Rattle.records.proofs.OrderLaws.{keyAt, keyed-is}
 use Rattle.records.proofs.SearchLaws.{find-fit}
 use Rattle.records.proofs.PlaceLaws.{find-cases}
+use Rattle.records.proofs.TableLaws.{wide-records}
 use Rattle.demand.specs.PeerLists.{all}
 use Rattle.demand.specs.PeerState.{isDemand}
 use Rattle.demand.specs.Steps.PeerScan.{areKeyWords, firstWord}
 use Rattle.demand.proofs.PeerListLaws.{all-here, all-end}
+use Rattle.demand.proofs.PeerRangeLaws.{first-shape}
 
 -- word j of record i
 pub word-at : (w n : ℕ) (xs : List ℕ) (i j : ℕ) → i < n → j < w → getD (getD (records w n xs) i []) j 0 ≡ getD xs (i * w + j) 0
@@ -29,6 +31,12 @@ word-at w n xs i j h k = ap (λ (r : List ℕ). getD r j 0) (record-at w n xs i 
 
 pub first-at : (w n : ℕ) (xs : List ℕ) (i : ℕ) → i < n → 1 ≤ w → firstWord (getD (records w n xs) i []) ≡ getD xs (i * w) 0
 first-at w n xs i h k = word-at w n xs i 0 h k ∙ ap (λ (m : ℕ). getD xs m 0) (add-zero (i * w))
+
+-- the key of record i is its first word
+pub key-at : (w n : ℕ) (xs : List ℕ) (i : ℕ) → i < n → 1 ≤ w → n * w ≤ length xs → keyAt 1 (records w n xs) i ≡ getD xs (i * w) 0 ∷ []
+key-at w n xs i h k fit =
+    first-shape w (records w n xs) k (wide-records w n xs fit) i (omega (arith, length-records w n xs))
+    ∙ ap (λ (a : ℕ). a ∷ []) (first-at w n xs i h k)
 
 -- tests of record i are those of the words at its place
 pub key-record : (w n : ℕ) (xs : List ℕ) (i : ℕ) → i < n → 4 ≤ w → areKeyWords w (drop (i * w) xs) ≡ areKeyWords w (getD (records w n xs) i [])

@@ -1,11 +1,11 @@
 -- Laws: what stays of the peers' state as time goes, by the words of its records.
-use Prim.Native.Nat.{ℕ, zero, suc}
+use Prim.Native.Nat.{ℕ, zero, suc, _+_, _*_, _<_}
 use mathlib.Core.Path.{_≡_, refl, sym, ap, _∙_}
 use mathlib.Core.Bool.{Bool, true, false, cond, not, _&&_, _||_, and-comm, and-assoc}
 use mathlib.Core.List.{List, [], _∷_, map}
 use mathlib.Core.Option.{Option, none, some}
 use native.Mathlib.Omega.{arith}
-use borrow.Author.Tests.{ltb-true, ltb-false, le-leb, lt-leb}
+use borrow.Author.Tests.{ltb-true, ltb-false, le-leb, lt-leb, ne-eqb}
 use lib.Dec.{ltb, leb, eqb}
 use lib.ListN.{getD}
 use Rattle.records.specs.declared.Found.the-variants.{At, Gap}
@@ -14,11 +14,12 @@ use Rattle.records.proofs.TestLaws.{contradiction, split}
 use Rattle.demand.specs.PeerLists.{any, present}
 use Rattle.demand.specs.Words.{timeOf, flagOf}
 use Rattle.demand.specs.PeerRecords.{Snapshot, PeerRecord, ContestedKey, snapshotOf, peerOf, peerWords}
-use Rattle.demand.specs.PeerState.{isKnown, isHeld}
+use Rattle.demand.specs.PeerState.{isKnown, isTaken, isHeld, hasSnapshot}
 use Rattle.demand.specs.PeerChanges.{holdEnded, notEnded, isFresh, isFreshSnapshot, isHeldPeer, agePeer}
-use Rattle.demand.specs.Steps.PeerSteps.{staysContested, isStale, staysPeer}
+use Rattle.demand.specs.Steps.PeerSteps.{placeOf, staysContested, isStale, staysPeer}
 use Rattle.demand.proofs.PeerRangeLaws.{any-same, any-only}
-use Rattle.demand.proofs.PeerTableLaws.{InOrder, any-at, any-gap}
+use Rattle.demand.proofs.PeerRowLaws.{word-at}
+use Rattle.demand.proofs.PeerTableLaws.{InOrder, found-here, any-at, any-gap, test-there, placed}
 
 not-le : (a b : ℕ) → ltb a b ≡ not (leb b a)
 not-le a b = split (ltb a b)
@@ -50,21 +51,36 @@ module _ (at id : ℕ) (ps : List PeerRecord) where
       ∙ any-same (λ (p : PeerRecord). not (holdEnded at (p .heldUntil)) && (eqb (p .id) id && isHeld p)) (λ (p : PeerRecord). eqb (p .id) id && (isHeld p && not (holdEnded at (p .heldUntil))))
       (λ (p : PeerRecord). last-first-of-three (not (holdEnded at (p .heldUntil))) (eqb (p .id) id) (isHeld p)) ps
 
-module _ (n id : ℕ) (xs : List ℕ) (o : InOrder 12 1 n xs) (at age heard : ℕ) where
-  pub stays-at : (i : ℕ) → At i ≡ findIn 12 1 n id 0 xs → staysContested at age (map peerOf (records 12 n xs)) id heard ≡ staysBy at (peerOf (getD (records 12 n xs) i []) .heldUntil) (isFresh at age heard)
+module _ (n : ℕ) (xs : List ℕ) (o : InOrder 12 1 n xs) (at age heard : ℕ) where
+  abbrev stays : ℕ → Bool
+  stays id = staysContested at age (map peerOf (records 12 n xs)) id heard
+
+  stays-at : (id i : ℕ) → At i ≡ findIn 12 1 n id 0 xs → stays id ≡ staysBy at (peerOf (getD (records 12 n xs) i []) .heldUntil) (isFresh at age heard)
   unfolding staysContested peerOf
-  stays-at i e =
+  stays-at id i e =
       let ps : List PeerRecord = map peerOf (records 12 n xs) in
       (λ k.
       (known-is at id ps ∙ any-at 12 n id xs o peerOf (λ (p : PeerRecord). p .id) (λ r. refl) (λ (p : PeerRecord). not (holdEnded at (p .heldUntil))) i e) k
       && ((held-is at id ps ∙ any-at 12 n id xs o peerOf (λ (p : PeerRecord). p .id) (λ r. refl) (λ (p : PeerRecord). isHeld p && not (holdEnded at (p .heldUntil))) i e) k || isFresh at age heard))
 
-  pub stays-gap : (i : ℕ) → Gap i ≡ findIn 12 1 n id 0 xs → staysContested at age (map peerOf (records 12 n xs)) id heard ≡ false
+  stays-gap : (id i : ℕ) → Gap i ≡ findIn 12 1 n id 0 xs → stays id ≡ false
   unfolding staysContested peerOf
-  stays-gap i e =
+  stays-gap id i e =
       let ps : List PeerRecord = map peerOf (records 12 n xs) in
       ap (λ (b : Bool). b && (isHeldPeer (notEnded at ps) id || isFresh at age heard))
       (known-is at id ps ∙ any-gap 12 n id xs o peerOf (λ (p : PeerRecord). p .id) (λ r. refl) (λ (p : PeerRecord). not (holdEnded at (p .heldUntil))) i e)
+
+  -- of the peer at a place, by its words, and by its id
+  pub stays-here : (i : ℕ) → i < n → (ltb i n && stays (getD xs (i * 12) 0)) ≡ staysBy at (timeOf (getD xs (i * 12 + 1) 0) (getD xs (i * 12 + 2) 0)) (isFresh at age heard)
+  unfolding peerOf
+  stays-here i h =
+      let id : ℕ = getD xs (i * 12) 0 in
+      test-there n i (stays id) h
+      ∙ stays-at id i (found-here 12 n id xs o i h refl)
+      ∙ (λ k. staysBy at (timeOf (word-at 12 n xs i 1 h (omega arith) k) (word-at 12 n xs i 2 h (omega arith) k)) (isFresh at age heard))
+
+  pub stays-placed : (id i : ℕ) → i ≡ placeOf n id xs → (ltb i n && stays (getD xs (i * 12) 0)) ≡ stays id
+  stays-placed id = placed n id xs o stays (stays-gap id)
 
 -- by the words of the hold
 pub held-stays : (at flag until : ℕ) (fresh : Bool) → (flag ≡ 0 → ⊥) → ltb at until ≡ staysBy at (timeOf flag until) fresh
@@ -78,6 +94,30 @@ held-stays at (suc flag) until fresh h = not-le at until ∙ twice (not (leb unt
 pub free-stays : (at flag until : ℕ) (fresh : Bool) → flag ≡ 0 → fresh ≡ staysBy at (timeOf flag until) fresh
 free-stays at zero until fresh h = refl
 free-stays at (suc flag) until fresh h = let z : ⊥ = omega arith in absurd z
+
+-- ---- a snapshot key, by its peer's record
+
+module _ (n : ℕ) (xs : List ℕ) (o : InOrder 12 1 n xs) where
+  abbrev taken : ℕ → Bool
+  taken id = hasSnapshot (map peerOf (records 12 n xs)) id
+
+  -- of the peer at a place, by its words, and by its id
+  pub taken-here : (i : ℕ) → i < n → (ltb i n && taken (getD xs (i * 12) 0)) ≡ not (eqb (getD xs (i * 12 + 3) 0) 0)
+  unfolding hasSnapshot peerOf
+  taken-here i h =
+      let id : ℕ = getD xs (i * 12) 0 in
+      test-there n i (taken id) h
+      ∙ any-at 12 n id xs o peerOf (λ (p : PeerRecord). p .id) (λ r. refl) isTaken i (found-here 12 n id xs o i h refl)
+      ∙ flag-test (getD (getD (records 12 n xs) i []) 3 0) _ _ _
+      ∙ ap (λ (w : ℕ). not (eqb w 0)) (word-at 12 n xs i 3 h (omega arith))
+    where
+      flag-test : (w e r t : ℕ) → present (snapshotOf w e r t) ≡ not (eqb w 0)
+      flag-test zero e r t = refl
+      flag-test (suc w) e r t = sym (ap not (ne-eqb (suc w) 0 (λ q. omega arith)))
+
+  pub taken-placed : (id i : ℕ) → i ≡ placeOf n id xs → (ltb i n && taken (getD xs (i * 12) 0)) ≡ taken id
+  unfolding hasSnapshot peerOf
+  taken-placed id = placed n id xs o taken (any-gap 12 n id xs o peerOf (λ (p : PeerRecord). p .id) (λ r. refl) isTaken)
 
 -- ---- a peer
 

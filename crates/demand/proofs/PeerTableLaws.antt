@@ -5,24 +5,26 @@ use mathlib.Core.List.{List, [], _∷_, _++_, map}
 use Prim.Native.Nat.{ℕ, suc, _+_, _-_, _*_, _≤_, _<_}
 use native.Mathlib.Nat.{zero-div, zero-mod, mul-le-mul-right}
 use native.Mathlib.Omega.{arith}
-use lib.Dec.{eqb}
+use borrow.Author.Tests.{lt-ltb, le-ltb}
+use lib.Dec.{ltb, eqb}
 use lib.ListN.{length, take, drop, getD, length-map, take-append-drop}
 use lib.Seq.{length-take-le}
+use Rattle.records.specs.declared.Found.{Found}
 use Rattle.records.specs.declared.Found.the-variants.{At, Gap, Unfit}
 use Rattle.records.specs.Records.{records, flat, table, keyed, ascending, find, findIn, splice}
 use Rattle.records.proofs.TestLaws.{both, and-intro}
 use Rattle.records.proofs.RecordLaws.{fits-pos, fits-le, fits-intro, row, length-records, flat-records}
 use Rattle.records.proofs.OrderLaws.{Keyed, keyed-says, keyed-is, before-word}
-use Rattle.records.proofs.PlaceLaws.{at-says}
+use Rattle.records.proofs.PlaceLaws.{at-says, find-at}
 use Rattle.records.proofs.TableLaws.{Wide, wide-records, length-flat, records-table, length-table}
 use Rattle.demand.specs.PeerLists.{any, those, replaced}
 use Rattle.demand.specs.PeerRecords.{peerWords, snapshotKeyWords, contestedWords}
 use Rattle.demand.specs.PeerState.{PeersState, PeerTables}
 use Rattle.demand.specs.Steps.PeerScan.{firstWord}
-use Rattle.demand.specs.Steps.PeerSteps.{inOrder}
+use Rattle.demand.specs.Steps.PeerSteps.{inOrder, foundOr, placeOf}
 use Rattle.demand.specs.Steps.PeerRuns.{replacedRun, Replaceable, Tabled, Stores}
 use Rattle.demand.proofs.PeerOrderLaws.{length-replaced}
-use Rattle.demand.proofs.PeerRowLaws.{find-says, never-unfit}
+use Rattle.demand.proofs.PeerRowLaws.{key-at, find-says, never-unfit}
 use Rattle.demand.proofs.PeerRangeLaws.{those-at, those-gap, replaced-at, replaced-gap, first-shape, any-map, any-same, any-those}
 
 -- ---- records in order
@@ -136,6 +138,15 @@ module _ (w n a : ℕ) (xs : List ℕ) (o : InOrder w 1 n xs) where
       let h : i < n = omega (arith, at-says 1 (a ∷ []) (records w n xs) i (sym (e ∙ found-is)) .0, length-records w n xs) in
       (h, omega (arith, row w n i h, o .words))
 
+  -- its first word is the number, and it alone has that word
+  pub found-word : (i : ℕ) → At i ≡ findIn w 1 n a 0 xs → getD xs (i * w) 0 ≡ a
+  found-word i e = ap (λ (k : List ℕ). getD k 0 0) (sym (key-at w n xs i (found-inside i e .0) (o .width) (o .words)) ∙ at-says 1 (a ∷ []) (records w n xs) i (sym (e ∙ found-is)) .1)
+
+  pub found-here : (i : ℕ) → i < n → getD xs (i * w) 0 ≡ a → At i ≡ findIn w 1 n a 0 xs
+  found-here i h e = sym
+      (found-is
+      ∙ find-at 1 (a ∷ []) (records w n xs) i (o .order) (omega (arith, length-records w n xs)) (key-at w n xs i h (o .width) (o .words) ∙ ap (λ (b : ℕ). b ∷ []) e))
+
   pub found-one : (i : ℕ) → At i ≡ findIn w 1 n a 0 xs → those firstWord a (records w n xs) ≡ getD (records w n xs) i [] ∷ []
   found-one i e = those-at 1 firstWord (λ x. x ∷ []) (records w n xs) (o .order) (first-shape w (records w n xs) (o .width) (o .wide)) before-word a i (sym (e ∙ found-is))
 
@@ -170,3 +181,23 @@ module _ (w n a : ℕ) (xs : List ℕ) (o : InOrder w 1 n xs) where
     pub any-gap : (i : ℕ) → Gap i ≡ findIn w 1 n a 0 xs → any (λ x. eqb (number x) a && p x) (map of (records w n xs)) ≡ false
     unfolding any
     any-gap i e = by-record ∙ ap (any (λ r. p (of r))) (found-none i e)
+
+-- ---- the place of a peer
+
+-- a test of the peer at a place: as it is where a peer is there, false past them
+module _ (n place : ℕ) (b : Bool) where
+  pub test-there : place < n → (ltb place n && b) ≡ b
+  test-there h = ap (λ (c : Bool). c && b) (lt-ltb place n h)
+
+  pub test-past : n ≤ place → (ltb place n && b) ≡ false
+  test-past h = ap (λ (c : Bool). c && b) (le-ltb place n h)
+
+-- a test of a number that fails where no peer has it, by the number at its place
+pub placed : (n id : ℕ) (xs : List ℕ) → InOrder 12 1 n xs → (p : ℕ → Bool) → ((i : ℕ) → Gap i ≡ findIn 12 1 n id 0 xs → p id ≡ false) → (place : ℕ) → place ≡ placeOf n id xs → (ltb place n && p (getD xs (place * 12) 0)) ≡ p id
+unfolding placeOf foundOr
+placed n id xs o p none place e = ap (λ (m : ℕ). ltb m n && p (getD xs (m * 12) 0)) e ∙ by (findIn 12 1 n id 0 xs) refl
+  where
+    by : (f : Found) → f ≡ findIn 12 1 n id 0 xs → (ltb (foundOr n f) n && p (getD xs (foundOr n f * 12) 0)) ≡ p id
+    by (At i) g = test-there n i (p (getD xs (i * 12) 0)) (found-inside 12 n id xs o i g .0) ∙ ap p (found-word 12 n id xs o i g)
+    by (Gap i) g = test-past n n (p (getD xs (n * 12) 0)) (omega arith) ∙ sym (none i g)
+    by Unfit g = found-fit 12 n id xs o g

@@ -6,9 +6,10 @@ use crate::peer_demand::SNAPSHOT_KEY_WORDS;
 use crate::peer_runs;
 use float::whole;
 ghost use mathlib.Core.Path.{_≡_};
-ghost use mathlib.Core.Bool.{true, cond};
-ghost use mathlib.Core.List.{[], map};
+ghost use mathlib.Core.Bool.{true, cond, _&&_};
+ghost use mathlib.Core.List.{map};
 ghost use Prim.Native.Nat.{_+_, _*_, _≤_, _<_};
+ghost use lib.Dec.{ltb};
 ghost use lib.ListN.{length, getD};
 ghost use Rattle.records.specs.Words.{copyWithin};
 ghost use Rattle.records.specs.Records.{records, overwritten};
@@ -19,7 +20,7 @@ ghost use Rattle.demand.specs.PeerState.{hasSnapshot, isTaken, exact};
 ghost use Rattle.demand.specs.PeerChanges.{isFresh, hold, agePeer};
 ghost use Rattle.demand.specs.Steps.PeerScan.{firstWord};
 ghost use Rattle.demand.specs.Steps.PeerRuns.{Tabled};
-ghost use Rattle.demand.specs.Steps.PeerSteps.{inOrder, staysContested, isStale, staysPeer};
+ghost use Rattle.demand.specs.Steps.PeerSteps.{inOrder, placeOf, staysContested, isStale, staysPeer};
 
 // One step of keeping records: the one at `i` goes behind the `kept` first ones, if it stays. Tells
 // how many are kept.
@@ -43,43 +44,63 @@ fn is_fresh(reading: u64, max_age: u64, heard_at: u64) -> bool
     reading < whole::saturating_add(heard_at, max_age)
 }
 
-// Whether a peer has a snapshot.
-fn has_snapshot(peers: &[u64], n: usize, id: u64) -> bool
+// Where the peer `id` is among the n peers; n, where it is not. It is looked for at `near` first:
+// the keys of a peer stand together.
+fn peer_place(peers: &[u64], n: usize, id: u64, near: usize) -> usize
     requires { ⌜ inOrder 12 1 n (now peers) ≡ true ⌝ }
-    ensures { λ r. ⌜ r ≡ hasSnapshot (map peerOf (records 12 n (now (peers .entry)))) id ⌝ }
+    ensures { λ r. ⌜ r ≡ placeOf n id (now (peers .entry)) ⌝ }
 {
+    if near < n {
+        if peers[near * PEER_WORDS] == id {
+            return near;
+        }
+    }
     let found = records::find(peers, PEER_WORDS, 1, n, id, 0);
     match found {
-        records::Found::At(i) => peers[i * PEER_WORDS + 3] != 0,
-        records::Found::Gap(_) => false,
-        records::Found::Unfit => false,
+        records::Found::At(i) => i,
+        records::Found::Gap(_) => n,
+        records::Found::Unfit => n,
     }
 }
 
-// Whether a contested key of a peer, heard then, stays.
+// Whether a peer is at this place and has a snapshot.
+fn has_snapshot(peers: &[u64], n: usize, place: usize) -> bool
+    requires { ⌜ inOrder 12 1 n (now peers) ≡ true ⌝ }
+    ensures { λ r. ⌜
+        r ≡ (ltb place n &&
+        hasSnapshot (map peerOf (records 12 n (now (peers .entry)))) (getD (now (peers .entry)) (place * 12) 0))
+        ⌝ }
+{
+    if place >= n {
+        return false;
+    }
+    peers[place * PEER_WORDS + 3] != 0
+}
+
+// Whether a peer is at this place and a contested key of it, heard then, stays.
 fn stays_contested(
     peers: &[u64],
     n: usize,
-    id: u64,
+    place: usize,
     heard_at: u64,
     reading: u64,
     max_age: u64,
 ) -> bool
     requires { ⌜ inOrder 12 1 n (now peers) ≡ true ⌝ }
-    ensures { λ r. ⌜ r ≡ staysContested reading «max_age» (map peerOf (records 12 n (now (peers .entry)))) id «heard_at» ⌝ }
+    ensures { λ r. ⌜
+        r ≡ (ltb place n &&
+        staysContested reading «max_age» (map peerOf (records 12 n (now (peers .entry))))
+        (getD (now (peers .entry)) (place * 12) 0) «heard_at»)
+        ⌝ }
 {
-    let found = records::find(peers, PEER_WORDS, 1, n, id, 0);
-    match found {
-        records::Found::At(i) => {
-            let at = i * PEER_WORDS;
-            if peers[at + 1] != 0 {
-                return reading < peers[at + 2];
-            }
-            is_fresh(reading, max_age, heard_at)
-        }
-        records::Found::Gap(_) => false,
-        records::Found::Unfit => false,
+    if place >= n {
+        return false;
     }
+    let at = place * PEER_WORDS;
+    if peers[at + 1] != 0 {
+        return reading < peers[at + 2];
+    }
+    is_fresh(reading, max_age, heard_at)
 }
 
 // Keeps the contested keys that stay, and tells how many.
@@ -100,11 +121,13 @@ pub(crate) fn retain_contested(
         (now (contested .entry)) (now (contested .exit))
         ⌝ }
 {
+    let mut place = 0;
     let mut kept = 0;
     let mut i = 0;
     while i < c {
         let at = i * CONTESTED_WORDS;
-        let stays = stays_contested(peers, n, contested[at], contested[at + 5], reading, max_age);
+        place = peer_place(peers, n, contested[at], place);
+        let stays = stays_contested(peers, n, place, contested[at + 5], reading, max_age);
         kept = keep_record(contested, CONTESTED_WORDS, i, kept, stays);
         i += 1;
     }
@@ -247,11 +270,13 @@ pub(crate) fn retain_snapshot_keys(
         (now («snapshot_keys» .exit))
         ⌝ }
 {
+    let mut place = 0;
     let mut kept = 0;
     let mut i = 0;
     while i < k {
         let at = i * SNAPSHOT_KEY_WORDS;
-        let stays = has_snapshot(peers, n, snapshot_keys[at]);
+        place = peer_place(peers, n, snapshot_keys[at], place);
+        let stays = has_snapshot(peers, n, place);
         kept = keep_record(snapshot_keys, SNAPSHOT_KEY_WORDS, i, kept, stays);
         i += 1;
     }

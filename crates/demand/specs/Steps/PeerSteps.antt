@@ -6,7 +6,9 @@ use mathlib.Core.List.{List}
 use mathlib.Core.Option.{Option}
 use lib.Dec.{eqb}
 use lib.ListN.{length}
-use Rattle.records.specs.Records.{records, keyed, ascending}
+use Rattle.records.specs.declared.Found.{Found}
+use Rattle.records.specs.declared.Found.the-variants.{At, Gap, Unfit}
+use Rattle.records.specs.Records.{records, keyed, ascending, findIn}
 use Rattle.demand.specs.declared.peer_demand.PeerDemand.{PeerDemand}
 use Rattle.demand.specs.PeerLists.{any, present}
 use Rattle.demand.specs.PeerRecords.{Snapshot, PeerRecord, ContestedKey}
@@ -16,6 +18,16 @@ use Rattle.demand.specs.PeerChanges.{holdEnded, notEnded, isFresh, isFre
 -- n records of w words whose keys of d words ascend
 unfoldable pub inOrder : ℕ → ℕ → ℕ → List ℕ → Bool
 inOrder w d n xs = keyed (length xs) w d n && ascending d (records w n xs)
+
+-- where a search ended; n, where it found no record
+unfoldable pub foundOr : ℕ → Found → ℕ
+foundOr n (At i) = i
+foundOr n (Gap i) = n
+foundOr n Unfit = n
+
+-- the place of the peer `id` among the n peers; n, where it is not
+unfoldable pub placeOf : ℕ → ℕ → List ℕ → ℕ
+placeOf n id xs = foundOr n (findIn 12 1 n id 0 xs)
 
 -- a contested key stays: its peer's hold has not ended, and the peer is held or the key was heard lately
 unfoldable pub staysContested : ℕ → ℕ → List PeerRecord → ℕ → ℕ → Bool

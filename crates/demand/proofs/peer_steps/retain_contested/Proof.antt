@@ -11,6 +11,8 @@ use Rattle.records.proofs.TableLaws.{wide-records}
 use Rattle.demand.specs.PeerRecords.{peerOf, contestedOf}
 use Rattle.demand.specs.Steps.PeerSteps.{staysContested}
 use Rattle.demand.proofs.PeerKeepLaws.{Kept, kept-none, kept-long, kept-all, kept-first, kept-word, kept-inside, kept-copied}
+use Rattle.demand.proofs.PeerTableLaws.{in-order-says}
+use Rattle.demand.proofs.PeerStayLaws.{stays-placed}
 use Rattle.demand.proofs.peer_steps.retain_contested.Statement.{statement}
 use Rattle.demand.proofs.peer_steps.retain_contested.Tie as tie
 
@@ -18,10 +20,10 @@ abbrev test : List ℕ → ℕ → ℕ → ℕ → List ℕ → Bool
 test peers n at age x = staysContested at age (map peerOf (records 12 n peers)) (contestedOf x .peer) (contestedOf x .heardAt)
 
 abbrev Inv-loop : tie.InvT-loop
-Inv-loop peers n contested₀ c reading max-age kept₀ i₀ contested kept i = Kept (test peers n reading max-age) 6 c (records 6 c contested₀) contested₀ contested i kept
+Inv-loop peers n contested₀ c reading max-age place₀ kept₀ i₀ contested place kept i = Kept (test peers n reading max-age) 6 c (records 6 c contested₀) contested₀ contested i kept
 
 abbrev μ-loop : tie.MeasureT-loop
-μ-loop peers n contested₀ c reading max-age kept₀ i₀ contested kept i = c - i
+μ-loop peers n contested₀ c reading max-age place₀ kept₀ i₀ contested place kept i = c - i
 
 inside : (c : tie.In-loop Inv-loop μ-loop) → (c .before .loop .kept ≤ c .before .loop .i) × (c .before .loop .i * 6 + 6 ≤ length (c .before .loop .contested))
 inside c =
@@ -39,27 +41,30 @@ loop-holds c =
 mul-at : tie.Need-mul-at Inv-loop μ-loop
 mul-at c = omega (arith, inside c)
 
-mul-stays-contested : tie.Need-mul-stays-contested Inv-loop μ-loop
-mul-stays-contested c = omega (arith, inside c)
+mul-peer-place : tie.Need-mul-peer-place Inv-loop μ-loop
+mul-peer-place c = omega (arith, inside c)
 
-slice-read-stays-contested : tie.Need-slice-read-stays-contested Inv-loop μ-loop
-slice-read-stays-contested c = omega (arith, inside (c .before))
+slice-read-peer-place : tie.Need-slice-read-peer-place Inv-loop μ-loop
+slice-read-peer-place c = omega (arith, inside (c .before))
+
+peer-place-requires : tie.Need-peer-place-requires Inv-loop μ-loop
+peer-place-requires c κs = c .before .before .before .before .before .pre .0
 
 add-stays-contested : tie.Need-add-stays-contested Inv-loop μ-loop
-add-stays-contested c = omega (arith, inside (c .before))
+add-stays-contested c = omega (arith, inside (c .before .before))
 
-mul-stays-contested-2 : tie.Need-mul-stays-contested-2 Inv-loop μ-loop
-mul-stays-contested-2 c = omega (arith, inside (c .before))
+mul-stays-contested : tie.Need-mul-stays-contested Inv-loop μ-loop
+mul-stays-contested c = omega (arith, inside (c .before .before))
 
-slice-read-stays-contested-2 : tie.Need-slice-read-stays-contested-2 Inv-loop μ-loop
-slice-read-stays-contested-2 c = omega (arith, inside (c .before .before))
+slice-read-stays-contested : tie.Need-slice-read-stays-contested Inv-loop μ-loop
+slice-read-stays-contested c = omega (arith, inside (c .before .before .before))
 
 stays-contested-requires : tie.Need-stays-contested-requires Inv-loop μ-loop
-stays-contested-requires c κs = c .before .before .before .before .before .before .pre .0
+stays-contested-requires c κs = c .before .before .before .before .before .before .before .pre .0
 
 keep-record-requires : tie.Need-keep-record-requires Inv-loop μ-loop
 keep-record-requires c κs =
-    let l = c .before .before .before .before in
+    let l = c .before .before .before .before .before in
     (omega arith, inside l .0, inside l .1)
 
 loop-again : tie.Need-loop-again Inv-loop μ-loop
@@ -67,15 +72,18 @@ unfolding contestedOf
 loop-again c =
     let r = c .before .before in
     let h = r .before .before in
-    let t = h .before .before .before in
+    let f = h .before .before in
+    let t = f .before .before in
     let l = t .before .loop in
-    let s = t .before .before .before .before .args in
+    let s₀ = t .before .before .before .before in
+    let s = s₀ .args in
     let xs : List ℕ = s .contested .now in
     let rs : List (List ℕ) = records 6 (s .c) xs in
     let p : List ℕ → Bool = test (s .peers .now) (s .n) (s .reading) (s .max-age) in
     kept-copied p 6 (s .c) rs xs (l .contested) (l .i) (l .kept) (l .inv) (t .loop-test .taken)
     (h .stays-contested .result) (r .keep-record .last .0) (r .keep-record .result) refl
     (h .stays-contested .ensures
+    ∙ stays-placed (s .n) (s .peers .now) (in-order-says 12 1 (s .n) (s .peers .now) (s₀ .pre .0)) (s .reading) (s .max-age) _ _ (f .peer-place .result) (f .peer-place .ensures)
     ∙ (λ k. staysContested (s .reading) (s .max-age) (map peerOf (records 12 (s .n) (s .peers .now)))
     (kept-first p 6 (s .c) rs xs (l .contested) (l .i) (l .kept) (l .inv) (t .loop-test .taken) k)
     (kept-word p 6 (s .c) rs xs (l .contested) (l .i) (l .kept) (l .inv) (t .loop-test .taken) 5 (omega arith) k)))
@@ -102,11 +110,12 @@ retain-contested-spec =
     μ-loop
     loop-holds
     mul-at
+    mul-peer-place
+    slice-read-peer-place
+    peer-place-requires
+    add-stays-contested
     mul-stays-contested
     slice-read-stays-contested
-    add-stays-contested
-    mul-stays-contested-2
-    slice-read-stays-contested-2
     stays-contested-requires
     keep-record-requires
     (λ c. omega arith)

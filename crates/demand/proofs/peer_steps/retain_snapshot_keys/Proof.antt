@@ -11,6 +11,8 @@ use Rattle.records.proofs.TableLaws.{wide-records}
 use Rattle.demand.specs.PeerRecords.{peerOf, snapshotKeyOf}
 use Rattle.demand.specs.PeerState.{hasSnapshot}
 use Rattle.demand.proofs.PeerKeepLaws.{Kept, kept-none, kept-long, kept-all, kept-first, kept-inside, kept-copied}
+use Rattle.demand.proofs.PeerTableLaws.{in-order-says}
+use Rattle.demand.proofs.PeerStayLaws.{taken-placed}
 use Rattle.demand.proofs.peer_steps.retain_snapshot_keys.Statement.{statement}
 use Rattle.demand.proofs.peer_steps.retain_snapshot_keys.Tie as tie
 
@@ -18,10 +20,10 @@ abbrev test : List ℕ → ℕ → List ℕ → Bool
 test peers n x = hasSnapshot (map peerOf (records 12 n peers)) (snapshotKeyOf x .peer)
 
 abbrev Inv-loop : tie.InvT-loop
-Inv-loop peers n snapshot-keys₀ k kept₀ i₀ snapshot-keys kept i = Kept (test peers n) 4 k (records 4 k snapshot-keys₀) snapshot-keys₀ snapshot-keys i kept
+Inv-loop peers n snapshot-keys₀ k place₀ kept₀ i₀ snapshot-keys place kept i = Kept (test peers n) 4 k (records 4 k snapshot-keys₀) snapshot-keys₀ snapshot-keys i kept
 
 abbrev μ-loop : tie.MeasureT-loop
-μ-loop peers n snapshot-keys₀ k kept₀ i₀ snapshot-keys kept i = k - i
+μ-loop peers n snapshot-keys₀ k place₀ kept₀ i₀ snapshot-keys place kept i = k - i
 
 inside : (c : tie.In-loop Inv-loop μ-loop) → (c .before .loop .kept ≤ c .before .loop .i) × (c .before .loop .i * 4 + 4 ≤ length (c .before .loop .snapshot-keys))
 inside c =
@@ -39,18 +41,21 @@ loop-holds c =
 mul-at : tie.Need-mul-at Inv-loop μ-loop
 mul-at c = omega (arith, inside c)
 
-mul-has-snapshot : tie.Need-mul-has-snapshot Inv-loop μ-loop
-mul-has-snapshot c = omega (arith, inside c)
+mul-peer-place : tie.Need-mul-peer-place Inv-loop μ-loop
+mul-peer-place c = omega (arith, inside c)
 
-slice-read-has-snapshot : tie.Need-slice-read-has-snapshot Inv-loop μ-loop
-slice-read-has-snapshot c = omega (arith, inside (c .before))
+slice-read-peer-place : tie.Need-slice-read-peer-place Inv-loop μ-loop
+slice-read-peer-place c = omega (arith, inside (c .before))
+
+peer-place-requires : tie.Need-peer-place-requires Inv-loop μ-loop
+peer-place-requires c κs = c .before .before .before .before .before .pre .0
 
 has-snapshot-requires : tie.Need-has-snapshot-requires Inv-loop μ-loop
-has-snapshot-requires c κs = c .before .before .before .before .before .pre .0
+has-snapshot-requires c κs = c .before .before .before .before .before .before .pre .0
 
 keep-record-requires : tie.Need-keep-record-requires Inv-loop μ-loop
 keep-record-requires c κs =
-    let l = c .before .before .before in
+    let l = c .before .before .before .before in
     (omega arith, inside l .0, inside l .1)
 
 loop-again : tie.Need-loop-again Inv-loop μ-loop
@@ -58,15 +63,19 @@ unfolding snapshotKeyOf
 loop-again c =
     let r = c .before .before in
     let h = r .before .before in
-    let t = h .before .before in
+    let f = h .before in
+    let t = f .before .before in
     let l = t .before .loop in
-    let s = t .before .before .before .before .args in
+    let s₀ = t .before .before .before .before in
+    let s = s₀ .args in
     let xs : List ℕ = s .snapshot-keys .now in
     let rs : List (List ℕ) = records 4 (s .k) xs in
     let p : List ℕ → Bool = test (s .peers .now) (s .n) in
     kept-copied p 4 (s .k) rs xs (l .snapshot-keys) (l .i) (l .kept) (l .inv) (t .loop-test .taken)
     (h .has-snapshot .result) (r .keep-record .last .0) (r .keep-record .result) refl
-    (h .has-snapshot .ensures ∙ ap (hasSnapshot (map peerOf (records 12 (s .n) (s .peers .now)))) (kept-first p 4 (s .k) rs xs (l .snapshot-keys) (l .i) (l .kept) (l .inv) (t .loop-test .taken)))
+    (h .has-snapshot .ensures
+    ∙ taken-placed (s .n) (s .peers .now) (in-order-says 12 1 (s .n) (s .peers .now) (s₀ .pre .0)) _ (f .peer-place .result) (f .peer-place .ensures)
+    ∙ ap (hasSnapshot (map peerOf (records 12 (s .n) (s .peers .now)))) (kept-first p 4 (s .k) rs xs (l .snapshot-keys) (l .i) (l .kept) (l .inv) (t .loop-test .taken)))
     (r .keep-record .ensures .0)
     (r .keep-record .ensures .1)
 
@@ -90,8 +99,9 @@ retain-snapshot-keys-spec =
     μ-loop
     loop-holds
     mul-at
-    mul-has-snapshot
-    slice-read-has-snapshot
+    mul-peer-place
+    slice-read-peer-place
+    peer-place-requires
     has-snapshot-requires
     keep-record-requires
     (λ c. omega arith)
