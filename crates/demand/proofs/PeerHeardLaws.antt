@@ -1,12 +1,12 @@
 -- What lookups of the tables say of a key.
 use Prim.Native.Nat.{ℕ, zero, suc, _+_, _-_, _*_, _^_, _<_}
 use mathlib.Core.Path.{_≡_, refl, sym, ap, _∙_}
-use mathlib.Core.Bool.{Bool, true, false, cond, not, _&&_, _||_}
+use mathlib.Core.Bool.{Bool, true, false, cond, _&&_, _||_}
 use mathlib.Core.List.{List, [], _∷_, map}
 use mathlib.Core.Option.{Option, none, some}
 use native.Mathlib.Omega.{arith}
 use borrow.Author.Tests.{eq-eqb, eqb-true, ltb-true, lt-leb}
-use lib.Dec.{ltb, leb, eqb, eqb·suc-zero}
+use lib.Dec.{ltb, leb, eqb}
 use lib.Ieee.{lt}
 use lib.ListN.{length, getD}
 use Rattle.records.specs.declared.Found.the-variants.{At, Gap}
@@ -17,7 +17,6 @@ use Rattle.records.proofs.OrderLaws.{keyAt}
 use Rattle.records.proofs.PlaceLaws.{at-says}
 use Rattle.demand.specs.declared.peer_demand.Heard.{Heard}
 use Rattle.demand.specs.PeerLists.{only, first, those}
-use Rattle.demand.specs.Words.{flagOf}
 use Rattle.demand.specs.PeerRecords.{PeerRecord, SnapshotKey, ContestedKey, snapshotOf, peerOf, snapshotKeyOf, contestedOf}
 use Rattle.demand.specs.PeerState.{peerWith, isDemand}
 use Rattle.demand.specs.Steps.PeerScan.{firstWord, areKeyWords}
@@ -28,10 +27,6 @@ use Rattle.demand.proofs.PeerRangeLaws.{secondWord, only-only}
 use Rattle.demand.proofs.PeerFindLaws.{Long, key-1, key-2, found-alone, found-none}
 use Rattle.demand.proofs.PeerValidLaws.{record-length}
 use Rattle.demand.proofs.PeerRowLaws.{word-at}
-
-pub flag-is : (w : ℕ) → not (eqb w 0) ≡ flagOf w
-flag-is zero = refl
-flag-is (suc w) = ap not (eqb·suc-zero w)
 
 -- ---- the record with two words
 abbrev pub hasWords : ℕ → ℕ → List ℕ → Bool

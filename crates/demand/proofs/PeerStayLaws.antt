@@ -5,7 +5,7 @@ use mathlib.Core.Bool.{Bool, true, false, cond, not, _&&_, _||_, and-comm, and-a
 use mathlib.Core.List.{List, [], _∷_, map}
 use mathlib.Core.Option.{Option, none, some}
 use native.Mathlib.Omega.{arith}
-use borrow.Author.Tests.{ltb-true, ltb-false, le-leb, lt-leb, ne-eqb}
+use borrow.Author.Tests.{ltb-true, ltb-false, le-leb, lt-leb}
 use lib.Dec.{ltb, leb, eqb}
 use lib.ListN.{getD}
 use Rattle.records.specs.declared.Found.the-variants.{At, Gap}
@@ -18,6 +18,7 @@ use Rattle.demand.specs.PeerState.{isKnown, isTaken, isHeld, hasSnapshot
 use Rattle.demand.specs.PeerChanges.{holdEnded, notEnded, isFresh, isFreshSnapshot, isHeldPeer, agePeer}
 use Rattle.demand.specs.Steps.PeerSteps.{placeOf, staysContested, isStale, staysPeer}
 use Rattle.demand.proofs.PeerRangeLaws.{any-same, any-only}
+use Rattle.demand.proofs.PeerWordLaws.{flag-is}
 use Rattle.demand.proofs.PeerRowLaws.{word-at}
 use Rattle.demand.proofs.PeerTableLaws.{InOrder, found-here, any-at, any-gap, test-there, placed}
 
@@ -97,6 +98,11 @@ free-stays at (suc flag) until fresh h = let z : ⊥ = omega arith in absurd z
 
 -- ---- a snapshot key, by its peer's record
 
+-- a snapshot is there where its flag is set
+pub taken-flag : (w e r h : ℕ) → flagOf w ≡ present (snapshotOf w e r h)
+taken-flag zero e r h = refl
+taken-flag (suc w) e r h = refl
+
 module _ (n : ℕ) (xs : List ℕ) (o : InOrder 12 1 n xs) where
   abbrev taken : ℕ → Bool
   taken id = hasSnapshot (map peerOf (records 12 n xs)) id
@@ -108,12 +114,8 @@ module _ (n : ℕ) (xs : List ℕ) (o : InOrder 12 1 n xs) where
       let id : ℕ = getD xs (i * 12) 0 in
       test-there n i (taken id) h
       ∙ any-at 12 n id xs o peerOf (λ (p : PeerRecord). p .id) (λ r. refl) isTaken i (found-here 12 n id xs o i h refl)
-      ∙ flag-test (getD (getD (records 12 n xs) i []) 3 0) _ _ _
+      ∙ sym (flag-is (getD (getD (records 12 n xs) i []) 3 0) ∙ taken-flag (getD (getD (records 12 n xs) i []) 3 0) _ _ _)
       ∙ ap (λ (w : ℕ). not (eqb w 0)) (word-at 12 n xs i 3 h (omega arith))
-    where
-      flag-test : (w e r t : ℕ) → present (snapshotOf w e r t) ≡ not (eqb w 0)
-      flag-test zero e r t = refl
-      flag-test (suc w) e r t = sym (ap not (ne-eqb (suc w) 0 (λ q. omega arith)))
 
   pub taken-placed : (id i : ℕ) → i ≡ placeOf n id xs → (ltb i n && taken (getD xs (i * 12) 0)) ≡ taken id
   unfolding hasSnapshot peerOf
@@ -151,10 +153,6 @@ module _ (at id held until taken : ℕ) (cs : List ContestedKey) where
       by zero zero e f = refl
       by zero (suc flag′) e f = let z : ⊥ = omega arith in absurd z
       by (suc flag) flag′ e f = let z : ⊥ = omega arith in absurd z
-
-pub taken-flag : (w e r h : ℕ) → flagOf w ≡ present (snapshotOf w e r h)
-taken-flag zero e r h = refl
-taken-flag (suc w) e r h = refl
 
 -- ---- a snapshot that is too old
 

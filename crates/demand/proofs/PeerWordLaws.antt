@@ -1,10 +1,11 @@
 -- Records and their words: each is the other's inverse where it should be.
-use Prim.Native.Nat.{ℕ, suc, _≤_}
+use Prim.Native.Nat.{ℕ, zero, suc, _≤_}
 use mathlib.Core.Path.{_≡_, refl, ap, _∙_}
-use mathlib.Core.Bool.{Bool, true, false}
+use mathlib.Core.Bool.{Bool, true, false, not}
 use mathlib.Core.List.{List, [], _∷_, _++_, map}
 use mathlib.Core.Option.{Option, none, some}
 use native.Mathlib.Omega.{arith}
+use lib.Dec.{eqb, eqb·suc-zero}
 use lib.ListN.{length, take, length-append}
 use lib.Seq.{length-take-le}
 use Rattle.records.specs.Records.{same}
@@ -19,6 +20,11 @@ use Rattle.demand.specs.PeerRecords.{Snapshot, PeerRecord, SnapshotKey, 
 pub flag-of-word : (b : Bool) → flagOf (flagWord b) ≡ b
 flag-of-word false = refl
 flag-of-word true = refl
+
+-- a flag word is set where it is not 0
+pub flag-is : (w : ℕ) → not (eqb w 0) ≡ flagOf w
+flag-is zero = refl
+flag-is (suc w) = ap not (eqb·suc-zero w)
 
 -- the record of a snapshot key's words is the key
 pub snapshot-key-of-words : (k : SnapshotKey) → snapshotKeyOf (snapshotKeyWords k) ≡ k
