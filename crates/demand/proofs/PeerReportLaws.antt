@@ -234,13 +234,12 @@ seven-shift e l = (λ i. min (at-seven l 0 i + 1) 4 ∷ e ∷ at-seven l 1 i ∷
 too-many : {P : Type 0} (a b c d e : ℕ) (es : List ℕ) → length (a ∷ b ∷ c ∷ d ∷ e ∷ es) ≤ 4 → P
 too-many a b c d e es h = absurd (not-suc-le-zero (le-of-suc-le-suc (le-of-suc-le-suc (le-of-suc-le-suc (le-of-suc-le-suc h)))))
 
-five-words : (past : List ℕ) → length past ≤ 4 → word 0 (pastWords past) ∷ word 1 (pastWords past) ∷ word 2 (pastWords past) ∷ word 3 (pastWords past) ∷ word 4 (pastWords past) ∷ [] ≡ pastWords past
-five-words [] h = refl
-five-words (a ∷ []) h = refl
-five-words (a ∷ b ∷ []) h = refl
-five-words (a ∷ b ∷ c ∷ []) h = refl
-five-words (a ∷ b ∷ c ∷ d ∷ []) h = refl
-five-words (a ∷ b ∷ c ∷ d ∷ e ∷ es) h = too-many a b c d e es h
+five-words : (past : List ℕ) → word 0 (pastWords past) ∷ word 1 (pastWords past) ∷ word 2 (pastWords past) ∷ word 3 (pastWords past) ∷ word 4 (pastWords past) ∷ [] ≡ pastWords past
+five-words [] = refl
+five-words (a ∷ []) = refl
+five-words (a ∷ b ∷ []) = refl
+five-words (a ∷ b ∷ c ∷ []) = refl
+five-words (a ∷ b ∷ c ∷ d ∷ es) = refl
 
 one-more-past : (x : ℕ) (past : List ℕ) → length past ≤ 4 → min (word 0 (pastWords past) + 1) 4 ∷ x ∷ word 1 (pastWords past) ∷ word 2 (pastWords past) ∷ word 3 (pastWords past) ∷ [] ≡ pastWords (x ∷ take 3 past)
 one-more-past x [] h = refl
@@ -250,41 +249,36 @@ one-more-past x (a ∷ b ∷ c ∷ []) h = refl
 one-more-past x (a ∷ b ∷ c ∷ d ∷ []) h = refl
 one-more-past x (a ∷ b ∷ c ∷ d ∷ e ∷ es) h = too-many a b c d e es h
 
-module _ (id at : ℕ) (r : DemandReport) (old : List ℕ) (f : PeerFacts old) where
-  taken-is : (past : List ℕ) → peerWords (changes.takenPeer id r at past) ≡ id ∷ 0 ∷ 0 ∷ 1 ∷ r .epoch ∷ r .round ∷ at ∷ pastWords past
-  unfolding peerWords
-  taken-is past = refl
-
-  after-none : word 3 old ≡ 0 → pastAfter r old ≡ []
-  after-none e = ap (λ (s : Option Snapshot). nextPast r s (peerOf old .pastEpochs)) (snapshot-none old f e)
-
+module _ (r : DemandReport) (old : List ℕ) (f : PeerFacts old) where
   after-some : (word 3 old ≡ 0 → ⊥) → pastAfter r old ≡ cond (eqb (word 4 old) (r .epoch)) (peerOf old .pastEpochs) (word 4 old ∷ take 3 (peerOf old .pastEpochs))
   after-some h = ap (λ (s : Option Snapshot). nextPast r s (peerOf old .pastEpochs)) (snapshot-some old f h)
 
   five : drop 7 old ≡ pastWords (peerOf old .pastEpochs)
   five = ap (drop 7) (f .exact) ∙ past-words (peerOf old)
 
-  pub taken-first : word 3 old ≡ 0 → id ∷ 0 ∷ 0 ∷ 1 ∷ r .epoch ∷ r .round ∷ at ∷ 0 ∷ 0 ∷ 0 ∷ 0 ∷ 0 ∷ [] ≡ peerWords (changes.takenPeer id r at (pastAfter r old))
-  taken-first e = sym (taken-is (pastAfter r old) ∙ ap (λ (l : List ℕ). id ∷ 0 ∷ 0 ∷ 1 ∷ r .epoch ∷ r .round ∷ at ∷ pastWords l) (after-none e))
+  pub past-first : word 3 old ≡ 0 → 0 ∷ 0 ∷ 0 ∷ 0 ∷ 0 ∷ [] ≡ pastWords (pastAfter r old)
+  past-first e = sym (ap (λ (s : Option Snapshot). pastWords (nextPast r s (peerOf old .pastEpochs))) (snapshot-none old f e))
 
-  pub taken-again : (word 3 old ≡ 0 → ⊥) → word 4 old ≡ r .epoch → id ∷ 0 ∷ 0 ∷ 1 ∷ r .epoch ∷ r .round ∷ at ∷ word 7 old ∷ word 8 old ∷ word 9 old ∷ word 10 old ∷ word 11 old ∷ [] ≡ peerWords (changes.takenPeer id r at (pastAfter r old))
-  taken-again h e =
+  pub past-again : (word 3 old ≡ 0 → ⊥) → word 4 old ≡ r .epoch → word 7 old ∷ word 8 old ∷ word 9 old ∷ word 10 old ∷ word 11 old ∷ [] ≡ pastWords (pastAfter r old)
+  past-again h e =
       let q : pastAfter r old ≡ peerOf old .pastEpochs = after-some h ∙ ap (λ (b : Bool). cond b (peerOf old .pastEpochs) (word 4 old ∷ take 3 (peerOf old .pastEpochs))) (eq-eqb (word 4 old) (r .epoch) e) in
-      ap (λ (l : List ℕ). id ∷ 0 ∷ 0 ∷ 1 ∷ r .epoch ∷ r .round ∷ at ∷ l) (words-of (peerOf old .pastEpochs) (few-past old f) old five)
-      ∙ sym (taken-is (pastAfter r old) ∙ ap (λ (l : List ℕ). id ∷ 0 ∷ 0 ∷ 1 ∷ r .epoch ∷ r .round ∷ at ∷ pastWords l) q)
-    where
-      words-of : (past : List ℕ) → length past ≤ 4 → (l : List ℕ) → drop 7 l ≡ pastWords past → word 7 l ∷ word 8 l ∷ word 9 l ∷ word 10 l ∷ word 11 l ∷ [] ≡ pastWords past
-      words-of past k l e =
-          seven-more l
-          ∙ ap (λ (z : List ℕ). word 0 z ∷ word 1 z ∷ word 2 z ∷ word 3 z ∷ word 4 z ∷ []) e
-          ∙ five-words past k
+      seven-more old
+      ∙ ap (λ (z : List ℕ). word 0 z ∷ word 1 z ∷ word 2 z ∷ word 3 z ∷ word 4 z ∷ []) five
+      ∙ five-words (peerOf old .pastEpochs)
+      ∙ sym (ap pastWords q)
 
-  pub taken-anew : (word 3 old ≡ 0 → ⊥) → (word 4 old ≡ r .epoch → ⊥) → (count : ℕ) → count ≡ min (word 7 old + 1) 4 → id ∷ 0 ∷ 0 ∷ 1 ∷ r .epoch ∷ r .round ∷ at ∷ count ∷ word 4 old ∷ word 8 old ∷ word 9 old ∷ word 10 old ∷ [] ≡ peerWords (changes.takenPeer id r at (pastAfter r old))
-  taken-anew h e count ec =
+  pub past-anew : (word 3 old ≡ 0 → ⊥) → (word 4 old ≡ r .epoch → ⊥) → (count : ℕ) → count ≡ min (word 7 old + 1) 4 → count ∷ word 4 old ∷ word 8 old ∷ word 9 old ∷ word 10 old ∷ [] ≡ pastWords (pastAfter r old)
+  past-anew h e count ec =
       let q : pastAfter r old ≡ word 4 old ∷ take 3 (peerOf old .pastEpochs) = after-some h ∙ ap (λ (b : Bool). cond b (peerOf old .pastEpochs) (word 4 old ∷ take 3 (peerOf old .pastEpochs))) (ne-eqb (word 4 old) (r .epoch) e) in
-      ap (λ (l : List ℕ). id ∷ 0 ∷ 0 ∷ 1 ∷ r .epoch ∷ r .round ∷ at ∷ l)
-      (ap (λ (z : ℕ). z ∷ word 4 old ∷ word 8 old ∷ word 9 old ∷ word 10 old ∷ []) ec
+      ap (λ (z : ℕ). z ∷ word 4 old ∷ word 8 old ∷ word 9 old ∷ word 10 old ∷ []) ec
       ∙ seven-shift (word 4 old) old
       ∙ ap (λ (z : List ℕ). min (word 0 z + 1) 4 ∷ word 4 old ∷ word 1 z ∷ word 2 z ∷ word 3 z ∷ []) five
-      ∙ one-more-past (word 4 old) (peerOf old .pastEpochs) (few-past old f))
-      ∙ sym (taken-is (pastAfter r old) ∙ ap (λ (l : List ℕ). id ∷ 0 ∷ 0 ∷ 1 ∷ r .epoch ∷ r .round ∷ at ∷ pastWords l) q)
+      ∙ one-more-past (word 4 old) (peerOf old .pastEpochs) (few-past old f)
+      ∙ sym (ap pastWords q)
+
+-- the words of the peer with these past epochs
+pub taken-with : (id at : ℕ) (r : DemandReport) (past ws : List ℕ) → ws ≡ pastWords past → id ∷ 0 ∷ 0 ∷ 1 ∷ r .epoch ∷ r .round ∷ at ∷ word 0 ws ∷ word 1 ws ∷ word 2 ws ∷ word 3 ws ∷ word 4 ws ∷ [] ≡ peerWords (changes.takenPeer id r at past)
+unfolding peerWords
+taken-with id at r past ws e =
+    ap (λ (z : List ℕ). id ∷ 0 ∷ 0 ∷ 1 ∷ r .epoch ∷ r .round ∷ at ∷ word 0 z ∷ word 1 z ∷ word 2 z ∷ word 3 z ∷ word 4 z ∷ []) e
+    ∙ ap (λ (z : List ℕ). id ∷ 0 ∷ 0 ∷ 1 ∷ r .epoch ∷ r .round ∷ at ∷ z) (five-words past)
