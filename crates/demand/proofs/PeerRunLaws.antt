@@ -207,14 +207,6 @@ never-at i e = let z : _≡_ {A = ℕ} 0 1 = cc in omega arith
 never-gap : (i : ℕ) → Unfit ≡ Gap i → ⊥
 never-gap i e = let z : _≡_ {A = ℕ} 0 1 = cc in omega arith
 
--- the word that records share is the first of their words
-pub run-own : (w id n : ℕ) (xs : List ℕ) → Run w id n xs → 2 ≤ w → Run w (word 0 xs) n xs
-unfolding records all
-run-own w id zero xs u two = record { fit = u .fit; shared = refl; ascends = u .ascends }
-run-own w id (suc n) xs u two =
-    let e : word 0 (take w xs) ≡ id = eqb-true (word 0 (take w xs)) id (all-index (λ (r : List ℕ). eqb (word 0 r) id) [] (records w (suc n) xs) (u .shared) 0 (omega (arith, length-records w (suc n) xs))) in
-    subst (λ (a : ℕ). Run w a (suc n) xs) (sym e ∙ getD-take w xs 0 0 (omega arith)) u
-
 module _ (w id n : ℕ) (xs : List ℕ) (u : Run w id n xs) (two : 2 ≤ w) where
   pub run-wide : Wide w (records w n xs)
   run-wide = wide-records w n xs (u .fit)

@@ -72,6 +72,11 @@ pub record Run (w id n : ℕ) (xs : List ℕ) : Type 0 where
   pub shared : all (λ (r : List ℕ). eqb (word 0 r) id) (records w n xs) ≡ true
   pub ascends : ascending 2 (records w n xs) ≡ true
 
+-- the same, whichever word it is
+pub record OneRun (w n : ℕ) (xs : List ℕ) : Type 0 where
+  pub id : ℕ
+  pub run : Run w id n xs
+
 -- ---- keys of one peer
 
 -- a kind of keys: how many words they are, the words, what words stand for, and which keys are valid
