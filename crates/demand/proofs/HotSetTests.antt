@@ -15,7 +15,7 @@ use Rattle.demand.specs.declared.hot_set.Cooling.the-variants.{Unset, Si
 use Rattle.demand.specs.declared.hot_set.HotEntry.{HotEntry}
 use Rattle.demand.specs.HotSetCalls.{room}
 
--- no time has passed before `t`
+-- the first record follows none
 pub first-follows : (at : ℕ) (xs : List ℕ) → at < 6 → true ≡ follows at xs
 unfolding follows
 first-follows at xs h = rw (lt-ltb at 6 h)

@@ -2,6 +2,7 @@
 use mathlib.Core.Path.{_≡_, refl, sym, ap, _∙_}
 use mathlib.Core.Bool.{Bool, true, false, _&&_, _||_}
 use mathlib.Core.List.{List, [], _∷_, _++_, map}
+use mathlib.Core.Option.{Option, none, some}
 use Prim.Native.Nat.{ℕ, zero, suc, _+_, _-_, _*_, _≤_, _<_}
 use native.Mathlib.Nat.{add-zero}
 use native.Mathlib.Omega.{arith}
@@ -18,8 +19,9 @@ use Rattle.records.proofs.TestLaws.{split, both}
 use Rattle.records.proofs.TableLaws as records
 use Rattle.records.proofs.TableLaws.{Wide}
 use Rattle.records.proofs.RecordLaws.{length-records}
-use Rattle.demand.specs.Words.{flagWord}
-use Rattle.demand.specs.HotSet.{coolingFlag, coolingTime, words, cooling, entry, entries, isEntry, allEntries}
+use Rattle.demand.specs.Words.{flagOf, timeOf, isTime}
+use Rattle.demand.proofs.WordLaws.{flag-of-word, flag-back, flag-small, time-of-words, time-is, time-flag-back, time-word-back}
+use Rattle.demand.specs.HotSet.{coolingTime, words, cooling, entry, entries, isEntry, allEntries}
 use Rattle.demand.specs.declared.hot_set.Cooling.{Cooling}
 use Rattle.demand.specs.declared.hot_set.Cooling.the-variants.{Unset, Since}
 use Rattle.demand.specs.declared.hot_set.HotEntry.{HotEntry}
@@ -32,7 +34,7 @@ module _ (at : ℕ) (xs : List ℕ) where
   abbrev pub number : Bool
   number = magnitude (ofBits binary64 (word 1))
 
-  is-entry-at : isEntry (drop at xs) ≡ (number && (leb (word 2) 1 && (leb (word 3) 1 && (eqb (word 3) 1 || eqb (word 4) 0))))
+  is-entry-at : isEntry (drop at xs) ≡ (number && (leb (word 2) 1 && isTime (word 3) (word 4)))
   unfolding isEntry
   is-entry-at = simp getD-drop
 
@@ -42,20 +44,14 @@ module _ (at : ℕ) (xs : List ℕ) where
   pub no-primary : number ≡ true → 1 < word 2 → false ≡ isEntry (drop at xs)
   no-primary e h = rw is-entry-at (rw (e, lt-leb (word 2) 1 h))
 
-  pub no-flag : number ≡ true → word 2 ≤ 1 → 1 < word 3 → false ≡ isEntry (drop at xs)
-  no-flag e h k = rw is-entry-at (rw (e, le-leb (word 2) 1 h, lt-leb (word 3) 1 k))
-
-  pub flag-set : number ≡ true → word 2 ≤ 1 → word 3 ≡ 1 → true ≡ isEntry (drop at xs)
-  flag-set e h k = rw is-entry-at (rw (e, le-leb (word 2) 1 h, le-leb (word 3) 1 (omega arith), eq-eqb (word 3) 1 k))
-
-  pub flag-clear : number ≡ true → word 2 ≤ 1 → word 3 ≤ 1 → (word 3 ≡ 1 → ⊥) → eqb (word 4) 0 ≡ isEntry (drop at xs)
-  flag-clear e h k l = rw is-entry-at (rw (e, le-leb (word 2) 1 h, le-leb (word 3) 1 k, ne-eqb (word 3) 1 l))
+  pub by-time : number ≡ true → word 2 ≤ 1 → isTime (word 3) (word 4) ≡ isEntry (drop at xs)
+  by-time e h = rw is-entry-at (rw (e, le-leb (word 2) 1 h))
 
 pub entry-at : (at : ℕ) (xs : List ℕ) → entry (drop at xs) ≡ record {
   key = getD xs at 0;
   demand = ofBits binary64 (getD xs (at + 1) 0);
-  primary = eqb (getD xs (at + 2) 0) 1;
-  «cooling_since» = cooling (eqb (getD xs (at + 3) 0) 1) (getD xs (at + 4) 0);
+  primary = flagOf (getD xs (at + 2) 0);
+  «cooling_since» = cooling (timeOf (getD xs (at + 3) 0) (getD xs (at + 4) 0));
   since = getD xs (at + 5) 0;
 }
 unfolding entry
@@ -79,28 +75,25 @@ bits-back b e =
     let h : b < 9218868437227405312 = ltb-true b 9218868437227405312 (magnitude-bits binary64 b ∙ e) in
     toBits-ofBits binary64 b (omega arith) (magnitude-no-nan (ofBits binary64 b) (T-of (magnitude (ofBits binary64 b)) e))
 
-flag-back : (p : ℕ) → p ≤ 1 → flagWord (eqb p 1) ≡ p
-flag-back p h = split (eqb p 1)
-    (λ e. ap flagWord e ∙ sym (eqb-true p 1 e))
-    (λ e. ap flagWord e ∙ let k = eqb-false p 1 e in omega arith)
+cooling-there : (t : Option ℕ) → coolingTime (cooling t) ≡ t
+cooling-there none = refl
+cooling-there (some t) = refl
 
-cooling-flag-back : (f t : ℕ) → f ≤ 1 → coolingFlag (cooling (eqb f 1) t) ≡ f
-cooling-flag-back f t h = split (eqb f 1)
-    (λ e. ap (λ (b : Bool). coolingFlag (cooling b t)) e ∙ sym (eqb-true f 1 e))
-    (λ e. ap (λ (b : Bool). coolingFlag (cooling b t)) e ∙ let k = eqb-false f 1 e in omega arith)
+cooling-back : (c : Cooling) → cooling (coolingTime c) ≡ c
+cooling-back Unset = refl
+cooling-back (Since t) = refl
 
-cooling-time-back : (f t : ℕ) → (eqb f 1 || eqb t 0) ≡ true → coolingTime (cooling (eqb f 1) t) ≡ t
-cooling-time-back f t h = split (eqb f 1)
-    (λ e. ap (λ (b : Bool). coolingTime (cooling b t)) e)
-    (λ e. ap (λ (b : Bool). coolingTime (cooling b t)) e ∙ sym (eqb-true t 0 (sym (ap (λ (b : Bool). b || eqb t 0) e) ∙ h)))
+-- words whose flag is set
+pub cools-since : (flag time : ℕ) → (flag ≡ 0 → ⊥) → Since time ≡ cooling (timeOf flag time)
+cools-since zero time h = absurd (h refl)
+cools-since (suc flag) time h = refl
 
 pub words-entry : (r : List ℕ) → length r ≡ 6 → isEntry r ≡ true → words (entry r) ≡ r
 unfolding words entry isEntry
 words-entry (a ∷ b ∷ p ∷ f ∷ t ∷ s ∷ []) h g =
     let m = both (magnitude (ofBits binary64 b)) _ g in
     let q = both (leb p 1) _ (m .1) in
-    let u = both (leb f 1) _ (q .1) in
-    rw (bits-back b (m .0), flag-back p (leb-true p 1 (q .0)), cooling-flag-back f t (leb-true f 1 (u .0)), cooling-time-back f t (u .1))
+    rw (bits-back b (m .0), flag-back p (q .0), cooling-there (timeOf f t), time-flag-back f t (q .1), time-word-back f t (q .1))
 words-entry [] h g = absurd (omega arith)
 words-entry (a ∷ []) h g = absurd (omega arith)
 words-entry (a ∷ b ∷ []) h g = absurd (omega arith)
@@ -109,37 +102,17 @@ words-entry (a ∷ b ∷ p ∷ f ∷ []) h g = absurd (omega arith)
 words-entry (a ∷ b ∷ p ∷ f ∷ t ∷ []) h g = absurd (omega arith)
 words-entry (a ∷ b ∷ p ∷ f ∷ t ∷ s ∷ z ∷ zs) h g = absurd (omega arith)
 
-flag-read : (b : Bool) → eqb (flagWord b) 1 ≡ b
-flag-read true = refl
-flag-read false = refl
-
-cooling-read : (c : Cooling) → cooling (eqb (coolingFlag c) 1) (coolingTime c) ≡ c
-cooling-read Unset = refl
-cooling-read (Since t) = refl
-
 pub entry-words : (e : HotEntry) → T (fits binary64 (e .demand)) → entry (words e) ≡ e
 unfolding words entry
-entry-words e F = rw (ofBits-toBits binary64 (e .demand) F, flag-read (e .primary), cooling-read (e .«cooling_since»))
+entry-words e F = rw (ofBits-toBits binary64 (e .demand) F, flag-of-word (e .primary), time-of-words (coolingTime (e .«cooling_since»)), cooling-back (e .«cooling_since»))
 
 pub length-words : (e : HotEntry) → length (words e) ≡ 6
 unfolding words
 length-words e = refl
 
-flag-small : (b : Bool) → leb (flagWord b) 1 ≡ true
-flag-small true = refl
-flag-small false = refl
-
-cooling-small : (c : Cooling) → leb (coolingFlag c) 1 ≡ true
-cooling-small Unset = refl
-cooling-small (Since t) = refl
-
-cooling-zero : (c : Cooling) → (eqb (coolingFlag c) 1 || eqb (coolingTime c) 0) ≡ true
-cooling-zero Unset = refl
-cooling-zero (Since t) = refl
-
 pub is-entry-words : (e : HotEntry) → T (fits binary64 (e .demand)) → magnitude (e .demand) ≡ true → isEntry (words e) ≡ true
 unfolding words isEntry
-is-entry-words e F m = rw (ofBits-toBits binary64 (e .demand) F, m, flag-small (e .primary), cooling-small (e .«cooling_since»), cooling-zero (e .«cooling_since»))
+is-entry-words e F m = rw (ofBits-toBits binary64 (e .demand) F, m, flag-small (e .primary), time-is (coolingTime (e .«cooling_since»)))
 
 -- ---- the first n records
 pub length-entries : (n : ℕ) (xs : List ℕ) → length (entries n xs) ≡ n

@@ -15,6 +15,7 @@ pub mod Alpha
 pub mod Averages
 pub mod Ranges
 pub mod Kept
+pub mod WordLaws
 pub mod HotSetTests
 pub mod HotSetWords
 pub mod HotSetMap

@@ -10,7 +10,7 @@ use borrow.Author.Tests.{ltb-true, ltb-false, lt-ltb, leb-true, le-leb, eqb-true
 use lib.Dec.{ltb, leb, eqb}
 use lib.ListN.{length, length-append}
 use Rattle.records.specs.Records.{leads, ascending}
-use Rattle.records.proofs.TestLaws.{contradiction, split, both, and-intro}
+use Rattle.records.proofs.TestLaws.{contradiction, split, both, and-intro, eqb-turn}
 use Rattle.demand.specs.PeerLists.{all, any, only, those, replaced}
 use Rattle.demand.specs.PeerRecords.{PeerRecord, SnapshotKey, ContestedKey, pastWords, peerWords, snapshotKeyWords, contestedWords}
 use Rattle.demand.specs.PeerState.{PeersState, isWord, isTaken, isKnown, hasSnapshot, validPast, validPeer, validSnapshotKey, validContested, validPeers, validSnapshotKeys, validContesteds, valid}
@@ -20,7 +20,6 @@ use Rattle.demand.specs.PeerCalls.{hasPlace}
 use Rattle.demand.specs.Steps.PeerRuns.{word}
 use Rattle.demand.proofs.PeerKindLaws.{Keys, Contesteds}
 use Rattle.demand.proofs.PeerListLaws.{all-map}
-use Rattle.demand.proofs.PeerScanLaws.{eqb-turn}
 use Rattle.demand.proofs.PeerRangeLaws.{only-yes, only-no, only-append, only-same, replaced-words, any-counted}
 use Rattle.demand.proofs.PeerOrderLaws.{all-append, all-only, only-passes, all-replaced, all-imply, all-two, length-replaced, asc-replaced, first-before}
 

@@ -8,7 +8,7 @@ use borrow.Author.Tests.{ltb-true, eqb-true, ne-eqb}
 use lib.Dec.{eqb}
 use lib.ListN.{length}
 use Rattle.records.specs.Records.{key, before, ascending}
-use Rattle.records.proofs.TestLaws.{split, both}
+use Rattle.records.proofs.TestLaws.{split, both, eqb-turn}
 use Rattle.records.proofs.OrderLaws.{before-word}
 use Rattle.gcra.specs.Questions.{firstNo}
 use Rattle.demand.specs.declared.peer_demand.PeerDemand.{PeerDemand}
@@ -20,7 +20,6 @@ use Rattle.demand.specs.Steps.PeerHeard.{isListed, counted}
 use Rattle.demand.specs.PeerCalls.{peersQuestions}
 use Rattle.demand.proofs.PeerRangeLaws.{only-yes, only-no, only-same, only-only, any-those}
 use Rattle.demand.proofs.PeerOrderLaws.{all-only, all-imply, asc-ahead, asc-rest}
-use Rattle.demand.proofs.PeerScanLaws.{eqb-turn}
 use Rattle.demand.proofs.PeerCallLaws.{asked-all}
 use Rattle.demand.proofs.PeerKeptLaws.{ValidState, valid-says, only-all, taken-known}
 

@@ -22,7 +22,8 @@ use Rattle.gcra.proofs.Answers.{answer-passed, passed-none}
 use Rattle.demand.specs.PeerLists.{only, all, any, first, present, those}
 use Rattle.demand.specs.PeerRecords.{PeerRecord, SnapshotKey, ContestedKey, snapshotOf, peerOf, snapshotKeyOf, contestedOf}
 use Rattle.demand.specs.PeerState.{PeersState, PeerTables, maxPeers, maxDemandKeys, maxContested, peerWith, stateOf, isWord}
-use Rattle.demand.specs.Steps.PeerScan.{firstWord, isTime, isSnapshot, isPeer, arePeerWords, areKeyWords, arePeers, areKeys, isScanned, PeersReady}
+use Rattle.demand.specs.Words.{isTime}
+use Rattle.demand.specs.Steps.PeerScan.{firstWord, isSnapshot, isPeer, arePeerWords, areKeyWords, arePeers, areKeys, isScanned, PeersReady}
 use Rattle.demand.specs.PeerChanges.{snapshotIn}
 use Rattle.demand.specs.PeerReaders.{heardTaken, heardContested, snapshotKeyAt, contestedAt, join, heard, addHeard, totalFrom, total, isPrimary, hotElsewhere}
 use Rattle.demand.specs.Steps.PeerHeard.{counted, isListed, KeyTable, StateReady}

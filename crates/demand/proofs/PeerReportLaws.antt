@@ -102,23 +102,19 @@ no-peer-valid id h = and-intro (isWord id && true) _ (and-intro (isWord id) true
 
 pub past-count : (p : PeerRecord) → word 7 (peerWords p) ≡ length (p .pastEpochs)
 unfolding peerWords
-past-count p = by (p .heldUntil) (p .snapshot)
+past-count p = by (p .snapshot)
   where
-    by : (t : Option ℕ) (s : Option Snapshot) → word 7 (p .id ∷ (timeWords t ++ (snapshotWords s ++ pastWords (p .pastEpochs)))) ≡ length (p .pastEpochs)
-    by none none = refl
-    by none (some s) = refl
-    by (some t) none = refl
-    by (some t) (some s) = refl
+    by : (s : Option Snapshot) → word 7 (p .id ∷ (timeWords (p .heldUntil) ++ (snapshotWords s ++ pastWords (p .pastEpochs)))) ≡ length (p .pastEpochs)
+    by none = refl
+    by (some s) = refl
 
 pub past-words : (p : PeerRecord) → drop 7 (peerWords p) ≡ pastWords (p .pastEpochs)
 unfolding peerWords
-past-words p = by (p .heldUntil) (p .snapshot)
+past-words p = by (p .snapshot)
   where
-    by : (t : Option ℕ) (s : Option Snapshot) → drop 7 (p .id ∷ (timeWords t ++ (snapshotWords s ++ pastWords (p .pastEpochs)))) ≡ pastWords (p .pastEpochs)
-    by none none = refl
-    by none (some s) = refl
-    by (some t) none = refl
-    by (some t) (some s) = refl
+    by : (s : Option Snapshot) → drop 7 (p .id ∷ (timeWords (p .heldUntil) ++ (snapshotWords s ++ pastWords (p .pastEpochs)))) ≡ pastWords (p .pastEpochs)
+    by none = refl
+    by (some s) = refl
 
 -- the snapshot of a peer that has one
 abbrev pub oldSnapshot : List ℕ → Snapshot

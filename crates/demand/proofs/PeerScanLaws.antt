@@ -9,23 +9,16 @@ use lib.Dec.{ltb, leb, eqb, eqb·suc-zero}
 use lib.ListN.{length, take, drop, getD}
 use lib.Seq.{getD-drop}
 use Rattle.records.specs.Records.{same}
-use Rattle.records.proofs.TestLaws.{split}
+use Rattle.records.proofs.TestLaws.{eqb-self, eqb-turn}
 use Rattle.records.proofs.OrderLaws.{same-eq}
 use Rattle.demand.specs.PeerLists.{all, present}
-use Rattle.demand.specs.Words.{flagWord, flagOf, timeWords, timeOf}
+use Rattle.demand.specs.Words.{isTime, flagWord, flagOf, timeWords, timeOf}
+use Rattle.demand.proofs.WordLaws.{flag-word, time-words}
 use Rattle.demand.specs.PeerRecords.{snapshotWords, snapshotOf, pastWords, peerWords, snapshotKeyWords, contestedWords, peerOf, snapshotKeyOf, contestedOf}
 use Rattle.demand.specs.PeerState.{isWord, isDemand, validSnapshot, validPast, pastHasSnapshot, validPeer, validSnapshotKey, validContested}
-use Rattle.demand.specs.Steps.PeerScan.{isTime, isSnapshot, isPastEpoch, isPast, isPeer, arePeerWords, areKeyWords}
+use Rattle.demand.specs.Steps.PeerScan.{isSnapshot, isPastEpoch, isPast, isPeer, arePeerWords, areKeyWords}
 
 -- ---- tests
-pub eqb-self : (n : ℕ) → eqb n n ≡ true
-eqb-self n = eq-eqb n n refl
-
-pub eqb-turn : (m n : ℕ) → eqb m n ≡ eqb n m
-eqb-turn m n = split (eqb m n)
-    (λ e. e ∙ sym (eq-eqb n m (sym (eqb-true m n e))))
-    (λ e. split (eqb n m) (λ f. eq-eqb m n (sym (eqb-true n m f)) ∙ sym f) (λ f. e ∙ sym f))
-
 pub and-left : (a b c : Bool) → (a && (b && c)) ≡ (b && (a && c))
 and-left true b c = refl
 and-left false true c = refl
@@ -69,11 +62,6 @@ words-12 P m =
     four-words P 8 (λ a b c d. four-words (λ r. P (a ∷ b ∷ c ∷ d ∷ r)) 4 (λ e f g h. words-4 (λ r. P (a ∷ b ∷ c ∷ d ∷ e ∷ f ∷ g ∷ h ∷ r)) (m a b c d e f g h)))
 
 -- ---- the parts of a peer
-time-words : (flag time : ℕ) → same (timeWords (timeOf flag time)) (flag ∷ time ∷ []) ≡ isTime flag time
-unfolding same isTime
-time-words zero time = rw (and-true, eqb-turn 0 time)
-time-words (suc flag) time = rw (eqb-self time, and-true, eqb-turn 1 (suc flag))
-
 snapshot-words : (flag epoch round at : ℕ) → (same (snapshotWords (snapshotOf flag epoch round at)) (flag ∷ epoch ∷ round ∷ at ∷ []) && validSnapshot (snapshotOf flag epoch round at)) ≡ isSnapshot flag epoch round at
 unfolding same isSnapshot
 snapshot-words zero epoch round at = rw (eqb-turn 0 epoch, eqb-turn 0 round, eqb-turn 0 at) (simp ands)
@@ -171,12 +159,6 @@ peer-words a b c d e f g h i j k l word =
 pub peer-words-pass : (r : List ℕ) → length r ≡ 12 → PeerIs r
 peer-words-pass = words-12 PeerIs peer-words
 
--- a flag is 0 or 1
-flag-word : (flag : ℕ) → eqb (flagWord (flagOf flag)) flag ≡ leb flag 1
-flag-word zero = refl
-flag-word (suc zero) = refl
-flag-word (suc (suc n)) = ne-eqb 1 (suc (suc n)) (λ e. omega (arith, e)) ∙ sym (lt-leb (suc (suc n)) 1 (omega arith))
-
 key-group : (f w d : Bool) → (f ≡ true → w ≡ true) → (f && (w && d)) ≡ (d && (f && true))
 key-group true w d h = ap (λ (z : Bool). z && d) (h refl) ∙ sym (and-true d)
 key-group false w d h = sym (and-false d)
@@ -219,15 +201,6 @@ stop a b e = sym (ap (λ (z : Bool). z && b) e)
 
 pub goes : (a b x : Bool) → a ≡ true → x ≡ b → x ≡ (a && b)
 goes a b x e f = f ∙ sym (ap (λ (z : Bool). z && b) e)
-
-pub time-absent : (flag time : ℕ) → flag ≡ 0 → eqb time 0 ≡ isTime flag time
-unfolding isTime
-time-absent flag time e = sym (ap (λ (f : ℕ). isTime f time) e)
-
-pub time-present : (flag time : ℕ) → (flag ≡ 0 → ⊥) → eqb flag 1 ≡ isTime flag time
-unfolding isTime
-time-present zero time h = absurd (h refl)
-time-present (suc flag) time h = refl
 
 module _ (flag epoch round at : ℕ) where
   absent : flag ≡ 0 → (eqb epoch 0 && (eqb round 0 && eqb at 0)) ≡ isSnapshot flag epoch round at

@@ -18,7 +18,7 @@ use Rattle.demand.specs.PeerState.{isKnown, isTaken, isHeld, hasSnapshot
 use Rattle.demand.specs.PeerChanges.{holdEnded, notEnded, isFresh, isFreshSnapshot, isHeldPeer, agePeer}
 use Rattle.demand.specs.Steps.PeerSteps.{placeOf, staysContested, isStale, staysPeer}
 use Rattle.demand.proofs.PeerRangeLaws.{any-same, any-only}
-use Rattle.demand.proofs.PeerWordLaws.{flag-is}
+use Rattle.demand.proofs.WordLaws.{flag-is}
 use Rattle.demand.proofs.PeerRowLaws.{word-at}
 use Rattle.demand.proofs.PeerTableLaws.{InOrder, found-here, any-at, any-gap, test-there, placed}
 

@@ -14,17 +14,9 @@ use Rattle.records.proofs.TableLaws.{Wide}
 use Rattle.records.proofs.TestLaws.{both}
 use Rattle.demand.specs.PeerLists.{all}
 use Rattle.demand.specs.PeerState.{exact}
-use Rattle.demand.specs.Words.{flagWord, flagOf, timeWords}
+use Rattle.demand.specs.Words.{timeWords}
+use Rattle.demand.proofs.WordLaws.{flag-of-word}
 use Rattle.demand.specs.PeerRecords.{Snapshot, PeerRecord, SnapshotKey, ContestedKey, snapshotWords, pastWords, peerWords, snapshotKeyWords, contestedWords, peerOf, snapshotKeyOf, contestedOf}
-
-pub flag-of-word : (b : Bool) → flagOf (flagWord b) ≡ b
-flag-of-word false = refl
-flag-of-word true = refl
-
--- a flag word is set where it is not 0
-pub flag-is : (w : ℕ) → not (eqb w 0) ≡ flagOf w
-flag-is zero = refl
-flag-is (suc w) = ap not (eqb·suc-zero w)
 
 -- the record of a snapshot key's words is the key
 pub snapshot-key-of-words : (k : SnapshotKey) → snapshotKeyOf (snapshotKeyWords k) ≡ k
@@ -87,7 +79,7 @@ wide-map words w h (x ∷ xs) = (h x, wide-map words w h xs)
 
 pub peer-long : (p : PeerRecord) → length (peerWords p) ≡ 12
 unfolding peerWords
-peer-long p = by (p .heldUntil) (p .snapshot) (p .pastEpochs)
+peer-long p = by (p .snapshot) (p .pastEpochs)
   where
     four : (es : List ℕ) → length (take 4 (es ++ (0 ∷ 0 ∷ 0 ∷ 0 ∷ []))) ≡ 4
     four es = length-take-le 4 (es ++ (0 ∷ 0 ∷ 0 ∷ 0 ∷ [])) (omega (arith, length-append es (0 ∷ 0 ∷ 0 ∷ 0 ∷ []), four-zeros))
@@ -95,11 +87,9 @@ peer-long p = by (p .heldUntil) (p .snapshot) (p .pastEpochs)
         four-zeros : length {A = ℕ} (0 ∷ 0 ∷ 0 ∷ 0 ∷ []) ≡ 4
         four-zeros = refl
 
-    by : (h : Option ℕ) (s : Option Snapshot) (es : List ℕ) → length (p .id ∷ (timeWords h ++ (snapshotWords s ++ pastWords es))) ≡ 12
-    by none none es = ap (λ (m : ℕ). suc (suc (suc (suc (suc (suc (suc (suc m)))))))) (four es)
-    by none (some s) es = ap (λ (m : ℕ). suc (suc (suc (suc (suc (suc (suc (suc m)))))))) (four es)
-    by (some h) none es = ap (λ (m : ℕ). suc (suc (suc (suc (suc (suc (suc (suc m)))))))) (four es)
-    by (some h) (some s) es = ap (λ (m : ℕ). suc (suc (suc (suc (suc (suc (suc (suc m)))))))) (four es)
+    by : (s : Option Snapshot) (es : List ℕ) → length (p .id ∷ (timeWords (p .heldUntil) ++ (snapshotWords s ++ pastWords es))) ≡ 12
+    by none es = ap (λ (m : ℕ). suc (suc (suc (suc (suc (suc (suc (suc m)))))))) (four es)
+    by (some s) es = ap (λ (m : ℕ). suc (suc (suc (suc (suc (suc (suc (suc m)))))))) (four es)
 
 pub key-long : (k : SnapshotKey) → length (snapshotKeyWords k) ≡ 4
 unfolding snapshotKeyWords

@@ -1,7 +1,7 @@
 -- The hot set (003), on the list of its entries in ascending order of their keys. Definitions only.
 use Prim.Native.Nat.{ℕ, _-_}
 use mathlib.Core.Bool.{Bool, true, false, cond, _&&_, _||_}
-use mathlib.Core.List.{List, [], _∷_, map}
+use mathlib.Core.List.{List, [], _∷_, _++_, map}
 use mathlib.Core.Option.{Option, none, some}
 use lib.Dec.{ltb, leb, eqb}
 use lib.Ieee.{Float, binary64, toBits, ofBits, lt, mul}
@@ -9,7 +9,7 @@ use lib.ListN.{length, getD}
 use Rattle.float.specs.Magnitude.{magnitude}
 use Rattle.float.specs.Order.{totalLess}
 use Rattle.records.specs.Records.{records, ascending}
-use Rattle.demand.specs.Words.{flagWord}
+use Rattle.demand.specs.Words.{flagWord, flagOf, timeWords, timeOf, isTime}
 use Rattle.demand.specs.declared.hot_set.Cooling.{Cooling}
 use Rattle.demand.specs.declared.hot_set.Cooling.the-variants.{Unset, Since}
 use Rattle.demand.specs.declared.hot_set.HotEntry.{HotEntry}
@@ -17,31 +17,27 @@ use Rattle.demand.specs.declared.hot_set.HotSet.{HotSet}
 
 -- ---- an entry as words (01, 'The saved image', kind 3: key, demand, primary, cooling since?, since)
 
--- a time that may be missing has a flag word first and is 0 if missing
-abbrev pub coolingFlag : Cooling → ℕ
-coolingFlag Unset = 0
-coolingFlag (Since t) = 1
+-- since when an entry cools: a time that may be missing
+abbrev pub coolingTime : Cooling → Option ℕ
+coolingTime Unset = none
+coolingTime (Since t) = some t
 
-abbrev pub coolingTime : Cooling → ℕ
-coolingTime Unset = 0
-coolingTime (Since t) = t
+abbrev pub cooling : Option ℕ → Cooling
+cooling none = Unset
+cooling (some t) = Since t
 
 -- the words of an entry's record
 unfoldable pub words : HotEntry → List ℕ
 words e =
-    e .key ∷ toBits binary64 (e .demand) ∷ flagWord (e .primary) ∷ coolingFlag (e .«cooling_since») ∷ coolingTime (e .«cooling_since») ∷ e .since ∷ []
-
-abbrev pub cooling : Bool → ℕ → Cooling
-cooling true t = Since t
-cooling false t = Unset
+    e .key ∷ toBits binary64 (e .demand) ∷ flagWord (e .primary) ∷ (timeWords (coolingTime (e .«cooling_since»)) ++ (e .since ∷ []))
 
 -- the entry of a record's words
 unfoldable pub entry : List ℕ → HotEntry
 entry r = record {
   key = getD r 0 0;
   demand = ofBits binary64 (getD r 1 0);
-  primary = eqb (getD r 2 0) 1;
-  «cooling_since» = cooling (eqb (getD r 3 0) 1) (getD r 4 0);
+  primary = flagOf (getD r 2 0);
+  «cooling_since» = cooling (timeOf (getD r 3 0) (getD r 4 0));
   since = getD r 5 0;
 }
 
@@ -53,9 +49,7 @@ entries n xs = map entry (records 6 n xs)
 
 -- the demand is finite with a clear sign bit, flags are 0 or 1, a time is 0 if missing
 unfoldable pub isEntry : List ℕ → Bool
-isEntry r =
-    magnitude (ofBits binary64 (getD r 1 0))
-    && (leb (getD r 2 0) 1 && (leb (getD r 3 0) 1 && (eqb (getD r 3 0) 1 || eqb (getD r 4 0) 0)))
+isEntry r = magnitude (ofBits binary64 (getD r 1 0)) && (leb (getD r 2 0) 1 && isTime (getD r 3 0) (getD r 4 0))
 
 unfoldable pub allEntries : List (List ℕ) → Bool
 allEntries [] = true

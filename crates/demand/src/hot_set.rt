@@ -12,6 +12,7 @@ ghost use lib.Dec.{leb, eqb};
 ghost use lib.ListN.{length, drop};
 ghost use Rattle.records.specs.Records.{records, table, fits};
 ghost use Rattle.gcra.specs.Questions.{passes};
+ghost use Rattle.demand.specs.Words.{timeFlag, timeWord, timeOf};
 ghost use Rattle.demand.specs.HotSet as Set;
 ghost use Rattle.demand.specs.Steps.HotSetSteps.{slot, follows, Held, Evicts, Promotes, Cools, Updates};
 ghost use Rattle.demand.specs.HotSetCalls as Calls;
@@ -91,7 +92,7 @@ enum Slot {
 impl Cooling {
     // The two words of a time that may be missing, and back.
     fn flag(self) -> u64
-        ensures { λ r. ⌜ r ≡ Set.coolingFlag self ⌝ }
+        ensures { λ r. ⌜ r ≡ timeFlag (Set.coolingTime self) ⌝ }
     {
         match self {
             Cooling::Unset => 0,
@@ -100,7 +101,7 @@ impl Cooling {
     }
 
     fn time(self) -> u64
-        ensures { λ r. ⌜ r ≡ Set.coolingTime self ⌝ }
+        ensures { λ r. ⌜ r ≡ timeWord (Set.coolingTime self) ⌝ }
     {
         match self {
             Cooling::Unset => 0,
@@ -109,12 +110,12 @@ impl Cooling {
     }
 
     fn of_words(flag: u64, time: u64) -> Self
-        ensures { λ r. ⌜ r ≡ Set.cooling (eqb flag 1) time ⌝ }
+        ensures { λ r. ⌜ r ≡ Set.cooling (timeOf flag time) ⌝ }
     {
-        if flag == 1 {
-            return Cooling::Since(time);
+        if flag == 0 {
+            return Cooling::Unset;
         }
-        Cooling::Unset
+        Cooling::Since(time)
     }
 }
 
@@ -161,7 +162,7 @@ impl HotEntry {
         HotEntry {
             key: hot[at],
             demand,
-            primary: hot[at + 2] == 1,
+            primary: hot[at + 2] != 0,
             cooling_since,
             since: hot[at + 5],
         }
@@ -247,13 +248,7 @@ fn is_entry(hot: &[u64], at: usize) -> bool
     if hot[at + 2] > 1 {
         return false;
     }
-    if hot[at + 3] > 1 {
-        return false;
-    }
-    if hot[at + 3] == 1 {
-        return true;
-    }
-    hot[at + 4] == 0
+    words::is_time(hot[at + 3], hot[at + 4])
 }
 
 // Whether the key at `at` is above the one before it, if there is one.

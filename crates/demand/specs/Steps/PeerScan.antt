@@ -7,15 +7,11 @@ use lib.Dec.{ltb, leb, eqb}
 use lib.ListN.{getD, drop, length}
 use Rattle.records.specs.Records.{records, ascending}
 use Rattle.demand.specs.declared.peer_demand.PeerDemand.{PeerDemand}
+use Rattle.demand.specs.Words.{isTime}
 use Rattle.demand.specs.PeerLists.{all, any, those}
 use Rattle.demand.specs.PeerState.{PeerTables, maxPeers, maxDemandKeys, maxContested, isDemand}
 
--- a time that is missing has two words 0, one that is there the flag 1
-unfoldable pub isTime : ℕ → ℕ → Bool
-isTime zero time = eqb time 0
-isTime (suc flag) time = eqb (suc flag) 1
-
--- so has a snapshot, and its epoch and round fit their widths
+-- a snapshot that is missing has four words 0; one that is there has the flag 1, and its epoch and round fit their widths
 unfoldable pub isSnapshot : ℕ → ℕ → ℕ → ℕ → Bool
 isSnapshot zero epoch round heardAt = eqb epoch 0 && (eqb round 0 && eqb heardAt 0)
 isSnapshot (suc flag) epoch round heardAt = eqb (suc flag) 1 && (ltb epoch (2 ^ 32) && ltb round (2 ^ 16))

@@ -3,7 +3,7 @@ use mathlib.Core.Bool.{true}
 use mathlib.Core.Path.{_≡_, sym, _∙_}
 use borrow.Author.Tests.{not-true, not-false}
 use borrow.Author.Needs.{needs}
-use Rattle.demand.proofs.HotSetWords.{number, no-number, no-primary, no-flag, flag-set, flag-clear}
+use Rattle.demand.proofs.HotSetWords.{number, no-number, no-primary, by-time}
 use Rattle.demand.proofs.hot_set.is_entry.Statement.{statement}
 use Rattle.demand.proofs.hot_set.is_entry.Tie as tie
 
@@ -20,13 +20,11 @@ returns-2 : tie.Need-returns-2
 returns-2 c = let e = c .before .before in let s = start e in no-primary (s .args .at) (s .args .hot .now) (finite e) (c .if2 .taken)
 
 returns-3 : tie.Need-returns-3
-returns-3 c = let e = c .before .before .before .before in let s = start e in no-flag (s .args .at) (s .args .hot .now) (finite e) (c .before .before .if2 .left) (c .if3 .taken)
-
-returns-4 : tie.Need-returns-4
-returns-4 c = let e = c .before .before .before .before .before .before in let s = start e in flag-set (s .args .at) (s .args .hot .now) (finite e) (c .before .before .before .before .if2 .left) (c .if4 .taken)
-
-returns-5 : tie.Need-returns-5
-returns-5 c = let e = c .before .before .before .before .before .before .before in let s = start e in flag-clear (s .args .at) (s .args .hot .now) (finite e) (c .before .before .before .before .before .if2 .left) (c .before .before .before .if3 .left) (c .before .if4 .left)
+returns-3 c =
+    let f = c .before .before .before in
+    let e = f .before .before in
+    let s = start e in
+    c .is-time .ensures ∙ by-time (s .args .at) (s .args .hot .now) (finite e) (f .if2 .left)
 
 pub is-entry-spec : {M : Type 1} → statement M
 is-entry-spec =
@@ -44,12 +42,8 @@ is-entry-spec =
     (λ c. search needs)
     (λ c. search needs)
     (λ c. search needs)
-    returns-3
     (λ c. search needs)
     (λ c. search needs)
     (λ c. search needs)
-    returns-4
-    (λ c. search needs)
-    (λ c. search needs)
-    (λ c. search needs)
-    returns-5)
+    (λ c κs. search needs)
+    returns-3)

@@ -3,7 +3,8 @@ use mathlib.Core.Path.{_≡_, sym, ap, _∙_}
 use mathlib.Core.Bool.{Bool, true, false, _||_}
 use lib.Dec.{eqb}
 use borrow.Author.Tests.{lt-ltb, le-ltb, not-true, not-false}
-use Rattle.demand.specs.Steps.PeerScan.{isTime, isSnapshot, isPast, isPeer}
+use Rattle.demand.specs.Words.{isTime}
+use Rattle.demand.specs.Steps.PeerScan.{isSnapshot, isPast, isPeer}
 use Rattle.demand.proofs.PeerScanLaws.{stop, goes}
 use borrow.Author.Needs.{needs}
 use Rattle.demand.proofs.peer_scan.is_peer.Statement.{statement}

@@ -1,11 +1,12 @@
 -- `HotEntry::of_words` meets its contract.
 use borrow.Author.Needs.{needs}
+use Rattle.demand.proofs.WordLaws.{flag-is}
 use Rattle.demand.proofs.HotSetWords.{entry-at}
 use Rattle.demand.proofs.hot_set.HotEntry.of_words.Statement.{statement}
 use Rattle.demand.proofs.hot_set.HotEntry.of_words.Tie as tie
 
 returns : tie.Need-returns
-returns c = rw (entry-at, c .before .before .before .of-words .ensures, c .before .before .before .before .before .before .from-bits .ensures)
+returns c = rw (entry-at, flag-is, c .before .before .before .of-words .ensures, c .before .before .before .before .before .before .from-bits .ensures)
 
 pub of-words-spec : {M : Type 1} → statement M
 of-words-spec =

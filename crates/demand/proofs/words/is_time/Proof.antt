@@ -1,7 +1,7 @@
 -- `is_time` meets its contract.
-use Rattle.demand.proofs.PeerScanLaws.{time-absent, time-present}
-use Rattle.demand.proofs.peer_scan.is_time.Statement.{statement}
-use Rattle.demand.proofs.peer_scan.is_time.Tie as tie
+use Rattle.demand.proofs.WordLaws.{time-absent, time-present}
+use Rattle.demand.proofs.words.is_time.Statement.{statement}
+use Rattle.demand.proofs.words.is_time.Tie as tie
 
 returns : tie.Need-returns
 returns c = time-absent _ _ (c .if1 .taken)
