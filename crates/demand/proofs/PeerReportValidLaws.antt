@@ -15,7 +15,7 @@ use Rattle.demand.specs.declared.peer_demand.KeyDemand.{KeyDemand}
 use Rattle.demand.specs.declared.peer_demand.DemandReport.{DemandReport}
 use Rattle.demand.specs.declared.peer_demand.Verdict.{Verdict}
 use Rattle.demand.specs.PeerLists.{all, first, those}
-use Rattle.demand.specs.Words.{timeWords}
+use Rattle.demand.specs.Words.{timeFlag, timeWord, timeWords}
 use Rattle.demand.specs.PeerRecords.{Snapshot, PeerRecord, SnapshotKey, ContestedKey, snapshotWords, pastWords, peerWords}
 use Rattle.demand.specs.PeerState.{PeersState, isWord, peerWith, isKnown, snapshotKeysOf, contestedKeysOf, valid, validSnapshot, validPast, validPeer, validSnapshotKey}
 use Rattle.demand.specs.PeerChanges as changes
@@ -77,7 +77,7 @@ parts-of p v =
 -- a snapshot's time is a word
 time-of : (p : PeerRecord) (o : Snapshot) → validPeer p ≡ true → p .snapshot ≡ some o → o .heardAt < 2 ^ 64
 unfolding validPeer peerWords all
-time-of p o v e = by (p .heldUntil) (p .snapshot) e (both (all isWord (peerWords p)) _ v .0)
+time-of p o v e = by (p .snapshot) e (both (all isWord (peerWords p)) _ v .0)
   where
     sixth : (x : Snapshot) → some x ≡ some o → all isWord (x .epoch ∷ x .round ∷ x .heardAt ∷ pastWords (p .pastEpochs)) ≡ true → o .heardAt < 2 ^ 64
     sixth x e a =
@@ -85,10 +85,11 @@ time-of p o v e = by (p .heldUntil) (p .snapshot) e (both (all isWord (peerWords
         let t = both (isWord (x .round)) _ (both (isWord (x .epoch)) _ a .1) in
         subst (λ (y : Snapshot). y .heardAt < 2 ^ 64) q (ltb-true (x .heardAt) (2 ^ 64) (both (isWord (x .heardAt)) _ (t .1) .0))
 
-    by : (h : Option ℕ) (s : Option Snapshot) → s ≡ some o → all isWord (p .id ∷ (timeWords h ++ (snapshotWords s ++ pastWords (p .pastEpochs)))) ≡ true → o .heardAt < 2 ^ 64
-    by h none e a = let z : _≡_ {A = ℕ} 0 1 = cc in absurd (omega arith)
-    by none (some x) e a = sixth x e (both (isWord (p .id)) _ a .1)
-    by (some h) (some x) e a = sixth x e (both (isWord h) _ (both (isWord (p .id)) _ a .1) .1)
+    by : (s : Option Snapshot) → s ≡ some o → all isWord (p .id ∷ (timeWords (p .heldUntil) ++ (snapshotWords s ++ pastWords (p .pastEpochs)))) ≡ true → o .heardAt < 2 ^ 64
+    by none e a = let z : _≡_ {A = ℕ} 0 1 = cc in absurd (omega arith)
+    by (some x) e a =
+        let h = both (isWord (timeFlag (p .heldUntil))) _ (both (isWord (p .id)) _ a .1) in
+        sixth x e (both (isWord (timeWord (p .heldUntil))) _ (h .1) .1)
 
 known-some : (id : ℕ) (ps : List PeerRecord) (p : PeerRecord) (qs : List PeerRecord) → those (λ (q : PeerRecord). q .id) id ps ≡ p ∷ qs → isKnown ps id ≡ true
 unfolding isKnown those

@@ -130,13 +130,9 @@ same-peer a b c d e f g h i j k l =
     let past : List ℕ = pastWords (take h (i ∷ j ∷ k ∷ l ∷ [])) in
     let rest : List ℕ = snapshotWords (snapshotOf d e f g) ++ past in
     ap (λ (z : Bool). z && same (timeWords (timeOf b c) ++ rest) (b ∷ c ∷ d ∷ e ∷ f ∷ g ∷ h ∷ i ∷ j ∷ k ∷ l ∷ [])) (eqb-self a)
-    ∙ same-append (timeWords (timeOf b c)) (b ∷ c ∷ []) rest (d ∷ e ∷ f ∷ g ∷ h ∷ i ∷ j ∷ k ∷ l ∷ []) (two b)
+    ∙ same-append (timeWords (timeOf b c)) (b ∷ c ∷ []) rest (d ∷ e ∷ f ∷ g ∷ h ∷ i ∷ j ∷ k ∷ l ∷ []) refl
     ∙ ap (λ (z : Bool). same (timeWords (timeOf b c)) (b ∷ c ∷ []) && z) (same-append (snapshotWords (snapshotOf d e f g)) (d ∷ e ∷ f ∷ g ∷ []) past (h ∷ i ∷ j ∷ k ∷ l ∷ []) (four d))
   where
-    two : (b : ℕ) → length (timeWords (timeOf b c)) ≡ 2
-    two zero = refl
-    two (suc b) = refl
-
     four : (d : ℕ) → length (snapshotWords (snapshotOf d e f g)) ≡ 4
     four zero = refl
     four (suc d) = refl

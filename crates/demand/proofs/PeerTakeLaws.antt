@@ -153,13 +153,11 @@ word-small (w ∷ ws) (suc i) a = word-small ws i (both (isWord w) _ a .1)
 
 round-of : (p : PeerRecord) → validPeer p ≡ true → word 5 (peerWords p) < 2 ^ 16
 unfolding validPeer peerWords
-round-of p v = by (p .heldUntil) (p .snapshot) (both (validSnapshot (p .snapshot)) _ (both (all isWord (peerWords p)) _ v .1) .0)
+round-of p v = by (p .snapshot) (both (validSnapshot (p .snapshot)) _ (both (all isWord (peerWords p)) _ v .1) .0)
   where
-    by : (h : Option ℕ) (s : Option Snapshot) → validSnapshot s ≡ true → word 5 (p .id ∷ (timeWords h ++ (snapshotWords s ++ pastWords (p .pastEpochs)))) < 2 ^ 16
-    by none none e = omega arith
-    by none (some s) e = ltb-true (s .round) (2 ^ 16) (both (ltb (s .epoch) (2 ^ 32)) _ e .1)
-    by (some h) none e = omega arith
-    by (some h) (some s) e = ltb-true (s .round) (2 ^ 16) (both (ltb (s .epoch) (2 ^ 32)) _ e .1)
+    by : (s : Option Snapshot) → validSnapshot s ≡ true → word 5 (p .id ∷ (timeWords (p .heldUntil) ++ (snapshotWords s ++ pastWords (p .pastEpochs)))) < 2 ^ 16
+    by none e = omega arith
+    by (some s) e = ltb-true (s .round) (2 ^ 16) (both (ltb (s .epoch) (2 ^ 32)) _ e .1)
 
 pub record OldPeer (id : ℕ) (ps : List PeerRecord) (old : List ℕ) : Type 0 where
   pub facts : PeerFacts old
