@@ -20,7 +20,7 @@ use Rattle.demand.specs.PeerRecords.{Snapshot, PeerRecord, SnapshotKey, 
 use Rattle.demand.specs.PeerState.{PeersState, PeerTables, isWord, peerWith, isKnown, snapshotKeysOf, contestedKeysOf, stateOf, exact, valid, validSnapshot, validPast, validPeer, validSnapshotKey}
 use Rattle.demand.specs.PeerChanges as changes
 use Rattle.demand.specs.PeerCalls.{hasPlace, Widths}
-use Rattle.demand.specs.Steps.PeerRuns.{word, keysIn, contestedIn, peersIn, replacedRun, Replaceable, Tabled, KeyRun, contestedAfter, Contestable, orNew, nextPast, pastAfter, Reported, Read, Stores}
+use Rattle.demand.specs.Steps.PeerRuns.{word, keysIn, contestedIn, peersIn, replacedRun, Replaceable, Tabled, KeyRun, contestedAfter, keptAfter, Contestable, orNew, nextPast, pastAfter, Reported, Read, Stores}
 use Rattle.demand.proofs.PeerWordLaws.{peer-of-words, peer-long}
 use Rattle.demand.proofs.PeerValidLaws.{all-take}
 use Rattle.demand.proofs.PeerOrderLaws.{all-only, all-imply, length-replaced}
@@ -327,7 +327,7 @@ module _ (p : PeerDemand) (t : PeerTables) (id at : ℕ) (r : DemandReport) (o :
           → (n k c : ℕ) (ps′ ks′ cs′ : List ℕ)
           → Tabled n (replacedRun 12 (p .peers) id ws (t .peers)) (t .peers) ps′
           → Tabled k (replacedRun 4 (p .«snapshot_keys») id keys (t .snapshotKeys)) (t .snapshotKeys) ks′
-          → Tabled c (map contestedWords (changes.withContested id (cond kept (changes.contest (word 5 old) (word 6 old) (keysIn (length held / 4) held) (contestedKeysOf id (contestedIn (p .contested) (t .contested)))) (contestedKeysOf id (contestedIn (p .contested) (t .contested)))) (contestedIn (p .contested) (t .contested)))) (t .contested) cs′
+          → Tabled c (map contestedWords (keptAfter kept (p .contested) id held (word 5 old) (word 6 old) (t .contested))) (t .contested) cs′
           → Stores (changes.takeReport id r at (pastAfter r old) keep (stateOf p t)) (record { peers = n; «snapshot_keys» = k; contested = c }) t (record { peers = ps′; snapshotKeys = ks′; contested = cs′ })
       unfolding changes.takeReport stateOf
       take-stores keep kept ek n k c ps′ ks′ cs′ tn tk tc =

@@ -3,6 +3,8 @@ use Prim.Native.Nat.{ℕ, _+_, _*_, _^_}
 use mathlib.Core.Bool.{Bool, true, _&&_, _||_}
 use mathlib.Core.List.{List, map}
 use mathlib.Core.Option.{Option, none, some}
+use denote.Ref.{RefT, now}
+use denote.Triple.Both.{Both}
 use lib.Dec.{ltb, leb, eqb}
 use lib.ListN.{length}
 use Rattle.records.specs.Records.{records, table, ascending, same}
@@ -115,6 +117,16 @@ pub record PeerTables : Type 0 where
 
 abbrev pub tables : List ℕ → List ℕ → List ℕ → PeerTables
 tables peers snapshotKeys contested = record { peers = peers; snapshotKeys = snapshotKeys; contested = contested }
+
+-- of the references that are lent; and at a call's entry and at its exit
+abbrev pub lent : RefT (List ℕ) → RefT (List ℕ) → RefT (List ℕ) → PeerTables
+lent peers snapshotKeys contested = tables (now peers) (now snapshotKeys) (now contested)
+
+abbrev pub atEntry : {X Y Z : Type 0} → Both (RefT (List ℕ)) X → Both (RefT (List ℕ)) Y → Both (RefT (List ℕ)) Z → PeerTables
+atEntry peers snapshotKeys contested = lent (peers .entry) (snapshotKeys .entry) (contested .entry)
+
+abbrev pub atExit : {X Y Z : Type 0} → Both X (RefT (List ℕ)) → Both Y (RefT (List ℕ)) → Both Z (RefT (List ℕ)) → PeerTables
+atExit peers snapshotKeys contested = lent (peers .exit) (snapshotKeys .exit) (contested .exit)
 
 -- question 1's formula: words of a record times the most records, and 64 spare contested records while a report is merged
 abbrev pub peersSize : ℕ

@@ -117,6 +117,15 @@ contestedAfter n id keys round at xs =
     (changes.contest round at (keysIn (length keys / 4) keys) (contestedKeysOf id (contestedIn n xs)))
     (contestedIn n xs)
 
+-- the same where they are contested or not
+abbrev pub keptAfter : Bool → ℕ → ℕ → List ℕ → ℕ → ℕ → List ℕ → List ContestedKey
+keptAfter keep n id keys round at xs =
+    changes.withContested id
+    (cond keep
+    (changes.contest round at (keysIn (length keys / 4) keys) (contestedKeysOf id (contestedIn n xs)))
+    (contestedKeysOf id (contestedIn n xs)))
+    (contestedIn n xs)
+
 -- valid contested keys, and room for them after that
 pub record Contestable (n id : ℕ) (keys : List ℕ) (round at : ℕ) (xs : List ℕ) : Type 0 where
   pub fit : n * 6 ≤ length xs
