@@ -8,25 +8,28 @@ use Rattle.records.proofs.TestLaws.{both, and-intro}
 use Rattle.demand.specs.declared.peer_demand.DemandReport.{DemandReport}
 use Rattle.demand.specs.declared.peer_demand.PeerDemand.{PeerDemand}
 use Rattle.demand.specs.declared.peer_demand.PeersChanged.{PeersChanged}
-use Rattle.demand.specs.declared.peer_demand.ChangeAnswer.the-variants as change-answer
 use Rattle.gcra.specs.Questions.{Question, passes, changed, firstNo}
 use Rattle.gcra.proofs.Answers.{Numbered, answer-no, answer-passed, kept-no, changed-passed, passed-none}
 use Rattle.demand.specs.PeerState.{PeersState, PeerTables, haveRoom, stateOf, isValid, countsOf, written}
 use Rattle.demand.specs.Steps.PeerRuns.{Stores, Becomes}
-use Rattle.demand.specs.PeerCalls.{peersQuestions, reportQuestions, Changes}
-use Rattle.demand.specs.Steps.PeerSteps.{Valid}
+use Rattle.demand.specs.PeerCalls.{changeAnswer, peersQuestions, reportQuestions, Changes}
+use Rattle.demand.specs.Steps.PeerSteps.{Valid, refusedWith, doneWith}
 
 module _ (qs : List Question) (change : PeersState → PeersState) (p : PeerDemand) (t : PeerTables) where
   -- a 'no' changes nothing
-  pub changes-not : (n : ℕ) → n ≡ firstNo qs → (n ≡ 0 → ⊥) → Changes qs change p t (record { answer = change-answer.No n; peers = p }) t
-  changes-not n e h = record { answered = answer-no tt qs n e h; value = kept-no _ p qs n e h; words = kept-no _ t qs n e h }
+  pub changes-not : (n : ℕ) (r : PeersChanged) → n ≡ firstNo qs → (n ≡ 0 → ⊥) → r ≡ refusedWith n p → Changes qs change p t r t
+  changes-not n r e h f = record {
+    answered = ap (λ (x : PeersChanged). changeAnswer (x .answer)) f ∙ answer-no tt qs n e h;
+    value = ap (λ (x : PeersChanged). x .peers) f ∙ kept-no _ p qs n e h;
+    words = kept-no _ t qs n e h;
+  }
 
-  pub changes-done : (n : ℕ) (p′ : PeerDemand) (t′ : PeerTables) → Numbered qs → n ≡ firstNo qs → n ≡ 0 → Stores (change (stateOf p t)) p′ t t′ → Changes qs change p t (record { answer = change-answer.Done; peers = p′ }) t′
-  changes-done n p′ t′ w e h s =
+  pub changes-done : (n : ℕ) (r : PeersChanged) (p′ : PeerDemand) (t′ : PeerTables) → Numbered qs → n ≡ firstNo qs → n ≡ 0 → r ≡ doneWith p′ → Stores (change (stateOf p t)) p′ t t′ → Changes qs change p t r t′
+  changes-done n r p′ t′ w e h f s =
       let passed : passes qs ≡ true = passed-none qs n w e h in
       record {
-        answered = answer-passed tt qs passed;
-        value = s .value ∙ changed-passed _ p qs passed;
+        answered = ap (λ (x : PeersChanged). changeAnswer (x .answer)) f ∙ answer-passed tt qs passed;
+        value = ap (λ (x : PeersChanged). x .peers) f ∙ s .value ∙ changed-passed _ p qs passed;
         words = s .words ∙ changed-passed _ t qs passed;
       }
 
@@ -38,8 +41,8 @@ pub report-numbered : (p : PeerDemand) (t : PeerTables) (id : ℕ) (r : DemandRe
 report-numbered p t id r = (omega arith, (omega arith, (omega arith, (omega arith, (omega arith, tt)))))
 
 -- the state changed, where questions 1 and 2 are all
-pub peers-changed : (change : PeersState → PeersState) (p : PeerDemand) (t : PeerTables) (n : ℕ) (p′ : PeerDemand) (t′ : PeerTables) → n ≡ firstNo (peersQuestions p t) → n ≡ 0 → Becomes change p t p′ t′ → Changes (peersQuestions p t) change p t (record { answer = change-answer.Done; peers = p′ }) t′
-peers-changed change p t n p′ t′ = changes-done (peersQuestions p t) change p t n p′ t′ (peers-numbered p t)
+pub peers-changed : (change : PeersState → PeersState) (p : PeerDemand) (t : PeerTables) (n : ℕ) (r : PeersChanged) (p′ : PeerDemand) (t′ : PeerTables) → n ≡ firstNo (peersQuestions p t) → n ≡ 0 → r ≡ doneWith p′ → Becomes change p t p′ t′ → Changes (peersQuestions p t) change p t r t′
+peers-changed change p t n r p′ t′ = changes-done (peersQuestions p t) change p t n r p′ t′ (peers-numbered p t)
 
 -- a change by what it makes of the state
 pub changes-as : (qs : List Question) (f g : PeersState → PeersState) (p : PeerDemand) (t : PeerTables) (r : PeersChanged) (t′ : PeerTables) → f (stateOf p t) ≡ g (stateOf p t) → Changes qs f p t r t′ → Changes qs g p t r t′

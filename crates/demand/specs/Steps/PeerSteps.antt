@@ -10,6 +10,8 @@ use Rattle.records.specs.declared.Found.{Found}
 use Rattle.records.specs.declared.Found.the-variants.{At, Gap, Unfit}
 use Rattle.records.specs.Records.{records, keyed, ascending, findIn}
 use Rattle.demand.specs.declared.peer_demand.PeerDemand.{PeerDemand}
+use Rattle.demand.specs.declared.peer_demand.PeersChanged.{PeersChanged}
+use Rattle.demand.specs.declared.peer_demand.ChangeAnswer.the-variants as change-answer
 use Rattle.demand.specs.PeerLists.{any, present}
 use Rattle.demand.specs.PeerRecords.{Snapshot, PeerRecord, ContestedKey}
 use Rattle.demand.specs.PeerState.{PeerTables, isKnown, haveRoom, isValid}
@@ -47,3 +49,10 @@ staysPeer at cs id held taken =
 pub record Valid (p : PeerDemand) (t : PeerTables) : Type 0 where
   pub room : haveRoom t ≡ true
   pub state : isValid p t ≡ true
+
+-- a 'no' with the peers as they were, and the peers after a change
+abbrev pub refusedWith : ℕ → PeerDemand → PeersChanged
+refusedWith n p = record { answer = change-answer.No n; peers = p }
+
+abbrev pub doneWith : PeerDemand → PeersChanged
+doneWith p = record { answer = change-answer.Done; peers = p }

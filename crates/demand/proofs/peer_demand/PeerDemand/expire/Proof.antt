@@ -5,7 +5,7 @@ use Rattle.demand.proofs.peer_demand.PeerDemand.expire.Statement.{state
 use Rattle.demand.proofs.peer_demand.PeerDemand.expire.Tie as tie
 
 returns : tie.Need-returns
-returns c = changes-not _ _ _ _ _ (c .before .ask .ensures .first) (c .if1 .taken)
+returns c = changes-not _ _ _ _ _ _ (c .before .before .ask .ensures .first) (c .before .if1 .taken) (c .refused .ensures)
 
 expire-all-requires : tie.Need-expire-all-requires
 expire-all-requires c κs =
@@ -14,20 +14,22 @@ expire-all-requires c κs =
 
 returns-2 : tie.Need-returns-2
 returns-2 c =
-    let f = c .before .before .before .before .before .before in
+    let f = c .before .before .before .before .before .before .before in
     let e = f .before .before .before .before in
-    peers-changed _ _ _ _ _ _ (e .before .ask .ensures .first) (e .if1 .left) (f .expire-all .ensures)
+    peers-changed _ _ _ _ _ _ _ (e .before .ask .ensures .first) (e .if1 .left) (c .done .ensures) (f .expire-all .ensures)
 
 pub expire-spec : {M : Type 1} → statement M
 expire-spec =
     tie.close
     (tie.spec
     (λ c κs. search needs)
+    (λ c κs. search needs)
     (λ c. search needs)
     (λ c. search needs)
     (λ c. search needs)
     returns
     expire-all-requires
+    (λ c κs. search needs)
     (λ c. search needs)
     (λ c. search needs)
     (λ c. search needs)

@@ -5,7 +5,7 @@ use Rattle.demand.proofs.peer_demand.PeerDemand.forget.Statement.{state
 use Rattle.demand.proofs.peer_demand.PeerDemand.forget.Tie as tie
 
 returns : tie.Need-returns
-returns c = changes-not _ _ _ _ _ (c .before .ask .ensures .first) (c .if1 .taken)
+returns c = changes-not _ _ _ _ _ _ (c .before .before .ask .ensures .first) (c .before .if1 .taken) (c .refused .ensures)
 
 forget-peer-requires : tie.Need-forget-peer-requires
 forget-peer-requires c κs =
@@ -14,20 +14,22 @@ forget-peer-requires c κs =
 
 returns-2 : tie.Need-returns-2
 returns-2 c =
-    let f = c .before .before .before .before .before .before in
+    let f = c .before .before .before .before .before .before .before in
     let e = f .before .before .before .before in
-    peers-changed _ _ _ _ _ _ (e .before .ask .ensures .first) (e .if1 .left) (f .forget-peer .ensures)
+    peers-changed _ _ _ _ _ _ _ (e .before .ask .ensures .first) (e .if1 .left) (c .done .ensures) (f .forget-peer .ensures)
 
 pub forget-spec : {M : Type 1} → statement M
 forget-spec =
     tie.close
     (tie.spec
     (λ c κs. search needs)
+    (λ c κs. search needs)
     (λ c. search needs)
     (λ c. search needs)
     (λ c. search needs)
     returns
     forget-peer-requires
+    (λ c κs. search needs)
     (λ c. search needs)
     (λ c. search needs)
     (λ c. search needs)

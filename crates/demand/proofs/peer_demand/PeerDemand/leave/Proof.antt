@@ -19,7 +19,7 @@ returns c =
     changes-as _ _ _ _ _ _ _ (sym (leaves-now _ _ _ _ (f .before .before .before .before .if1 .taken))) (f .forget .ensures)
 
 returns-2 : tie.Need-returns-2
-returns-2 c = changes-not _ _ _ _ _ (c .before .ask .ensures .first) (c .if2 .taken)
+returns-2 c = changes-not _ _ _ _ _ _ (c .before .before .ask .ensures .first) (c .before .if2 .taken) (c .refused .ensures)
 
 hold-peer-requires : tie.Need-hold-peer-requires
 hold-peer-requires c κs =
@@ -28,11 +28,11 @@ hold-peer-requires c κs =
 
 returns-3 : tie.Need-returns-3
 returns-3 c =
-    let h = c .before .before in
+    let h = c .before .before .before in
     let b = h .before in
     let e = b .before .before in
     let a = e .before in
-    peers-changed _ _ _ _ _ _ (a .ask .ensures .first) (e .if2 .left)
+    peers-changed _ _ _ _ _ _ _ (a .ask .ensures .first) (e .if2 .left) (c .done .ensures)
     (leave-stores _ _ _ _ _ _ _ (sound e) (a .before .before .before .before .if1 .left) (b .saturating-add .ensures) (h .hold-peer .ensures))
 
 pub leave-spec : {M : Type 1} → statement M
@@ -45,12 +45,14 @@ leave-spec =
     (λ c. search needs)
     returns
     (λ c κs. search needs)
+    (λ c κs. search needs)
     (λ c. search needs)
     (λ c. search needs)
     (λ c. search needs)
     returns-2
     (λ c κs. search needs)
     hold-peer-requires
+    (λ c κs. search needs)
     (λ c. search needs)
     (λ c. search needs)
     (λ c. search needs)
