@@ -132,34 +132,33 @@ fn below(x: f64, y: f64) -> bool
     }
 }
 
-// The lesser of a and b: a NaN loses, and -0 is below +0.
-pub fn min(a: f64, b: f64) -> f64
-    ensures { λ r. ⌜ r ≡ Order.minimumNumber a b ⌝ }
+// The second of a and b or the first; where one is a NaN, the other.
+fn choose(a: f64, b: f64, second: bool) -> f64
+    ensures { λ r. ⌜ r ≡ Order.choose a b second ⌝ }
 {
     if a != a {
         b
     } else if b != b {
         a
-    } else if below(b, a) {
+    } else if second {
         b
     } else {
         a
     }
 }
 
+// The lesser of a and b: a NaN loses, and -0 is below +0.
+pub fn min(a: f64, b: f64) -> f64
+    ensures { λ r. ⌜ r ≡ Order.minimumNumber a b ⌝ }
+{
+    choose(a, b, below(b, a))
+}
+
 // The greater of a and b: a NaN loses, and -0 is below +0.
 pub fn max(a: f64, b: f64) -> f64
     ensures { λ r. ⌜ r ≡ Order.maximumNumber a b ⌝ }
 {
-    if a != a {
-        b
-    } else if b != b {
-        a
-    } else if below(a, b) {
-        b
-    } else {
-        a
-    }
+    choose(a, b, below(a, b))
 }
 
 // A bit pattern's place in totalOrder: the patterns with the sign bit set come first, the greatest
