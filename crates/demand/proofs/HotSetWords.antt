@@ -1,13 +1,13 @@
 -- Entries and their words: there and back, and records of entries in lent words.
 use mathlib.Core.Path.{_≡_, refl, sym, ap, _∙_}
-use mathlib.Core.Bool.{Bool, true, false, _&&_, _||_}
+use mathlib.Core.Bool.{Bool, true, false, _&&_}
 use mathlib.Core.List.{List, [], _∷_, _++_, map}
 use mathlib.Core.Option.{Option, none, some}
 use Prim.Native.Nat.{ℕ, zero, suc, _+_, _-_, _*_, _≤_, _<_}
 use native.Mathlib.Nat.{add-zero}
 use native.Mathlib.Omega.{arith}
-use borrow.Author.Tests.{ltb-true, leb-true, eqb-true, eqb-false, le-leb, lt-leb, eq-eqb, ne-eqb}
-use lib.Dec.{T, leb, eqb, lit<}
+use borrow.Author.Tests.{ltb-true, le-leb, lt-leb}
+use lib.Dec.{T, leb, lit<}
 use lib.Ieee.{binary64, toBits, ofBits, fits}
 use lib.Ieee.Bits.{ofBits-toBits, toBits-ofBits, ofBits-fits}
 use lib.ListN.{length, getD, take, drop, length-map, length-drop}
@@ -15,7 +15,7 @@ use lib.Seq.{getD-drop, getD-take, drop-append-add, drop-drop, length-take-le}
 use Rattle.float.specs.Magnitude.{magnitude}
 use Rattle.float.proofs.Patterns.{magnitude-bits, magnitude-no-nan}
 use Rattle.records.specs.Records.{records, flat, table}
-use Rattle.records.proofs.TestLaws.{split, both}
+use Rattle.records.proofs.TestLaws.{both}
 use Rattle.records.proofs.TableLaws as records
 use Rattle.records.proofs.TableLaws.{Wide}
 use Rattle.records.proofs.RecordLaws.{length-records}

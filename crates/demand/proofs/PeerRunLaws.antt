@@ -8,7 +8,7 @@ use native.Mathlib.Omega.{arith}
 use borrow.Author.Tests.{ltb-true, ltb-false, lt-ltb, le-ltb, le-leb, eqb-true, eq-eqb}
 use lib.Dec.{ltb, leb, eqb}
 use lib.ListN.{length, take, drop, getD, length-drop}
-use lib.Seq.{slice, length-slice, take-nil, drop-nil, take-take, getD-take, length-take-le}
+use lib.Seq.{slice, length-slice, take-nil, drop-nil, take-take, length-take-le}
 use Rattle.records.specs.declared.Found.the-variants.{At, Gap, Unfit}
 use Rattle.records.specs.declared.Span.the-variants.{Between, NoSpan}
 use Rattle.records.specs.Records.{records, table, fits, keyed, lowerBound, find, findIn, rangeOf, rangeIn, splice, insertAt, overwriteAt, spliceable, spliced, insertable, inserted, overwritable, overwritten, removable}

@@ -4,7 +4,7 @@ use mathlib.Core.Path.{_≡_, refl, sym, ap, _∙_}
 use mathlib.Core.Bool.{Bool, true, false, cond, _&&_, _||_, and-true, and-false, and-assoc, and-comm}
 use mathlib.Core.List.{List, [], _∷_, _++_}
 use native.Mathlib.Omega.{arith}
-use borrow.Author.Tests.{eq-eqb, ne-eqb, eqb-true, lt-ltb, le-ltb, lt-leb}
+use borrow.Author.Tests.{eq-eqb, ne-eqb, lt-ltb, le-ltb, lt-leb}
 use lib.Dec.{ltb, leb, eqb, eqb·suc-zero}
 use lib.ListN.{length, take, drop, getD}
 use lib.Seq.{getD-drop}
@@ -12,7 +12,7 @@ use Rattle.records.specs.Records.{same}
 use Rattle.records.proofs.TestLaws.{eqb-self, eqb-turn}
 use Rattle.records.proofs.OrderLaws.{same-eq}
 use Rattle.demand.specs.PeerLists.{all, present}
-use Rattle.demand.specs.Words.{isTime, flagWord, flagOf, timeWords, timeOf}
+use Rattle.demand.specs.Words.{timeWords, timeOf}
 use Rattle.demand.proofs.WordLaws.{flag-word, time-words}
 use Rattle.demand.specs.PeerRecords.{snapshotWords, snapshotOf, pastWords, peerWords, snapshotKeyWords, contestedWords, peerOf, snapshotKeyOf, contestedOf}
 use Rattle.demand.specs.PeerState.{isWord, isDemand, validSnapshot, validPast, pastHasSnapshot, validPeer, validSnapshotKey, validContested}

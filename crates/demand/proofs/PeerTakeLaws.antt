@@ -20,7 +20,7 @@ use Rattle.demand.specs.PeerRecords.{Snapshot, PeerRecord, SnapshotKey, 
 use Rattle.demand.specs.PeerState.{PeersState, PeerTables, isWord, peerWith, isKnown, snapshotKeysOf, contestedKeysOf, stateOf, exact, valid, validSnapshot, validPast, validPeer, validSnapshotKey}
 use Rattle.demand.specs.PeerChanges as changes
 use Rattle.demand.specs.PeerCalls.{hasPlace, Widths}
-use Rattle.demand.specs.Steps.PeerRuns.{word, keysIn, contestedIn, peersIn, replacedRun, Replaceable, Tabled, KeyRun, contestedAfter, keptAfter, Contestable, orNew, nextPast, pastAfter, Reported, Read, Stores}
+use Rattle.demand.specs.Steps.PeerRuns.{word, keysIn, peersIn, replacedRun, Replaceable, Tabled, KeyRun, contestedAfter, keptAfter, Contestable, orNew, nextPast, pastAfter, Reported, Read, Stores}
 use Rattle.demand.proofs.PeerWordLaws.{peer-of-words, peer-long}
 use Rattle.demand.proofs.PeerValidLaws.{all-take}
 use Rattle.demand.proofs.PeerOrderLaws.{all-only, all-imply, length-replaced}

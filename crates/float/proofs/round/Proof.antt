@@ -1,4 +1,4 @@
--- `float::round` meets its contract: each way through the code is a fact of `Whole.antt`.
+-- `float::round` meets its contract: each way through the code is a fact of `Integral.antt`.
 use mathlib.Core.Path.{sym, subst}
 use Prim.Native.Nat.{_+_, _/_, _<_}
 use native.Mathlib.Omega.{arith}
