@@ -41,7 +41,8 @@ ssize_t read(int from, void *to, size_t room) {
         write_times();
         return 0;
     }
-    size_t size = (char *)memchr(next, '\n', end - next) + 1 - next;
+    char *feed = memchr(next, '\n', end - next);
+    size_t size = feed ? (size_t)(feed + 1 - next) : (size_t)(end - next);
     if (room < size) abort();
     memcpy(to, next, size);
     next += size;

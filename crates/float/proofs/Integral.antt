@@ -14,7 +14,7 @@ use lib.Ieee.Exact.{HasValue, round-exact}
 use lib.Ieee.Nearest.{div-same}
 use lib.Ieee.Positive.{num, den, positive}
 use lib.Ieee.Back.{whole-unique, round-whole}
-use Rattle.float.specs.Integral.{ceil, roundAway}
+use Rattle.float.specs.Integral.{ceil, roundAway, Middle}
 use borrow.Author.Tests.{ltb-true, ltb-false}
 use Rattle.float.proofs.Held.{fits-small, fits-top, fits-down, zero-exp, pow-le-back}
 use Rattle.float.proofs.Values.{neg-round}
@@ -63,12 +63,6 @@ unfolding roundAway
 round-zero s = refl
 
 -- ---- what the tests say
--- x is above zero and below 2 ^ 52
-abbrev pub Middle : Float → Bool → Type 0
-Middle nan s = ⊥
-Middle (inf t) s = ⊥
-Middle (fin t m e) s = (t ≡ s) × (m * up e < 4503599627370496 * down e)
-
 -- no float with a clear sign is below zero
 lt-zero : (n : ℕ) (d : ℤ) → ltb (n * up d * 1) (0 * down d) ≡ true → ⊥
 lt-zero n d g = let a = ltb-true (n * up d * 1) (0 * down d) g in omega arith
@@ -267,10 +261,6 @@ pub round-pos : (m : ℕ) (e : ℤ) (n : ℕ) → n ≡ m * up e * 2 / (down e *
 unfolding roundAway ofInt
 round-pos m e n p = ap (λ (x : ℕ). round binary64 false x 1) (ap (λ (x : ℕ). (x + 1) / 2) p ∙ halves (m * up e) (down e) (down-pos e))
 
-pub round-neg : (m : ℕ) (e : ℤ) (n : ℕ) → n ≡ m * up e * 2 / (down e * 1) → neg (ofInt binary64 (pos ((n + 1) / 2))) ≡ roundAway (fin true m e)
-unfolding roundAway ofInt
-round-neg m e n p = neg-round binary64 ((n + 1) / 2) 1 ∙ ap (λ (x : ℕ). round binary64 true x 1) (ap (λ (x : ℕ). (x + 1) / 2) p ∙ halves (m * up e) (down e) (down-pos e))
-
 -- ---- the same at a float x that is in the middle, as the functions have it
 pub neg-middle : (x : Float) → Middle x true → Middle (neg x) false
 unfolding neg
@@ -341,12 +331,13 @@ round-pos-at (inf s) n F h p = absurd h
 round-pos-at (fin true m e) n F h p = absurd (true≢false (h .0))
 round-pos-at (fin false m e) n F h p = round-pos m e n (p ∙ twice-part m e F (h .1))
 
-pub round-neg-at : (x : Float) (n : ℕ) → T (fits binary64 (neg x)) → Middle x true → n ≡ toUnsigned 64 (twice (neg x)) → neg (ofInt binary64 (pos ((n + 1) / 2))) ≡ roundAway x
-unfolding neg
-round-neg-at nan n F h p = absurd h
-round-neg-at (inf s) n F h p = absurd h
-round-neg-at (fin false m e) n F h p = absurd (false≢true (h .0))
-round-neg-at (fin true m e) n F h p = round-neg m e n (p ∙ twice-part m e F (h .1))
+-- the other sign
+pub round-turned : (x : Float) → Middle x true → neg (roundAway (neg x)) ≡ roundAway x
+unfolding neg roundAway
+round-turned nan h = absurd h
+round-turned (inf s) h = absurd h
+round-turned (fin false m e) h = absurd (false≢true (h .0))
+round-turned (fin true m e) h = neg-round binary64 ((2 * (m * up e) + down e) / (2 * down e)) 1
 
 -- ---- `round` and then `as u64`, of a value above zero
 few : (N D : ℕ) → 0 < D → N < 4503599627370496 * D → (2 * N + D) / (2 * D) < 9007199254740992

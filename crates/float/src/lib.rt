@@ -4,6 +4,7 @@ pub mod whole;
 pub mod wide;
 
 ghost use mathlib.Core.Path.{_≡_};
+ghost use mathlib.Core.Bool.{false};
 ghost use Prim.Native.Nat.{_^_, _<_};
 ghost use lib.IntN.{pos};
 ghost use lib.Ieee as Ieee;
@@ -88,22 +89,28 @@ pub fn ceil(x: f64) -> f64
     }
 }
 
-// The whole number nearest to x, a half away from zero.
+// The whole number nearest to x, a half up, of an x above 0 and below 2^52.
+fn round_half_up(x: f64) -> f64
+    requires { ⌜ Integral.Middle x false ⌝ }
+    ensures { λ r. ⌜ r ≡ Integral.roundAway x ⌝ }
+{
+    let n = std::num::truncating_f64_to_u64(x * 2.0);
+    ((n + 1) / 2) as f64
+}
+
+// The whole number nearest to x, a half away from zero. From 2^52 up in size every float is whole.
 pub fn round(x: f64) -> f64
     ensures { λ r. ⌜ r ≡ Integral.roundAway x ⌝ }
 {
     if x > 0.0 {
         if x < 4503599627370496.0 {
-            let n = std::num::truncating_f64_to_u64(x * 2.0);
-            ((n + 1) / 2) as f64
+            round_half_up(x)
         } else {
             x
         }
     } else if x < 0.0 {
         if x > -4503599627370496.0 {
-            let n = std::num::truncating_f64_to_u64(-x * 2.0);
-            let w = ((n + 1) / 2) as f64;
-            -w
+            -round_half_up(-x)
         } else {
             x
         }
