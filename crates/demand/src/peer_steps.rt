@@ -22,19 +22,22 @@ ghost use Rattle.demand.specs.Steps.PeerScan.{firstWord};
 ghost use Rattle.demand.specs.Steps.PeerRuns.{Tabled};
 ghost use Rattle.demand.specs.Steps.PeerSteps.{inOrder, placeOf, staysContested, isStale, staysPeer};
 
-// One step of keeping records: the one at `i` goes behind the `kept` first ones, if it stays. Tells
-// how many are kept.
+// One step of keeping records: the one at `i` goes behind the `kept` first ones, if it stays and is
+// not there. Tells how many are kept.
 fn keep_record(t: &mut [u64], w: usize, i: usize, kept: usize, stays: bool) -> usize
     requires { ⌜ (1 ≤ w) × (kept ≤ i) × (i * w + w ≤ length (now t)) ⌝ }
     ensures { λ r. ⌜ r ≡ cond stays (kept + 1) kept ⌝ }
     ensures { λ _. ⌜ now (t .exit) ≡ cond stays (copyWithin (i * w) (i * w + w) (kept * w) (now (t .entry))) (now (t .entry)) ⌝ }
 {
-    if stays {
-        let at = i * w;
-        records::copy_words(t, at, at + w, kept * w);
+    if !stays {
+        return kept;
+    }
+    if kept == i {
         return kept + 1;
     }
-    kept
+    let at = i * w;
+    records::copy_words(t, at, at + w, kept * w);
+    kept + 1
 }
 
 // Whether what was heard then was heard less than `max_age` ago.
