@@ -89,7 +89,7 @@ pub fn ceil(x: f64) -> f64
     }
 }
 
-// The whole number nearest to x, a half up, of an x above 0 and below 2^52.
+// The whole number nearest to x, a half up, where x is 0 or more and below 2^52.
 fn round_half_up(x: f64) -> f64
     requires { ⌜ Integral.Middle x false ⌝ }
     ensures { λ r. ⌜ r ≡ Integral.roundAway x ⌝ }

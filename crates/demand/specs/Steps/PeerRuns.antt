@@ -110,14 +110,7 @@ pub record OneKey (ws : List ℕ) : Type 0 where
   pub exact : ws ≡ snapshotKeyWords (snapshotKeyOf ws)
   pub valid : validSnapshotKey (snapshotKeyOf ws) ≡ true
 
--- the contested keys of all peers once the keys of a report of the peer id were contested
-abbrev pub contestedAfter : ℕ → ℕ → List ℕ → ℕ → ℕ → List ℕ → List ContestedKey
-contestedAfter n id keys round at xs =
-    changes.withContested id
-    (changes.contest round at (keysIn (length keys / 4) keys) (contestedKeysOf id (contestedIn n xs)))
-    (contestedIn n xs)
-
--- the same where they are contested or not
+-- the contested keys of all peers once the keys of a report of the peer id were contested, or were not
 abbrev pub keptAfter : Bool → ℕ → ℕ → List ℕ → ℕ → ℕ → List ℕ → List ContestedKey
 keptAfter keep n id keys round at xs =
     changes.withContested id
@@ -125,6 +118,9 @@ keptAfter keep n id keys round at xs =
     (changes.contest round at (keysIn (length keys / 4) keys) (contestedKeysOf id (contestedIn n xs)))
     (contestedKeysOf id (contestedIn n xs)))
     (contestedIn n xs)
+
+abbrev pub contestedAfter : ℕ → ℕ → List ℕ → ℕ → ℕ → List ℕ → List ContestedKey
+contestedAfter n id keys round at xs = keptAfter true n id keys round at xs
 
 -- valid contested keys, and room for them after that
 pub record Contestable (n id : ℕ) (keys : List ℕ) (round at : ℕ) (xs : List ℕ) : Type 0 where
