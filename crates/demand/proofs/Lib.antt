@@ -44,6 +44,7 @@ pub mod PeerListLaws
 pub mod PeerOrderLaws
 pub mod PeerPoints
 pub mod PeerRangeLaws
+pub mod PeerEachLaws
 pub mod PeerReaderLaws
 pub mod PeerReportLaws
 pub mod PeerRoomLaws

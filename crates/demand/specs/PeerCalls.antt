@@ -2,11 +2,12 @@
 use Prim.Native.Nat.{ℕ, _<_, _^_}
 use mathlib.Core.Path.{_≡_}
 use mathlib.Core.Bool.{Bool, _&&_, _||_}
-use mathlib.Core.List.{List, [], _∷_}
+use mathlib.Core.List.{List, [], _∷_, _++_}
 use mathlib.Core.Option.{Option, none, some}
 use lib.Dec.{ltb, leb, eqb}
 use lib.Ieee.{Float, binary32, fits}
 use lib.ListN.{length}
+use Rattle.records.specs.Records as records
 use Rattle.float.specs.Magnitude.{magnitude}
 use Rattle.demand.specs.declared.peer_demand.KeyDemand.{KeyDemand}
 use Rattle.demand.specs.declared.peer_demand.DemandReport.{DemandReport}
@@ -80,6 +81,10 @@ newQuestions t = (1 asks haveRoom t) ∷ []
 abbrev pub peersQuestions : PeerDemand → PeerTables → List Question
 peersQuestions p t = (1 asks haveRoom t) ∷ (2 asks isValid p t) ∷ []
 
+-- of calls on the keys of n records of w words, which are lent too: does the output fit?
+abbrev pub eachQuestions : PeerDemand → PeerTables → ℕ → ℕ → ℕ → ℕ → List Question
+eachQuestions p t len w n room = (1 asks records.fits len w n) ∷ (peersQuestions p t ++ (16 asks leb n room) ∷ [])
+
 -- is each demand that a report lists finite with a clear sign bit? is the peer known, or are fewer than 32 known?
 abbrev pub hasDemands : DemandReport → Bool
 hasDemands r = all (λ (k : KeyDemand). magnitude (k .demand)) (changes.listed r)
@@ -152,3 +157,15 @@ TellsEmpty p t r = flagAnswer r ≡ answer (peersQuestions p t) (eqb (readers.le
 
 abbrev pub StaleRounds : ℕ → RoundsAnswer → Type 0
 StaleRounds n r = roundsAnswer r ≡ answer (clusterQuestions n) (changes.staleAfterRounds n)
+
+-- ---- calls that read of many keys, and write what they tell to a lent output
+
+pub record TellsEach {A : Type 0} (tell : ℕ → PeersState → A) (p : PeerDemand) (t : PeerTables) (w n : ℕ) (keys : List ℕ) (out : List A) (r : ChangeAnswer) (out′ : List A) : Type 0 where
+  pub answered : changeAnswer r ≡ answer (eachQuestions p t (length keys) w n (length out)) tt
+  pub output : out′ ≡ changed (eachQuestions p t (length keys) w n (length out)) out (readers.told tell (stateOf p t) w n keys out)
+
+abbrev pub TotalsEach : PeerDemand → PeerTables → ℕ → ℕ → List ℕ → List Float → ChangeAnswer → List Float → Type 0
+TotalsEach = TellsEach readers.total
+
+abbrev pub TellsHotElsewhereEach : PeerDemand → PeerTables → ℕ → ℕ → List ℕ → List Bool → ChangeAnswer → List Bool → Type 0
+TellsHotElsewhereEach = TellsEach readers.hotElsewhere

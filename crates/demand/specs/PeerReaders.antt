@@ -1,11 +1,12 @@
 -- What the peers' state says of a key (peer_demand.rs: `heard`, `get`, `total`, `hot_elsewhere`, `len`). Definitions only.
 use Prim.Native.Nat.{ℕ, _+_}
 use mathlib.Core.Bool.{Bool, false, cond, not, _||_}
-use mathlib.Core.List.{List, [], _∷_}
+use mathlib.Core.List.{List, [], _∷_, _++_, map}
 use mathlib.Core.Option.{Option, none, some}
 use lib.Dec.{eqb}
 use lib.Ieee.{Float, binary32, binary64, ofBits, add, lt}
-use lib.ListN.{length}
+use lib.ListN.{length, getD, drop}
+use Rattle.records.specs.Records.{records}
 use Rattle.demand.specs.declared.peer_demand.Heard.{Heard}
 use Rattle.demand.specs.PeerLists.{only, any, first, those}
 use Rattle.demand.specs.PeerRecords.{Snapshot, PeerRecord, SnapshotKey, ContestedKey}
@@ -88,3 +89,9 @@ peerLen s id =
 -- `PeerDemand::len`: the sum over the peers
 unfoldable pub len : PeersState → ℕ
 len s = sumOver (peerLen s) (s .peers)
+
+-- ---- of many keys
+
+-- what is told of the key, the first word, of each of n records of w words, in their order, and then an output as it was
+unfoldable pub told : {A : Type 0} → (ℕ → PeersState → A) → PeersState → ℕ → ℕ → List ℕ → List A → List A
+told tell s w n keys out = map (λ (r : List ℕ). tell (getD r 0 0) s) (records w n keys) ++ drop n out

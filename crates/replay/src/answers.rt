@@ -1,9 +1,10 @@
-// Answers, made of up to four values, and how they are written.
+// Answers, made of up to four values or a list, and how they are written.
 // Room that the answer to a line may take.
 const ROOM: usize = 8192;
 
 // A value of an answer; `Refused` has a number of 01's questions, `Deny` the time to try again, and
-// `Unknown` answers what is no call.
+// `Unknown` answers what is no call. `Floats` and `Flags` say how many words of a list follow, the
+// bits of floats or flags.
 pub(crate) enum Value {
     Nothing,
     Unknown,
@@ -19,6 +20,8 @@ pub(crate) enum Value {
     Whole(u64),
     Float64(f64),
     Float32(f32),
+    Floats(u64),
+    Flags(u64),
 }
 
 // The values of an answer in their order. Where the first is nothing no line is written.
@@ -109,6 +112,8 @@ fn put_value(out: &mut [u8], at: usize, value: Value) -> usize {
         Value::Whole(n) => text::put_decimal(out, at, n),
         Value::Float64(x) => put_float64(out, at, x),
         Value::Float32(x) => text::put_hex(out, at, float::f32_to_bits(x) as u64, 8),
+        Value::Floats(n) => text::put_decimal(out, at, n),
+        Value::Flags(n) => text::put_decimal(out, at, n),
         _ => put_word(out, at, value),
     }
 }
@@ -133,13 +138,47 @@ fn put_values(out: &mut [u8], at: usize, answer: Answer) -> usize {
     put_next(out, c, fourth)
 }
 
+// How many words of the list belong to an answer.
+fn listed(value: Value) -> u64 {
+    match value {
+        Value::Floats(n) => n,
+        Value::Flags(n) => n,
+        _ => 0,
+    }
+}
+
+// A word of the list, as the answer says.
+fn put_word_of(out: &mut [u8], at: usize, value: Value, word: u64) -> usize {
+    let next = text::put(out, at, b" ");
+    match value {
+        Value::Floats(n) => text::put_hex(out, next, word, 16),
+        _ => text::put_decimal(out, next, word),
+    }
+}
+
+// The words of the list that belong to an answer, which begins with the value.
+fn put_list(out: &mut [u8], from: usize, value: Value, list: &[u64]) -> usize {
+    let n = listed(value);
+    let mut at = from;
+    let mut i = 0;
+    while i < list.len() {
+        if n <= i as u64 {
+            return at;
+        }
+        at = put_word_of(out, at, value, list[i]);
+        i += 1;
+    }
+    at
+}
+
 // Writes the line of an answer, and what is ready where little room is left then.
-pub(crate) fn put(out: &mut [u8], at: usize, answer: Answer) -> usize {
+pub(crate) fn put(out: &mut [u8], at: usize, answer: Answer, list: &[u64]) -> usize {
     let first = answer.first;
     if !is_there(first) {
         return at;
     }
     let end = put_values(out, at, answer);
-    let next = text::put(out, end, b"\n");
+    let all = put_list(out, end, first, list);
+    let next = text::put(out, all, b"\n");
     text::flush(out, next, ROOM)
 }

@@ -33,60 +33,64 @@ pub(crate) const PLEN: usize = 11;
 
 pub(crate) const PEMPTY: usize = 12;
 
-pub(crate) const U2F: usize = 13;
+pub(crate) const TOTALS: usize = 13;
 
-pub(crate) const F2U: usize = 14;
+pub(crate) const ELSEWHERES: usize = 14;
 
-pub(crate) const CEIL: usize = 15;
+pub(crate) const U2F: usize = 15;
 
-pub(crate) const ROUND: usize = 16;
+pub(crate) const F2U: usize = 16;
 
-pub(crate) const MIN: usize = 17;
+pub(crate) const CEIL: usize = 17;
 
-pub(crate) const MAX: usize = 18;
+pub(crate) const ROUND: usize = 18;
 
-pub(crate) const TOTCMP: usize = 19;
+pub(crate) const MIN: usize = 19;
 
-pub(crate) const QUOTANEW: usize = 20;
+pub(crate) const MAX: usize = 20;
 
-pub(crate) const PERSEC: usize = 21;
+pub(crate) const TOTCMP: usize = 21;
 
-pub(crate) const UNPACK: usize = 22;
+pub(crate) const QUOTANEW: usize = 22;
 
-pub(crate) const RATEPERSEC: usize = 23;
+pub(crate) const PERSEC: usize = 23;
 
-pub(crate) const PACK: usize = 24;
+pub(crate) const UNPACK: usize = 24;
 
-pub(crate) const CEILING: usize = 25;
+pub(crate) const RATEPERSEC: usize = 25;
 
-pub(crate) const GCHECK: usize = 26;
+pub(crate) const PACK: usize = 26;
 
-pub(crate) const GSET: usize = 27;
+pub(crate) const CEILING: usize = 27;
 
-pub(crate) const GDEBT: usize = 28;
+pub(crate) const GCHECK: usize = 28;
 
-pub(crate) const GRETRY: usize = 29;
+pub(crate) const GSET: usize = 29;
 
-pub(crate) const STEP: usize = 30;
+pub(crate) const GDEBT: usize = 30;
 
-pub(crate) const DTICK: usize = 31;
+pub(crate) const GRETRY: usize = 31;
 
-pub(crate) const DREC: usize = 32;
+pub(crate) const STEP: usize = 32;
 
-pub(crate) const DUNB: usize = 33;
+pub(crate) const DTICK: usize = 33;
 
-pub(crate) const DECAY: usize = 34;
+pub(crate) const DREC: usize = 34;
 
-pub(crate) const SHARE: usize = 35;
+pub(crate) const DUNB: usize = 35;
 
-pub(crate) const NEWER: usize = 36;
+pub(crate) const DECAY: usize = 36;
 
-pub(crate) const STALE: usize = 37;
+pub(crate) const SHARE: usize = 37;
+
+pub(crate) const NEWER: usize = 38;
+
+pub(crate) const STALE: usize = 39;
 
 // What is no call, and what gets no answer.
-pub(crate) const NO_CALL: usize = 38;
+pub(crate) const NO_CALL: usize = 40;
 
-pub(crate) const SKIPPED: usize = 39;
+pub(crate) const SKIPPED: usize = 41;
 
 // Bytes in a row of the list: a name, a space and a letter for each field.
 const ROW: usize = 16;
@@ -154,15 +158,19 @@ fn row_of(name: &[u8], list: &[u8]) -> Row
     }
 }
 
-// The call of a line by a list: the fields are good and end the line, but that the listed keys
-// follow those of a report.
+// Whether keys are listed behind the fields of a call.
+fn lists_keys(place: usize) -> bool {
+    place == REPORT || place == TOTALS || place == ELSEWHERES
+}
+
+// The call of a line by a list: the fields are good and end the line, or listed keys follow them.
 fn listed(line: &[u8], list: &[u8]) -> Call {
     let name_end = fields::end_of(line, 0);
     let row = row_of(&line[0..name_end], list);
     let kinds = row.kinds;
     let end = row.end;
     let args = fields::args_of(line, fields::behind(name_end), &list[kinds..end]);
-    if args.good && (line.len() < args.next || row.place == REPORT) {
+    if args.good && (line.len() < args.next || lists_keys(row.place)) {
         Call {
             place: row.place,
             args,
@@ -201,7 +209,7 @@ pub(crate) fn call_of(kind: Kind, line: &[u8]) -> Call {
           expire uu       \
           l.hget u        \
           get uu          total u         elsewhere u     plen            \
-          pempty          \
+          pempty          totals uc       elsewheres uc   \
           l.u2f u         l.f2u d         l.ceil d        l.round d       \
           l.min dd        l.max dd        l.totcmp dd     \
           l.quotanew ii   l.persec di     l.unpack u      l.ratepersec ui \

@@ -78,12 +78,14 @@ fn answer_alone(place: usize, args: Args) -> Answer {
 
 // The answer to a call that changes nothing.
 fn answer_of(
+    line: &[u8],
     call: Call,
     s: Session,
     hot: &[u64],
     peers: &[u64],
     keys: &[u64],
     contested: &[u64],
+    list: &mut [u64],
 ) -> Answer {
     let place = call.place;
     let args = call.args;
@@ -91,14 +93,18 @@ fn answer_of(
         let set = s.hot;
         return hot_set::answer(args, set, hot);
     }
-    if place < calls::U2F {
+    if place < calls::TOTALS {
         let state = s.peers;
         return peers::answer(place, args, state, peers, keys, contested);
+    }
+    if place < calls::U2F {
+        let state = s.peers;
+        return peers::answer_each(line, place, args, state, peers, keys, contested, list);
     }
     answer_alone(place, args)
 }
 
-// Answers what came.
+// Answers what came; a list that belongs to the answer is left in `list`.
 fn respond(
     kind: Kind,
     line: &[u8],
@@ -107,6 +113,7 @@ fn respond(
     peers: &mut [u64],
     keys: &mut [u64],
     contested: &mut [u64],
+    list: &mut [u64],
 ) -> Done {
     let call = calls::call_of(kind, line);
     let place = call.place;
@@ -123,7 +130,7 @@ fn respond(
         );
     }
     Done {
-        answer: answer_of(call, s, hot, peers, keys, contested),
+        answer: answer_of(line, call, s, hot, peers, keys, contested, list),
         session: s,
     }
 }
@@ -154,6 +161,7 @@ fn turn_of(
     peers: &mut [u64],
     keys: &mut [u64],
     contested: &mut [u64],
+    list: &mut [u64],
 ) -> Turn {
     let rest = Lines {
         from: t.from,
@@ -165,14 +173,23 @@ fn turn_of(
     let start = came.start;
     let end = came.end;
     let left = came.rest;
-    let done = respond(kind, &input[start..end], s, hot, peers, keys, contested);
+    let done = respond(
+        kind,
+        &input[start..end],
+        s,
+        hot,
+        peers,
+        keys,
+        contested,
+        list,
+    );
     let answer = done.answer;
     let after = done.session;
     Turn {
         ended: is_end(kind),
         from: left.from,
         to: left.to,
-        at: answers::put(out, t.at, answer),
+        at: answers::put(out, t.at, answer, list),
         session: after,
     }
 }
@@ -185,6 +202,7 @@ fn run(
     peers: &mut [u64],
     keys: &mut [u64],
     contested: &mut [u64],
+    list: &mut [u64],
 ) {
     let session = Session {
         hot: hot_set::nothing(),
@@ -199,7 +217,7 @@ fn run(
     };
     let mut turns = u64::MAX;
     while 0 < turns && !t.ended {
-        t = turn_of(input, out, t, hot, peers, keys, contested);
+        t = turn_of(input, out, t, hot, peers, keys, contested, list);
         turns -= 1;
     }
     text::flush(out, t.at, out.len());
@@ -212,6 +230,7 @@ fn main() {
     let mut peers = [0u64; 384];
     let mut keys = [0u64; 8192];
     let mut contested = [0u64; 49536];
+    let mut list = [0u64; 256];
     run(
         &mut input,
         &mut out,
@@ -219,5 +238,6 @@ fn main() {
         &mut peers,
         &mut keys,
         &mut contested,
+        &mut list,
     );
 }

@@ -17,6 +17,7 @@ use demand::peer_demand::PeersAnswer;
 use demand::peer_demand::PeersChanged;
 use demand::peer_demand::RoundsAnswer;
 use demand::peer_demand::TotalAnswer;
+ghost use Prim.Native.Nat.{_≤_};
 
 // The peers' state of the script, once it is made.
 pub(crate) struct Peers {
@@ -155,6 +156,160 @@ pub(crate) fn answer(
         calls::PEMPTY => of_flag(value.is_empty(peers, keys, contested)),
         _ => answers::unknown(),
     }
+}
+
+// The keys that a call on many lists, to the line's end.
+struct Wanted {
+    keys: [u64; 256],
+    good: bool,
+}
+
+// The so many keys that are listed from there on, of which 256 are held.
+fn wanted_of(line: &[u8], from: usize, count: u64) -> Wanted {
+    let mut keys = [0; 256];
+    let mut at = from;
+    let mut i = 0;
+    while i < count {
+        let one = fields::args_of(line, at, b"u");
+        if !one.good {
+            return Wanted { keys, good: false };
+        }
+        at = one.next;
+        if i < 256 {
+            keys[i as usize] = one.first;
+        }
+        i += 1;
+    }
+    Wanted {
+        keys,
+        good: line.len() < at,
+    }
+}
+
+// As much room for answers as the script gives, `most` at most.
+fn room_of(room: u64, most: usize) -> usize
+    ensures { λ r. ⌜ r ≤ most ⌝ }
+{
+    if room < most as u64 {
+        room as usize
+    } else {
+        most
+    }
+}
+
+// The bits of the totals, in the list.
+fn list_totals(totals: &[f64], list: &mut [u64]) {
+    let mut i = 0;
+    while i < totals.len() {
+        if list.len() <= i {
+            return;
+        }
+        list[i] = float::to_bits(totals[i]);
+        i += 1;
+    }
+}
+
+fn word_of(yes: bool) -> u64 {
+    if yes { 1 } else { 0 }
+}
+
+// The flags, in the list.
+fn list_flags(flags: &[bool], list: &mut [u64]) {
+    let mut i = 0;
+    while i < flags.len() {
+        if list.len() <= i {
+            return;
+        }
+        list[i] = word_of(flags[i]);
+        i += 1;
+    }
+}
+
+fn of_each(answer: ChangeAnswer, value: Value) -> Answer {
+    match answer {
+        ChangeAnswer::No(n) => answers::refused(n),
+        ChangeAnswer::Done => answers::one(value),
+    }
+}
+
+// The totals of so many keys that are wanted.
+fn answer_totals(
+    args: Args,
+    wanted: &[u64],
+    value: PeerDemand,
+    peers: &[u64],
+    keys: &[u64],
+    contested: &[u64],
+    totals: &mut [f64],
+    list: &mut [u64],
+) -> Answer {
+    let room = room_of(args.first, totals.len());
+    let count = args.second;
+    let answer = value.total_of_each(
+        peers,
+        keys,
+        contested,
+        wanted,
+        1,
+        count as usize,
+        &mut totals[..room],
+    );
+    list_totals(totals, list);
+    of_each(answer, Value::Floats(count))
+}
+
+// Whether each of so many keys that are wanted is hot elsewhere.
+fn answer_elsewheres(
+    args: Args,
+    wanted: &[u64],
+    value: PeerDemand,
+    peers: &[u64],
+    keys: &[u64],
+    contested: &[u64],
+    flags: &mut [bool],
+    list: &mut [u64],
+) -> Answer {
+    let room = room_of(args.first, flags.len());
+    let count = args.second;
+    let answer = value.hot_elsewhere_of_each(
+        peers,
+        keys,
+        contested,
+        wanted,
+        1,
+        count as usize,
+        &mut flags[..room],
+    );
+    list_flags(flags, list);
+    of_each(answer, Value::Flags(count))
+}
+
+// The answer to a call that reads the peers for many keys; what it tells is left in the list.
+pub(crate) fn answer_each(
+    line: &[u8],
+    place: usize,
+    args: Args,
+    p: Peers,
+    peers: &[u64],
+    keys: &[u64],
+    contested: &[u64],
+    list: &mut [u64],
+) -> Answer {
+    let wanted = wanted_of(line, args.next, args.second);
+    if !wanted.good {
+        return answers::unknown();
+    }
+    if !p.made {
+        return answers::one(Value::NoState);
+    }
+    let all = wanted.keys;
+    let value = p.value;
+    if place == calls::TOTALS {
+        let mut totals = [0.0; 256];
+        return answer_totals(args, &all, value, peers, keys, contested, &mut totals, list);
+    }
+    let mut flags = [false; 256];
+    answer_elsewheres(args, &all, value, peers, keys, contested, &mut flags, list)
 }
 
 // A call that changes the peers, but for a report.

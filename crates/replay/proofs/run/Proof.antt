@@ -6,16 +6,17 @@ use Rattle.replay.proofs.run.Statement.{statement}
 use Rattle.replay.proofs.run.Tie as tie
 
 abbrev Inv-loop : tie.InvT-loop
-Inv-loop input₀ out₀ hot₀ peers₀ keys₀ contested₀ t₀ turns₀ input out hot peers keys contested t turns =
+Inv-loop input₀ out₀ hot₀ peers₀ keys₀ contested₀ list₀ t₀ turns₀ input out hot peers keys contested list t turns =
     (length input ≡ length input₀)
     × (length out ≡ length out₀)
     × (length hot ≡ length hot₀)
     × (length peers ≡ length peers₀)
     × (length keys ≡ length keys₀)
     × (length contested ≡ length contested₀)
+    × (length list ≡ length list₀)
 
 abbrev μ-loop : tie.MeasureT-loop
-μ-loop input₀ out₀ hot₀ peers₀ keys₀ contested₀ t₀ turns₀ input out hot peers keys contested t turns = turns
+μ-loop input₀ out₀ hot₀ peers₀ keys₀ contested₀ list₀ t₀ turns₀ input out hot peers keys contested list t turns = turns
 
 pub run-spec : {M : Type 1} → statement M
 run-spec =
@@ -31,6 +32,7 @@ run-spec =
     (λ c. search needs)
     (λ c. search needs)
     (λ c κs. search needs)
+    (λ c. search needs)
     (λ c. search needs)
     (λ c. search needs)
     (λ c. search needs)

@@ -20,6 +20,8 @@ pub const CALLS: &[(&str, Call)] = &[
     ("elsewhere", hot_elsewhere),
     ("plen", len),
     ("pempty", is_empty),
+    ("totals", totals),
+    ("elsewheres", elsewheres),
 ];
 
 /// The most keys that a line may list; a report may hold fewer.
@@ -121,6 +123,35 @@ fn len(state: &mut State, fields: &mut Fields) -> Option<String> {
 fn is_empty(state: &mut State, fields: &mut Fields) -> Option<String> {
     fields.end()?;
     read(state, |peers| flag_text(peers.is_empty()))
+}
+
+/// The room for answers and the listed keys, to the end of the line.
+fn wanted(fields: &mut Fields) -> Option<(u64, Vec<u64>)> {
+    let room = fields.u64()?;
+    let count = fields.u64().filter(|&count| count <= MOST_LISTED)?;
+    let keys = (0..count).map(|_| fields.u64()).collect::<Option<Vec<_>>>()?;
+    fields.end()?;
+    Some((room, keys))
+}
+
+fn totals(state: &mut State, fields: &mut Fields) -> Option<String> {
+    each(state, fields, |peers, key| f64_text(0.0 + peers.total(key)))
+}
+
+fn elsewheres(state: &mut State, fields: &mut Fields) -> Option<String> {
+    each(state, fields, |peers, key| flag_text(peers.hot_elsewhere(key)))
+}
+
+/// How many keys are listed, and what is told of each.
+fn each(state: &State, fields: &mut Fields, tell: impl Fn(&PeerDemand, u64) -> String) -> Option<String> {
+    let (room, keys) = wanted(fields)?;
+    let Some(peers) = &state.peers else {
+        return no_state();
+    };
+    asked(&[(16, keys.len() as u64 <= room)], || {
+        let told = keys.iter().map(|&key| format!(" {}", tell(peers, key)));
+        keys.len().to_string() + &told.collect::<String>()
+    })
 }
 
 fn read(state: &State, reader: impl FnOnce(&PeerDemand) -> String) -> Option<String> {

@@ -76,8 +76,10 @@ impl Scene {
             0..50 => self.report(rng),
             88.. if self.lasting && rng.chance(90) => self.report(rng),
             50..66 => format!("get {} {}", self.talker(rng).id, self.key(rng)),
-            66..76 => format!("total {}", self.key(rng)),
-            76..83 => format!("elsewhere {}", self.key(rng)),
+            66..74 => format!("total {}", self.key(rng)),
+            74..81 => format!("elsewhere {}", self.key(rng)),
+            81..82 => format!("totals {}", self.wanted_keys(rng)),
+            82..83 => format!("elsewheres {}", self.wanted_keys(rng)),
             83..87 => "plen".into(),
             87..88 => "pempty".into(),
             88..93 => self.expire(rng),
@@ -123,6 +125,22 @@ impl Scene {
             text += &format!(" {} {demand:08x} {}", self.key(rng), rng.below(2));
         }
         text
+    }
+
+    /// Room for answers, the count and the keys that are asked for. Now and then there is too little room, or there are too many keys.
+    fn wanted_keys(&self, rng: &mut Rng) -> String {
+        let count = match rng.below(50) {
+            0 => rng.pick(&[255, 256, 257]),
+            1 => 0,
+            _ => rng.between(1, 12),
+        };
+        let room = match rng.below(10) {
+            0 => u64::MAX,
+            1 => count.saturating_sub(1),
+            _ => count + rng.below(2),
+        };
+        let keys: String = (0..count).map(|_| format!(" {}", self.key(rng))).collect();
+        format!("{room} {count}{keys}")
     }
 
     /// At the edge of some peer's age or hold, or with an age that drops all or nothing.

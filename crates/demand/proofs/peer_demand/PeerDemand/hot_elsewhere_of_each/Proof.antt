@@ -1,0 +1,39 @@
+-- `hot_elsewhere_of_each` meets its contract.
+use borrow.Author.Needs.{needs}
+use Rattle.demand.specs.PeerReaders.{hotElsewhere}
+use Rattle.demand.proofs.PeerEachLaws.{each-refused, each-done, each-fits}
+use Rattle.demand.proofs.peer_demand.PeerDemand.hot_elsewhere_of_each.Statement.{statement}
+use Rattle.demand.proofs.peer_demand.PeerDemand.hot_elsewhere_of_each.Tie as tie
+
+returns : tie.Need-returns
+returns c =
+    let a = c .before .before .before in
+    each-refused hotElsewhere _ _ _ _ _ _ (a .ask-for-each .result) (a .ask-for-each .ensures .0) (c .if1 .taken)
+
+is-primary-of-any-each-requires : tie.Need-is-primary-of-any-each-requires
+is-primary-of-any-each-requires c κs =
+    let e = c .before .before .before in
+    let a = e .before .before .before in
+    let ready = a .ask-for-each .ensures .1 (e .if1 .left) in
+    (ready .0, (ready .1, each-fits _ _ _ _ _ _ (a .ask-for-each .result) (a .ask-for-each .ensures .0) (e .if1 .left)))
+
+returns-2 : tie.Need-returns-2
+returns-2 c =
+    let done = c .before .before in
+    let e = done .before .before .before .before in
+    let a = e .before .before .before in
+    each-done hotElsewhere _ _ _ _ _ _ (a .ask-for-each .result) (a .ask-for-each .ensures .0) (e .if1 .left) _ (done .is-primary-of-any-each .ensures)
+
+pub hot-elsewhere-of-each-spec : {M : Type 1} → statement M
+hot-elsewhere-of-each-spec =
+    tie.close
+    (tie.spec
+    (λ c. search needs)
+    (λ c. search needs)
+    (λ c κs. search needs)
+    returns
+    (λ c. search needs)
+    (λ c. search needs)
+    is-primary-of-any-each-requires
+    (λ c. search needs)
+    returns-2)
