@@ -117,6 +117,38 @@ fn field_of(field: &[u8], kind: u8) -> Field {
     }
 }
 
+// The number of a field, if it is good; the next field starts at `next`.
+pub(crate) struct One {
+    pub(crate) good: bool,
+    pub(crate) next: usize,
+    pub(crate) value: u64,
+}
+
+// The number of the field that starts at `at`, of a kind that has no `none`.
+pub(crate) fn one_of(line: &[u8], at: usize, kind: u8) -> One {
+    if line.len() < at {
+        return One {
+            good: false,
+            next: at,
+            value: 0,
+        };
+    }
+    let end = end_of(line, at);
+    if let Field::Value(value) = field_of(&line[at..end], kind) {
+        One {
+            good: true,
+            next: behind(end),
+            value,
+        }
+    } else {
+        One {
+            good: false,
+            next: behind(end),
+            value: 0,
+        }
+    }
+}
+
 // Past a field; the next one starts at `at`.
 fn past(c: Cursor, at: usize, field: Field) -> Cursor {
     match field {

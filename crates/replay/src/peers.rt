@@ -170,13 +170,13 @@ fn wanted_of(line: &[u8], from: usize, count: u64) -> Wanted {
     let mut at = from;
     let mut i = 0;
     while i < count {
-        let one = fields::args_of(line, at, b"u");
+        let one = fields::one_of(line, at, b'u');
         if !one.good {
             return Wanted { keys, good: false };
         }
         at = one.next;
         if i < 256 {
-            keys[i as usize] = one.first;
+            keys[i as usize] = one.value;
         }
         i += 1;
     }
@@ -337,15 +337,17 @@ struct Listed {
 }
 
 fn listed_of(line: &[u8], at: usize) -> Listed {
-    let args = fields::args_of(line, at, b"ufb");
+    let key = fields::one_of(line, at, b'u');
+    let demand = fields::one_of(line, key.next, b'f');
+    let primary = fields::one_of(line, demand.next, b'b');
     Listed {
         key: KeyDemand {
-            key_hash: args.first,
-            demand: float::f32_from_bits(fields::low32(args.second)),
-            primary: args.third == 1,
+            key_hash: key.value,
+            demand: float::f32_from_bits(fields::low32(demand.value)),
+            primary: primary.value == 1,
         },
-        next: args.next,
-        good: args.good,
+        next: primary.next,
+        good: key.good && demand.good && primary.good,
     }
 }
 

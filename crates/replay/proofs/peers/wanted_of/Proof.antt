@@ -8,10 +8,10 @@ use Rattle.replay.proofs.peers.wanted_of.Statement.{statement}
 use Rattle.replay.proofs.peers.wanted_of.Tie as tie
 
 abbrev Inv-loop : tie.InvT-loop
-Inv-loop line from count keys₀ at₀ i₀ t8 keys at i = (i ≤ count) × (length keys ≡ 256)
+Inv-loop line from count keys₀ at₀ i₀ keys at i = (i ≤ count) × (length keys ≡ 256)
 
 abbrev μ-loop : tie.MeasureT-loop
-μ-loop line from count keys₀ at₀ i₀ t8 keys at i = count - i
+μ-loop line from count keys₀ at₀ i₀ keys at i = count - i
 
 loop-again : tie.Need-loop-again Inv-loop μ-loop
 loop-again c =
@@ -26,7 +26,6 @@ wanted-of-spec =
     (tie.spec
     Inv-loop
     μ-loop
-    (λ c. search needs)
     (λ c. search needs)
     (λ c κs. search needs)
     (λ c. search needs)
