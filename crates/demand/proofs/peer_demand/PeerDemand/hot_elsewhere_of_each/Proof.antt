@@ -10,8 +10,8 @@ returns c =
     let a = c .before .before .before in
     each-refused hotElsewhere _ _ _ _ _ _ (a .ask-for-each .result) (a .ask-for-each .ensures .0) (c .if1 .taken)
 
-is-primary-of-any-each-requires : tie.Need-is-primary-of-any-each-requires
-is-primary-of-any-each-requires c κs =
+primary-each-requires : tie.Need-primary-each-requires
+primary-each-requires c κs =
     let e = c .before .before .before in
     let a = e .before .before .before in
     let ready = a .ask-for-each .ensures .1 (e .if1 .left) in
@@ -22,7 +22,7 @@ returns-2 c =
     let done = c .before .before in
     let e = done .before .before .before .before in
     let a = e .before .before .before in
-    each-done hotElsewhere _ _ _ _ _ _ (a .ask-for-each .result) (a .ask-for-each .ensures .0) (e .if1 .left) _ (done .is-primary-of-any-each .ensures)
+    each-done hotElsewhere _ _ _ _ _ _ (a .ask-for-each .result) (a .ask-for-each .ensures .0) (e .if1 .left) _ (done .primary-each .ensures)
 
 pub hot-elsewhere-of-each-spec : {M : Type 1} → statement M
 hot-elsewhere-of-each-spec =
@@ -34,6 +34,6 @@ hot-elsewhere-of-each-spec =
     returns
     (λ c. search needs)
     (λ c. search needs)
-    is-primary-of-any-each-requires
+    primary-each-requires
     (λ c. search needs)
     returns-2)

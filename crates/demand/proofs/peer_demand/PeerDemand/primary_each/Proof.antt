@@ -1,4 +1,4 @@
--- `is_primary_of_any_each` meets its contract.
+-- `primary_each` meets its contract.
 use Prim.Native.Nat.{_-_, _*_, _≤_, _<_}
 use mathlib.Core.Bool.{Bool}
 use mathlib.Core.List.{List}
@@ -9,8 +9,8 @@ use Rattle.records.proofs.RecordLaws.{row, fits-pos, fits-le}
 use Rattle.demand.specs.PeerState.{tables, stateOf}
 use Rattle.demand.specs.PeerReaders.{hotElsewhere}
 use Rattle.demand.proofs.PeerEachLaws.{toldTo, told-none, told-next, told-all}
-use Rattle.demand.proofs.peer_demand.PeerDemand.is_primary_of_any_each.Statement.{statement}
-use Rattle.demand.proofs.peer_demand.PeerDemand.is_primary_of_any_each.Tie as tie
+use Rattle.demand.proofs.peer_demand.PeerDemand.primary_each.Statement.{statement}
+use Rattle.demand.proofs.peer_demand.PeerDemand.primary_each.Tie as tie
 
 abbrev Inv-loop : tie.InvT-loop
 Inv-loop self peers snapshot-keys contested snapshot-starts contested-starts keys w n out₀ i₀ out i = (i ≤ n) × (length out ≡ length out₀) × (out ≡ toldTo hotElsewhere (stateOf self (tables peers snapshot-keys contested)) w n keys out₀ i)
@@ -81,8 +81,8 @@ returns c =
     let l = c .before .loop in
     l .inv .2 ∙ told-all hotElsewhere (stateOf (s .self) (tables (s .peers .now) (s .snapshot-keys .now) (s .contested .now))) (s .w) (s .n) (s .keys .now) (s .out .now) (l .i) (l .inv .0) (c .loop-test .left)
 
-pub is-primary-of-any-each-spec : {M : Type 1} → statement M
-is-primary-of-any-each-spec =
+pub primary-each-spec : {M : Type 1} → statement M
+primary-each-spec =
     tie.close
     (tie.spec
     Inv-loop
