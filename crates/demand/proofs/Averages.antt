@@ -7,7 +7,7 @@ use lib.Ieee.{Float, binary64, eq, div}
 use Rattle.demand.specs.declared.demand.Times.{Times}
 use Rattle.demand.specs.declared.demand.Times.the-variants.{Unset, At}
 use Rattle.demand.specs.declared.demand.Demand.{Demand}
-use Rattle.demand.specs.Estimator.{whole, alpha, folded, tickedFrom, unbiasedFrom}
+use Rattle.demand.specs.Estimator.{whole, alpha, folded, tickedFrom, unbiasedBy, unbiasedFrom}
 
 pub first-tick : (t : Times) (d : Demand) (now : ℕ) → t ≡ Unset
     → record { «current_rate» = d .«current_rate»; «attempts_since_tick» = d .«attempts_since_tick»; times = At now now; «time_constant» = d .«time_constant» } ≡ tickedFrom t d now
@@ -29,16 +29,22 @@ unfolding unbiasedFrom
 unmeasured t d x z e = rw e z
 
 -- n is the time measured
-pub no-time : (t : Times) (d : Demand) (last since n : ℕ) (x : Float) → x ≡ whole 0 → t ≡ At last since → n ≡ last - since → n ≡ 0 → x ≡ unbiasedFrom t d
-unfolding unbiasedFrom
-no-time t d last since n x z e is h = rw e (simp (eq-eqb (last - since) 0 (sym is ∙ h)) z)
+pub no-time : (a rate : Float) (n : ℕ) (x : Float) → x ≡ whole 0 → n ≡ 0 → x ≡ unbiasedBy a rate n
+unfolding unbiasedBy
+no-time a rate n x z h = simp (eq-eqb n 0 h) z
 
-pub no-weight : (t : Times) (d : Demand) (last since n : ℕ) (x y w : Float) → x ≡ whole 0 → y ≡ whole 0 → t ≡ At last since → n ≡ last - since → (n ≡ 0 → ⊥) → w ≡ alpha n (d .«time_constant») → eq w y ≡ true → x ≡ unbiasedFrom t d
-unfolding unbiasedFrom
-no-weight t d last since n x y w z zy e is h a k =
-    rw (e, sym is) (simp (ne-eqb n 0 h, sym (ap (λ (v : Float). eq v (whole 0)) a) ∙ sym (ap (eq w) zy) ∙ k) z)
+pub no-weight : (a rate : Float) (n : ℕ) (x y : Float) → x ≡ whole 0 → y ≡ whole 0 → (n ≡ 0 → ⊥) → eq a y ≡ true → x ≡ unbiasedBy a rate n
+unfolding unbiasedBy
+no-weight a rate n x y z zy h k = simp (ne-eqb n 0 h, sym (ap (eq a) zy) ∙ k) z
 
-pub weighted : (t : Times) (d : Demand) (last since n : ℕ) (y w : Float) → y ≡ whole 0 → t ≡ At last since → n ≡ last - since → (n ≡ 0 → ⊥) → w ≡ alpha n (d .«time_constant») → eq w y ≡ false → div binary64 (d .«current_rate») w ≡ unbiasedFrom t d
+pub weighted : (a rate : Float) (n : ℕ) (y : Float) → y ≡ whole 0 → (n ≡ 0 → ⊥) → eq a y ≡ false → div binary64 rate a ≡ unbiasedBy a rate n
+unfolding unbiasedBy
+weighted a rate n y zy h k = simp (ne-eqb n 0 h, sym (ap (eq a) zy) ∙ k)
+
+pub measured : (t : Times) (d : Demand) (last since n : ℕ) (a x : Float) → t ≡ At last since → n ≡ last - since → a ≡ alpha n (d .«time_constant») → x ≡ unbiasedBy a (d .«current_rate») n → x ≡ unbiasedFrom t d
 unfolding unbiasedFrom
-weighted t d last since n y w zy e is h a k =
-    rw (e, sym is) (simp (ne-eqb n 0 h, sym (ap (λ (v : Float). eq v (whole 0)) a) ∙ sym (ap (eq w) zy) ∙ k) (ap (div binary64 (d .«current_rate»)) a))
+measured t d last since n a x e is ea k =
+    k
+    ∙ ap (λ (v : Float). unbiasedBy v (d .«current_rate») n) ea
+    ∙ ap (λ (m : ℕ). unbiasedBy (alpha m (d .«time_constant»)) (d .«current_rate») m) is
+    ∙ sym (ap (λ (u : Times). unbiasedFrom u d) e)

@@ -16,6 +16,7 @@ use Rattle.records.proofs.TestLaws.{split, both, and-intro}
 use Rattle.gcra.specs.Questions.{given, passes}
 use Rattle.gcra.proofs.Answers.{given-passed}
 use Rattle.demand.specs.HotSet.{words, entries, allEntries, validEntries, validSize, valid, get, put, remove, weakest, Outcome, hotWith, coldWith, newEntry, renewed, evict, admit, promoteFrom, promote, cooled, coolFrom, cool, settle, belowThreshold, updateWith, there, isHot}
+use Rattle.demand.specs.Steps.HotSetSteps.{Acted}
 use Rattle.demand.specs.HotSetCalls.{room, askNew, askSet, askUpdate, evictionMargin, held, newAnswer, updateAnswer, updated, rewritten, MadeNew, UpdatedWith}
 use Rattle.demand.specs.declared.hot_set.HotEntry.{HotEntry}
 use Rattle.demand.specs.declared.hot_set.HotSet.{HotSet}
@@ -148,57 +149,77 @@ passes-table s xs es z r n l a g =
     let count : leb (s .len) (s .«max_size») ≡ true = le-leb (s .len) (s .«max_size») (omega arith) in
     and-intro _ _ long (and-intro _ _ (and-intro _ _ z (and-intro _ _ count good)) refl)
 
-module _ (s : HotSet) (xs : List ℕ) (key : ℕ) (demand threshold : Float) (now : ℕ) (elsewhere : Bool) (r : UpdateAnswer) (ys : List ℕ) (c : UpdatedWith s xs key demand threshold now elsewhere r ys) (f : T (fits binary64 demand)) (u : Updated) (e : updateAnswer r ≡ given u) where
-  abbrev pub outcome : Outcome
-  outcome = updateWith evictionMargin s key demand threshold now elsewhere (held s xs)
-
-  asked : (passes (askUpdate s xs demand) ≡ true) × (u ≡ updated s outcome)
-  asked = given-passed (askUpdate s xs demand) u (updated s outcome) (sym e ∙ c .answered)
+-- what an update leaves of a set that passes its questions
+module _ (margin : Float) (s : HotSet) (xs : List ℕ) (p : passes (askSet s xs) ≡ true) (key : ℕ) (demand threshold : Float) (now : ℕ) (elsewhere : Bool) (f : T (fits binary64 demand)) (m : magnitude demand ≡ true) where
+  abbrev outcome : Outcome
+  outcome = updateWith margin s key demand threshold now elsewhere (held s xs)
 
   before : Passed s xs
-  before = passed-set s xs (update-passed-set s xs demand (asked .0))
+  before = passed-set s xs p
 
-  number : magnitude demand ≡ true
-  unfolding passes
-  number = both (magnitude demand) _ (both (valid s (records 6 (s .len) xs)) _ (both (leb (room (s .«max_size»)) (length xs)) _ (asked .0) .1) .1) .0
-
-  kept : Kept (s .«max_size») key outcome
+  pub kept : Kept (s .«max_size») key outcome
   kept =
       let n = length-entries (s .len) xs in
       let k = before .count in
-      kept-update evictionMargin s key demand threshold now elsewhere f number (held s xs) (asc-entries (s .len) xs (before .held)) (goods-entries (s .len) xs (before .held)) (omega arith)
-
-  small : length (outcome .left) * 6 ≤ length xs
-  small = omega (arith, kept .bound, before .space)
-
-  written : ys ≡ table (map words (outcome .left)) xs
-  unfolding passes
-  written = c .left ∙ ap (λ (b : Bool). cond b (rewritten outcome xs) xs) (asked .0)
-
-  read : held (u .set) ys ≡ outcome .left
-  read =
-      (λ i. entries (asked .1 i .set .len) (written i))
-      ∙ entries-table (outcome .left) xs (fits-goods (outcome .left) (kept .good))
-
-  -- never more than its size, which stays
-  pub size-kept : (u .set .len ≤ s .«max_size») × (u .set .«max_size» ≡ s .«max_size») × (u .set .cooldown ≡ s .cooldown)
-  size-kept =
-      (subst (λ (n : ℕ). n ≤ s .«max_size») (sym (ap (λ (v : Updated). v .set .len) (asked .1))) (kept .bound), ap (λ (v : Updated). v .set .«max_size») (asked .1), ap (λ (v : Updated). v .set .cooldown) (asked .1))
-
-  -- the answer says whether the key is in the set
-  pub answer-means : isHot key (held (u .set) ys) ≡ u .«is_hot»
-  answer-means = ap (isHot key) read ∙ kept .says ∙ sym (ap (λ (v : Updated). v .«is_hot») (asked .1))
+      kept-update margin s key demand threshold now elsewhere f m (held s xs) (asc-entries (s .len) xs (before .held)) (goods-entries (s .len) xs (before .held)) (omega arith)
 
   sized : validSize (s .«max_size») ≡ true
   unfolding validSize
   sized = and-intro (leb 1 (s .«max_size»)) _ (le-leb 1 (s .«max_size») (before .some-size)) (le-leb (s .«max_size») 64 (before .most-size))
 
-  -- the set passes its questions again: its entries ascend and are valid
+  module _ (u : Updated) (ys : List ℕ) (a : Acted s outcome xs u ys) where
+    -- the words are as many as they were
+    pub acted-long : length ys ≡ length xs
+    acted-long = ap length (a .left) ∙ length-table (outcome .left) xs (omega (arith, kept .bound, before .space))
+
+    -- the set's entries are those of the outcome
+    pub acted-read : held (u .set) ys ≡ outcome .left
+    acted-read =
+        (λ i. entries (a .says i .set .len) (a .left i))
+        ∙ entries-table (outcome .left) xs (fits-goods (outcome .left) (kept .good))
+
+    -- the set passes its questions again: its entries ascend and are valid
+    pub acted-again : passes (askSet (u .set) ys) ≡ true
+    acted-again =
+        let d : room (s .«max_size») ≤ length xs = let p = before .most-size in let q = before .space in omega arith in
+        (λ i. passes (askSet (a .says i .set) (a .left i)))
+        ∙ passes-table (updated s outcome .set) xs (outcome .left) sized d refl (kept .bound) (kept .ascends) (kept .good)
+
+module _ (s : HotSet) (xs : List ℕ) (key : ℕ) (demand threshold : Float) (now : ℕ) (elsewhere : Bool) (r : UpdateAnswer) (ys : List ℕ) (c : UpdatedWith s xs key demand threshold now elsewhere r ys) (f : T (fits binary64 demand)) (u : Updated) (e : updateAnswer r ≡ given u) where
+  abbrev updated-to : Outcome
+  updated-to = updateWith evictionMargin s key demand threshold now elsewhere (held s xs)
+
+  asked : (passes (askUpdate s xs demand) ≡ true) × (u ≡ updated s updated-to)
+  asked = given-passed (askUpdate s xs demand) u (updated s updated-to) (sym e ∙ c .answered)
+
+  set-asked : passes (askSet s xs) ≡ true
+  set-asked = update-passed-set s xs demand (asked .0)
+
+  number : magnitude demand ≡ true
+  unfolding passes
+  number = both (magnitude demand) _ (both (valid s (records 6 (s .len) xs)) _ (both (leb (room (s .«max_size»)) (length xs)) _ (asked .0) .1) .1) .0
+
+  acted : Acted s updated-to xs u ys
+  unfolding passes
+  acted = record { says = asked .1; left = c .left ∙ ap (λ (b : Bool). cond b (rewritten updated-to xs) xs) (asked .0) }
+
+  update-kept : Kept (s .«max_size») key updated-to
+  update-kept = kept evictionMargin s xs set-asked key demand threshold now elsewhere f number
+
+  -- never more than its size, which stays
+  pub size-kept : (u .set .len ≤ s .«max_size») × (u .set .«max_size» ≡ s .«max_size») × (u .set .cooldown ≡ s .cooldown)
+  size-kept =
+      (subst (λ (n : ℕ). n ≤ s .«max_size») (sym (ap (λ (v : Updated). v .set .len) (asked .1))) (update-kept .bound), ap (λ (v : Updated). v .set .«max_size») (asked .1), ap (λ (v : Updated). v .set .cooldown) (asked .1))
+
+  -- the answer says whether the key is in the set
+  pub answer-means : isHot key (held (u .set) ys) ≡ u .«is_hot»
+  answer-means =
+      ap (isHot key) (acted-read evictionMargin s xs set-asked key demand threshold now elsewhere f number u ys acted)
+      ∙ update-kept .says
+      ∙ sym (ap (λ (v : Updated). v .«is_hot») (asked .1))
+
   pub passed-again : passes (askSet (u .set) ys) ≡ true
-  passed-again =
-      let d : room (s .«max_size») ≤ length xs = let p = before .most-size in let q = before .space in omega arith in
-      (λ i. passes (askSet (asked .1 i .set) (written i)))
-      ∙ passes-table (updated s outcome .set) xs (outcome .left) sized d refl (kept .bound) (kept .ascends) (kept .good)
+  passed-again = acted-again evictionMargin s xs set-asked key demand threshold now elsewhere f number u ys acted
 
 -- what `new` gives passes the questions in the words it was asked with, and holds no key
 pub new-passes : (xs : List ℕ) (cooldown size : ℕ) (r : NewAnswer) (s : HotSet) → MadeNew xs cooldown size r → newAnswer r ≡ given s → (passes (askSet s xs) ≡ true) × (held s xs ≡ [])

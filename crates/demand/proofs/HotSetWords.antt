@@ -1,6 +1,6 @@
 -- Entries and their words: there and back, and records of entries in lent words.
 use mathlib.Core.Path.{_≡_, refl, sym, ap, _∙_}
-use mathlib.Core.Bool.{Bool, true, false, _&&_}
+use mathlib.Core.Bool.{Bool, true, false}
 use mathlib.Core.List.{List, [], _∷_, _++_, map}
 use mathlib.Core.Option.{Option, none, some}
 use Prim.Native.Nat.{ℕ, zero, suc, _+_, _-_, _*_, _≤_, _<_}
@@ -21,31 +21,31 @@ use Rattle.records.proofs.TableLaws.{Wide}
 use Rattle.records.proofs.RecordLaws.{length-records}
 use Rattle.demand.specs.Words.{flagOf, timeOf, isTime}
 use Rattle.demand.proofs.WordLaws.{flag-of-word, flag-back, flag-small, time-of-words, time-is, time-flag-back, time-word-back}
-use Rattle.demand.specs.HotSet.{coolingTime, words, cooling, entry, entries, isEntry, allEntries}
+use Rattle.demand.specs.HotSet.{coolingTime, words, cooling, entry, entries, areWords, isEntry, allEntries}
 use Rattle.demand.specs.declared.hot_set.Cooling.{Cooling}
 use Rattle.demand.specs.declared.hot_set.Cooling.the-variants.{Unset, Since}
 use Rattle.demand.specs.declared.hot_set.HotEntry.{HotEntry}
 
--- ---- the tests of a record's words, which begin at `at`
-module _ (at : ℕ) (xs : List ℕ) where
-  abbrev pub word : ℕ → ℕ
-  word i = getD xs (at + i) 0
+-- ---- the tests of a record's words
+module _ (demand primary flag time : ℕ) where
+  pub no-number : magnitude (ofBits binary64 demand) ≡ false → false ≡ areWords demand primary flag time
+  no-number e = rw e
 
-  abbrev pub number : Bool
-  number = magnitude (ofBits binary64 (word 1))
+  pub no-primary : magnitude (ofBits binary64 demand) ≡ true → 1 < primary → false ≡ areWords demand primary flag time
+  no-primary e h = rw (e, lt-leb primary 1 h)
 
-  is-entry-at : isEntry (drop at xs) ≡ (number && (leb (word 2) 1 && isTime (word 3) (word 4)))
+  pub by-time : magnitude (ofBits binary64 demand) ≡ true → primary ≤ 1 → isTime flag time ≡ areWords demand primary flag time
+  by-time e h = rw (e, le-leb primary 1 h)
+
+  -- whatever the key and since when it is hot
+  pub are-words : (key since : ℕ) → isEntry (key ∷ demand ∷ primary ∷ flag ∷ time ∷ since ∷ []) ≡ areWords demand primary flag time
   unfolding isEntry
-  is-entry-at = simp getD-drop
+  are-words key since = refl
 
-  pub no-number : number ≡ false → false ≡ isEntry (drop at xs)
-  no-number e = rw is-entry-at (rw e)
-
-  pub no-primary : number ≡ true → 1 < word 2 → false ≡ isEntry (drop at xs)
-  no-primary e h = rw is-entry-at (rw (e, lt-leb (word 2) 1 h))
-
-  pub by-time : number ≡ true → word 2 ≤ 1 → isTime (word 3) (word 4) ≡ isEntry (drop at xs)
-  by-time e h = rw is-entry-at (rw (e, le-leb (word 2) 1 h))
+-- of the words that begin at `at`
+pub is-entry-at : (at : ℕ) (xs : List ℕ) → isEntry (drop at xs) ≡ areWords (getD xs (at + 1) 0) (getD xs (at + 2) 0) (getD xs (at + 3) 0) (getD xs (at + 4) 0)
+unfolding isEntry
+is-entry-at at xs = simp getD-drop
 
 pub entry-at : (at : ℕ) (xs : List ℕ) → entry (drop at xs) ≡ record {
   key = getD xs at 0;
@@ -159,6 +159,18 @@ entries-table es xs f = ap (map entry) (records-table es xs) ∙ back es f
 
 pub length-table : (es : List HotEntry) (xs : List ℕ) → length es * 6 ≤ length xs → length (table (map words es) xs) ≡ length xs
 length-table es xs h = records.length-table (map words es) xs (omega (arith, length-flat es))
+
+-- past its entries a table is as before
+pub past-table : (es : List HotEntry) (xs : List ℕ) (m : ℕ) → length es * 6 ≤ m → drop m (table (map words es) xs) ≡ drop m xs
+past-table es xs m h =
+    let ws : List ℕ = table (map words es) xs in
+    let l : ℕ = length (flat (map words es)) in
+    let e : l + (m - l) ≡ m = omega (arith, length-flat es) in
+    ap (λ (n : ℕ). drop n ws) (sym e)
+    ∙ sym (drop-drop (m - l) l ws)
+    ∙ ap (drop (m - l)) (records.drop-table (map words es) xs)
+    ∙ drop-drop (m - l) l xs
+    ∙ ap (λ (n : ℕ). drop n xs) e
 
 -- a table that is written over by no fewer words leaves no trace
 over : (rs ss : List (List ℕ)) (xs : List ℕ) → length (flat rs) ≤ length (flat ss) → table ss (table rs xs) ≡ table ss xs

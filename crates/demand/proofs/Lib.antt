@@ -24,6 +24,9 @@ pub mod HotSetScan
 pub mod HotSetAnswers
 pub mod HotSetActs
 pub mod HotSetTheorems
+pub mod HotSetEntryLaws
+pub mod HotSetEachLaws
+pub mod HotSetEachTheorems
 pub mod PeerApplyLaws
 pub mod PeerReportValidLaws
 pub mod PeerCallLaws
@@ -41,8 +44,11 @@ pub mod PeerKeyLaws
 pub mod PeerKindLaws
 pub mod PeerLenLaws
 pub mod PeerListLaws
+pub mod PeerOneLaws
 pub mod PeerOrderLaws
 pub mod PeerPoints
+pub mod PeerMarkLaws
+pub mod PeerPrimaryLaws
 pub mod PeerRangeLaws
 pub mod PeerEachLaws
 pub mod PeerReaderLaws

@@ -15,7 +15,7 @@ use Rattle.demand.specs.declared.peer_demand.PeerDemand.{PeerDemand}
 use Rattle.gcra.specs.Questions.{Question, _asks_, passes, firstNo}
 use Rattle.gcra.proofs.Answers.{passed-none, first-no, first-yes, first-none, first-more, first-rest}
 use Rattle.demand.specs.PeerRecords.{peerWords, snapshotKeyWords, contestedWords, peerOf, snapshotKeyOf, contestedOf}
-use Rattle.demand.specs.PeerState.{PeerTables, isKnown, haveRoom, stateOf, exact, areExact, isValid, valid}
+use Rattle.demand.specs.PeerState.{PeerTables, isKnown, lengths, haveRoom, stateOf, exact, areExact, isValid, valid}
 use Rattle.demand.specs.PeerCalls.{hasDemands, hasPlace, peersQuestions, reportQuestions}
 use Rattle.demand.specs.Steps.PeerRuns.{keysIn, contestedIn, peersIn, Passed, Known}
 use Rattle.demand.proofs.PeerCallLaws.{peers-numbered, report-numbered}
@@ -26,7 +26,7 @@ use Rattle.demand.proofs.PeerKeptLaws.{or-right, ValidState, valid-says
 -- ---- the questions
 
 pub record Sound (p : PeerDemand) (t : PeerTables) (id : ℕ) (r : DemandReport) : Type 0 where
-  pub room : haveRoom t ≡ true
+  pub room : haveRoom (lengths t) ≡ true
   pub state : isValid p t ≡ true
   pub count : r .count ≤ 64
   pub demands : hasDemands r ≡ true
@@ -36,7 +36,7 @@ pub passed-says : (p : PeerDemand) (t : PeerTables) (id : ℕ) (r : DemandReport
 unfolding passes
 passed-says p t id r e =
     let q = passed-none (reportQuestions p t id r) 0 (report-numbered p t id r) (sym (e .questions)) refl in
-    let a = both (haveRoom t) _ q in
+    let a = both (haveRoom (lengths t)) _ q in
     let b = both (isValid p t) _ (a .1) in
     let c = both (leb (r .count) 64) _ (b .1) in
     let d = both (hasDemands r) _ (c .1) in
@@ -95,7 +95,7 @@ pub record Tables (p : PeerDemand) (t : PeerTables) : Type 0 where
   pub contested-exact : records 6 (p .contested) (t .contested) ≡ map contestedWords (contestedIn (p .contested) (t .contested))
   pub valids : ValidState (stateOf p t)
 
-pub tables-of : (p : PeerDemand) (t : PeerTables) → haveRoom t ≡ true → isValid p t ≡ true → Tables p t
+pub tables-of : (p : PeerDemand) (t : PeerTables) → haveRoom (lengths t) ≡ true → isValid p t ≡ true → Tables p t
 unfolding isValid areExact
 tables-of p t h e =
     let a = both (areExact p t) (valid (stateOf p t)) e in

@@ -10,7 +10,7 @@ use Rattle.demand.specs.declared.peer_demand.PeerDemand.{PeerDemand}
 use Rattle.demand.specs.declared.peer_demand.PeersChanged.{PeersChanged}
 use Rattle.gcra.specs.Questions.{Question, passes, changed, firstNo}
 use Rattle.gcra.proofs.Answers.{Numbered, answer-no, answer-passed, kept-no, changed-passed, passed-none}
-use Rattle.demand.specs.PeerState.{PeersState, PeerTables, haveRoom, stateOf, isValid, countsOf, written}
+use Rattle.demand.specs.PeerState.{PeersState, PeerTables, lengths, haveRoom, stateOf, isValid, countsOf, written}
 use Rattle.demand.specs.Steps.PeerRuns.{Stores, Becomes}
 use Rattle.demand.specs.PeerCalls.{changeAnswer, peersQuestions, reportQuestions, Changes}
 use Rattle.demand.specs.Steps.PeerSteps.{Valid, refusedWith, doneWith}
@@ -55,12 +55,12 @@ changes-as qs f g p t r t′ e c = record {
 -- questions 1 and 2 passed, as one fact and as two
 pub valid-passes : (p : PeerDemand) (t : PeerTables) → Valid p t → passes (peersQuestions p t) ≡ true
 unfolding passes
-valid-passes p t v = and-intro (haveRoom t) _ (v .room) (and-intro (isValid p t) true (v .state) refl)
+valid-passes p t v = and-intro (haveRoom (lengths t)) _ (v .room) (and-intro (isValid p t) true (v .state) refl)
 
 pub passes-valid : (p : PeerDemand) (t : PeerTables) → passes (peersQuestions p t) ≡ true → Valid p t
 unfolding passes
 passes-valid p t e =
-    let a = both (haveRoom t) _ e in
+    let a = both (haveRoom (lengths t)) _ e in
     record { room = a .0; state = both (isValid p t) true (a .1) .0 }
 
 -- the same by the number of the first 'no'

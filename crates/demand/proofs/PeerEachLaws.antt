@@ -13,7 +13,7 @@ use lib.Seq.{paste, paste-zero, paste-suc, take-length}
 use Rattle.records.specs.Records.{records, fits}
 use Rattle.records.proofs.TestLaws.{both}
 use Rattle.records.proofs.RecordLaws.{length-records, fits-pos}
-use Rattle.demand.specs.PeerState.{PeersState, PeerTables, haveRoom, stateOf, isValid}
+use Rattle.demand.specs.PeerState.{PeersState, PeerTables, lengths, haveRoom, stateOf, valid, areExact, isValid}
 use Rattle.demand.specs.PeerReaders.{told}
 use Rattle.demand.specs.PeerCalls.{peersQuestions, eachQuestions, TellsEach}
 use Rattle.demand.specs.declared.peer_demand.PeerDemand.{PeerDemand}
@@ -22,6 +22,7 @@ use Rattle.gcra.specs.Questions.{_asks_, passes, firstNo}
 use Rattle.gcra.proofs.Answers.{Numbered, answer-no, answer-passed, kept-no, changed-passed, passed-none, first-no, first-yes, first-none, first-more, first-rest}
 use Rattle.demand.proofs.PeerCallLaws.{peers-numbered}
 use Rattle.demand.proofs.PeerListLaws.{map-at}
+use Rattle.demand.proofs.PeerKeptLaws.{ValidState, valid-says}
 use Rattle.demand.proofs.PeerRowLaws.{first-at}
 
 module _ {A : Type 0} (tell : ℕ → PeersState → A) (s : PeersState) (w n : ℕ) (keys : List ℕ) (out : List A) where
@@ -92,9 +93,17 @@ module _ (p : PeerDemand) (t : PeerTables) (len w n room : ℕ) where
     unfolding passes
     each-fits =
         let a = both (fits len w n) _ each-passed in
-        let b = both (haveRoom t) _ (a .1) in
+        let b = both (haveRoom (lengths t)) _ (a .1) in
         let c = both (isValid p t) _ (b .1) in
         (a .0, leb-true n room (both (leb n room) true (c .1) .0))
+
+    pub each-valid : ValidState (stateOf p t)
+    unfolding passes isValid
+    each-valid =
+        let a = both (fits len w n) _ each-passed in
+        let b = both (haveRoom (lengths t)) _ (a .1) in
+        let c = both (isValid p t) _ (b .1) in
+        valid-says (stateOf p t) (both (areExact p t) (valid (stateOf p t)) (c .0) .1)
 
 -- ---- a call, by the number of the first 'no'
 module _ {A : Type 0} (tell : ℕ → PeersState → A) (p : PeerDemand) (t : PeerTables) (w n : ℕ) (keys : List ℕ) (out : List A) (m : ℕ) (asked : m ≡ firstNo (eachQuestions p t (length keys) w n (length out))) where

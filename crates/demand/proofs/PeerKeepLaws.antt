@@ -26,7 +26,7 @@ use Rattle.demand.proofs.PeerRowLaws.{word-at}
 -- ---- a table and its records
 
 -- past its records a table is as before
-drop-past : (rs : List (List ℕ)) (xs : List ℕ) (m : ℕ) → length (flat rs) ≤ m → drop m (table rs xs) ≡ drop m xs
+pub drop-past : (rs : List (List ℕ)) (xs : List ℕ) (m : ℕ) → length (flat rs) ≤ m → drop m (table rs xs) ≡ drop m xs
 unfolding table
 drop-past rs xs m h =
     let l : ℕ = length (flat rs) in
@@ -34,7 +34,7 @@ drop-past rs xs m h =
     ap (λ (n : ℕ). drop n (flat rs ++ drop l xs)) e ∙ drop-append-add (flat rs) (drop l xs) (m - l) ∙ drop-drop (m - l) l xs ∙ ap (λ (n : ℕ). drop n xs) (sym e)
 
 -- a record pasted behind the others is one more of them
-paste-more : (w : ℕ) (rs : List (List ℕ)) (r xs : List ℕ) → Wide w rs → paste (length rs * w) r (table rs xs) ≡ table (rs ++ (r ∷ [])) xs
+pub paste-more : (w : ℕ) (rs : List (List ℕ)) (r xs : List ℕ) → Wide w rs → paste (length rs * w) r (table rs xs) ≡ table (rs ++ (r ∷ [])) xs
 unfolding paste table flat
 paste-more w rs r xs p =
     let f : List ℕ = flat rs in

@@ -163,7 +163,7 @@ module _ {A : Type 0} (number : A → ℕ) (z : A) (a : ℕ) (xs : List A) (i j 
 abbrev pub secondWord : List ℕ → ℕ
 secondWord r = getD r 1 0
 
-wide-at : (w : ℕ) (rs : List (List ℕ)) → Wide w rs → (i : ℕ) → i < length rs → length (getD rs i []) ≡ w
+pub wide-at : (w : ℕ) (rs : List (List ℕ)) → Wide w rs → (i : ℕ) → i < length rs → length (getD rs i []) ≡ w
 wide-at w [] p i h = absurd (not-suc-le-zero h)
 wide-at w (r ∷ rs) p zero h = p .0
 wide-at w (r ∷ rs) p (suc i) h = wide-at w rs (p .1) i (le-of-suc-le-suc h)

@@ -7,19 +7,19 @@ use lib.ListN.{length}
 use borrow.Author.Tests.{le-leb, lt-leb}
 use Rattle.gcra.specs.Questions.{refused, given, answer}
 use Rattle.gcra.proofs.Answers.{alone-no, alone-yes}
-use Rattle.demand.specs.PeerState.{PeerTables, peersSize, snapshotKeysSize, contestedSize, haveRoom}
+use Rattle.demand.specs.PeerState.{PeerTables, peersSize, snapshotKeysSize, contestedSize, lengths, haveRoom}
 use Rattle.demand.specs.PeerCalls.{newQuestions}
 
-pub short-peers : (t : PeerTables) → length (t .peers) < peersSize → false ≡ haveRoom t
-unfolding haveRoom
+pub short-peers : (t : PeerTables) → length (t .peers) < peersSize → false ≡ haveRoom (lengths t)
+unfolding lengths haveRoom
 short-peers t h =
     sym
     (ap (λ (b : Bool). b && (leb snapshotKeysSize (length (t .snapshotKeys)) && leb contestedSize (length (t .contested))))
     (lt-leb peersSize (length (t .peers)) h))
 
 pub short-keys :
-    (t : PeerTables) → peersSize ≤ length (t .peers) → length (t .snapshotKeys) < snapshotKeysSize → false ≡ haveRoom t
-unfolding haveRoom
+    (t : PeerTables) → peersSize ≤ length (t .peers) → length (t .snapshotKeys) < snapshotKeysSize → false ≡ haveRoom (lengths t)
+unfolding lengths haveRoom
 short-keys t h k =
     sym
     (ap (λ (b : Bool). b && (leb snapshotKeysSize (length (t .snapshotKeys)) && leb contestedSize (length (t .contested))))
@@ -31,8 +31,8 @@ pub long-contested :
     (t : PeerTables)
     → peersSize ≤ length (t .peers)
     → snapshotKeysSize ≤ length (t .snapshotKeys)
-    → leb contestedSize (length (t .contested)) ≡ haveRoom t
-unfolding haveRoom
+    → leb contestedSize (length (t .contested)) ≡ haveRoom (lengths t)
+unfolding lengths haveRoom
 long-contested t h k =
     sym
     (ap (λ (b : Bool). b && (leb snapshotKeysSize (length (t .snapshotKeys)) && leb contestedSize (length (t .contested))))
@@ -41,8 +41,8 @@ long-contested t h k =
     (le-leb snapshotKeysSize (length (t .snapshotKeys)) k))
 
 -- the answer to question 1 alone
-pub no-room : {A : Type 0} (t : PeerTables) (v : A) → haveRoom t ≡ false → refused 1 ≡ answer (newQuestions t) v
+pub no-room : {A : Type 0} (t : PeerTables) (v : A) → haveRoom (lengths t) ≡ false → refused 1 ≡ answer (newQuestions t) v
 no-room t v h = alone-no 1 v h
 
-pub some-room : {A : Type 0} (t : PeerTables) (v : A) → haveRoom t ≡ true → given v ≡ answer (newQuestions t) v
+pub some-room : {A : Type 0} (t : PeerTables) (v : A) → haveRoom (lengths t) ≡ true → given v ≡ answer (newQuestions t) v
 some-room t v h = alone-yes 1 v h

@@ -108,7 +108,7 @@ regroup true true false w false p s h = refl
 regroup true true true w v p s h = ap (λ (z : Bool). z && (v && (p && s))) (h refl)
 
 -- the words of a record that they stand for exactly are words
-exact-words : (words r : List ℕ) → all isWord r ≡ true → same words r ≡ true → all isWord words ≡ true
+pub exact-words : (words r : List ℕ) → all isWord r ≡ true → same words r ≡ true → all isWord words ≡ true
 exact-words words r h e = ap (all isWord) (same-eq words r e) ∙ h
 
 -- a record is exact and valid where its words pass the test

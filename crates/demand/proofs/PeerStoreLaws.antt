@@ -14,7 +14,7 @@ use Rattle.records.proofs.RecordLaws.{length-records}
 use Rattle.demand.specs.declared.peer_demand.PeerDemand.{PeerDemand}
 use Rattle.demand.specs.PeerLists.{only, all, those, replaced}
 use Rattle.demand.specs.PeerRecords.{PeerRecord, SnapshotKey, ContestedKey, peerWords, snapshotKeyWords, contestedWords, peerOf, snapshotKeyOf, contestedOf}
-use Rattle.demand.specs.PeerState.{PeersState, PeerTables, maxPeers, maxDemandKeys, maxContested, peersSize, snapshotKeysSize, contestedSize, haveRoom, exact, areExact, valid, validPeers, validPeer, validSnapshotKeys, validSnapshotKey, validContesteds, validContested, stateOf, isValid, tables}
+use Rattle.demand.specs.PeerState.{PeersState, PeerTables, maxPeers, maxDemandKeys, maxContested, peersSize, snapshotKeysSize, contestedSize, lengths, haveRoom, exact, areExact, valid, validPeers, validPeer, validSnapshotKeys, validSnapshotKey, validContesteds, validContested, stateOf, isValid, tables}
 use Rattle.demand.specs.PeerChanges.{forget, hold, holdPeer, leave, later}
 use Rattle.demand.specs.Steps.PeerScan.{firstWord}
 use Rattle.demand.specs.Steps.PeerRuns.{Tabled, Stores, Becomes}
@@ -48,7 +48,7 @@ pub record Tables (p : PeerDemand) (t : PeerTables) : Type 0 where
   pub contested : Sound contestedWords contestedOf 6 2 contestedSize (p .contested) (t .contested)
 
 pub tables-of : (p : PeerDemand) (t : PeerTables) → Valid p t → Tables p t
-unfolding haveRoom isValid areExact stateOf valid validPeers validSnapshotKeys validContesteds
+unfolding lengths haveRoom isValid areExact stateOf valid validPeers validSnapshotKeys validContesteds
 tables-of p t v =
     let r = both (leb peersSize (length (t .peers))) _ (v .room) in
     let r₂ = both (leb snapshotKeysSize (length (t .snapshotKeys))) _ (r .1) in

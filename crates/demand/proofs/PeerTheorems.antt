@@ -19,7 +19,7 @@ use Rattle.demand.specs.declared.peer_demand.PeersChanged.{PeersChanged}
 use Rattle.demand.specs.declared.peer_demand.PeersAnswer.{PeersAnswer}
 use Rattle.demand.specs.PeerLists.{all}
 use Rattle.demand.specs.PeerRecords.{PeerRecord, peerWords, snapshotKeyWords, contestedWords, peerOf, snapshotKeyOf, contestedOf}
-use Rattle.demand.specs.PeerState.{PeersState, PeerTables, peersSize, snapshotKeysSize, contestedSize, validPeer, validSnapshotKey, validContested, valid, validPeers, validSnapshotKeys, validContesteds, haveRoom, stateOf, exact, areExact, isValid, countsOf, written}
+use Rattle.demand.specs.PeerState.{PeersState, PeerTables, peersSize, snapshotKeysSize, contestedSize, validPeer, validSnapshotKey, validContested, valid, validPeers, validSnapshotKeys, validContesteds, lengths, haveRoom, stateOf, exact, areExact, isValid, countsOf, written}
 use Rattle.demand.specs.PeerChanges as changes
 use Rattle.demand.specs.PeerCalls.{Widths, fitsWidths, peersAnswer, newQuestions, peersQuestions, reportQuestions, Changes, IsNew, Applies, Forgets, Leaves, Expires}
 use Rattle.demand.specs.Steps.PeerSteps.{Valid}
@@ -35,14 +35,14 @@ use Rattle.demand.proofs.PeerReportValidLaws.{apply-valid}
 use Rattle.demand.proofs.PeerDepartureLaws.{forget-valid, leave-valid, expire-valid}
 
 -- ---- records and their words
-back : {A : Type 0} (words : A → List ℕ) (of : List ℕ → A) (good : A → Bool) → ((x : A) → good x ≡ true → of (words x) ≡ x) → (xs : List A) → all good xs ≡ true → map of (map words xs) ≡ xs
+pub back : {A : Type 0} (words : A → List ℕ) (of : List ℕ → A) (good : A → Bool) → ((x : A) → good x ≡ true → of (words x) ≡ x) → (xs : List A) → all good xs ≡ true → map of (map words xs) ≡ xs
 unfolding all
 back words of good h [] a = refl
 back words of good h (x ∷ xs) a =
     let b = both (good x) (all good xs) a in
     (λ i. h x (b .0) i ∷ back words of good h xs (b .1) i)
 
-exactly : {A : Type 0} (words : A → List ℕ) (of : List ℕ → A) (good : A → Bool) → ((x : A) → good x ≡ true → of (words x) ≡ x) → (xs : List A) → all good xs ≡ true → exact words of (map words xs) ≡ true
+pub exactly : {A : Type 0} (words : A → List ℕ) (of : List ℕ → A) (good : A → Bool) → ((x : A) → good x ≡ true → of (words x) ≡ x) → (xs : List A) → all good xs ≡ true → exact words of (map words xs) ≡ true
 unfolding all
 exactly words of good h [] a = refl
 exactly words of good h (x ∷ xs) a =
@@ -51,10 +51,10 @@ exactly words of good h (x ∷ xs) a =
 
 -- ---- a valid state that is written passes questions 1 and 2
 module _ {A : Type 0} (words : A → List ℕ) (w : ℕ) (long : (x : A) → length (words x) ≡ w) (vs : List A) (xs : List ℕ) where
-  records-written : records w (length vs) (table (map words vs) xs) ≡ map words vs
+  pub records-written : records w (length vs) (table (map words vs) xs) ≡ map words vs
   records-written = records-table w (length vs) (map words vs) xs (wide-map words w long vs) (length-map vs words)
 
-  length-written : length vs * w ≤ length xs → length (table (map words vs) xs) ≡ length xs
+  pub length-written : length vs * w ≤ length xs → length (table (map words vs) xs) ≡ length xs
   length-written h = length-table (map words vs) xs (omega (arith, length-flat w (map words vs) (wide-map words w long vs), ap (λ (m : ℕ). m * w) (length-map vs words)))
 
 module _ (s : PeersState) (t : PeerTables) (e : valid s ≡ true) where
@@ -70,7 +70,7 @@ module _ (s : PeersState) (t : PeerTables) (e : valid s ≡ true) where
   contested-written : records 6 (length (s .contested)) (written s t .contested) ≡ map contestedWords (s .contested)
   contested-written = records-written contestedWords 6 contested-long (s .contested) (t .contested)
 
-  read-back : stateOf (countsOf s) (written s t) ≡ s
+  pub read-back : stateOf (countsOf s) (written s t) ≡ s
   unfolding stateOf
   read-back =
       let v = valid-says s e in
@@ -90,8 +90,8 @@ module _ (s : PeersState) (t : PeerTables) (e : valid s ≡ true) where
       (ap (exact snapshotKeyWords snapshotKeyOf) keys-written ∙ exactly snapshotKeyWords snapshotKeyOf validSnapshotKey (λ k _. snapshot-key-of-words k) (s .snapshotKeys) (v .keys))
       (ap (exact contestedWords contestedOf) contested-written ∙ exactly contestedWords contestedOf validContested (λ c _. contested-of-words c) (s .contested) (v .contested)))
 
-  written-valid : haveRoom t ≡ true → Valid (countsOf s) (written s t)
-  unfolding haveRoom isValid
+  pub written-valid : haveRoom (lengths t) ≡ true → Valid (countsOf s) (written s t)
+  unfolding lengths haveRoom isValid
   written-valid room =
       let v = valid-says s e in
       let r = room-says t room in
@@ -111,10 +111,10 @@ valid-now p t v = both (areExact p t) (valid (stateOf p t)) (v .state) .1
 -- ---- every call that changes the state
 module _ (qs : List Question) (change : PeersState → PeersState) (p : PeerDemand) (t : PeerTables) (r : PeersChanged) (t′ : PeerTables) (c : Changes qs change p t r t′) where
   -- all questions answered 'yes', and one answered 'no'
-  after-yes : passes qs ≡ true → (r .peers ≡ countsOf (change (stateOf p t))) × (t′ ≡ written (change (stateOf p t)) t)
+  pub after-yes : passes qs ≡ true → (r .peers ≡ countsOf (change (stateOf p t))) × (t′ ≡ written (change (stateOf p t)) t)
   after-yes e = (c .value ∙ sym (changed-passed _ p qs e), c .words ∙ sym (changed-passed _ t qs e))
 
-  after-no : passes qs ≡ false → (r .peers ≡ p) × (t′ ≡ t)
+  pub after-no : passes qs ≡ false → (r .peers ≡ p) × (t′ ≡ t)
   after-no e = (c .value ∙ ap (λ (b : Bool). cond b (countsOf (change (stateOf p t))) p) e, c .words ∙ ap (λ (b : Bool). cond b (written (change (stateOf p t)) t) t) e)
 
   changed-again : passes (peersQuestions p t) ≡ true → (passes qs ≡ true → valid (change (stateOf p t)) ≡ true) → passes (peersQuestions (r .peers) t′) ≡ true
@@ -174,4 +174,4 @@ pub new-passes : (t : PeerTables) (r : PeersAnswer) (p : PeerDemand) → IsNew t
 unfolding passes
 new-passes t r p c e =
     let w = given-passed (newQuestions t) p none (sym e ∙ c) in
-    subst (λ (x : PeerDemand). passes (peersQuestions x t) ≡ true) (sym (w .1)) (valid-passes none t (record { room = both (haveRoom t) true (w .0) .0; state = none-valid t }))
+    subst (λ (x : PeerDemand). passes (peersQuestions x t) ≡ true) (sym (w .1)) (valid-passes none t (record { room = both (haveRoom (lengths t)) true (w .0) .0; state = none-valid t }))

@@ -15,7 +15,7 @@ use Rattle.records.proofs.RecordLaws.{row, length-records, record-at}
 use Rattle.demand.specs.declared.peer_demand.PeerDemand.{PeerDemand}
 use Rattle.demand.specs.PeerLists.{all, any, present, those}
 use Rattle.demand.specs.PeerRecords.{PeerRecord, SnapshotKey, ContestedKey, snapshotOf, peerWords, snapshotKeyWords, contestedWords, peerOf, snapshotKeyOf, contestedOf}
-use Rattle.demand.specs.PeerState.{PeerTables, maxPeers, maxDemandKeys, maxContested, snapshotKeysOf, contestedKeysOf, isTaken, isKnown, hasSnapshot, isWord, validPeer, validSnapshotKey, validContested, validPeers, validSnapshotKeys, validContesteds, valid, haveRoom, peersSize, snapshotKeysSize, contestedSize, stateOf, exact, areExact, isValid}
+use Rattle.demand.specs.PeerState.{PeerTables, maxPeers, maxDemandKeys, maxContested, snapshotKeysOf, contestedKeysOf, isTaken, isKnown, hasSnapshot, isWord, validPeer, validSnapshotKey, validContested, validPeers, validSnapshotKeys, validContesteds, valid, lengths, haveRoom, peersSize, snapshotKeysSize, contestedSize, stateOf, exact, areExact, isValid}
 use Rattle.demand.specs.Steps.PeerScan.{firstWord, arePeerWords, areKeyWords, isNamed, areNamed, areWithin, arePeers, areKeys, isScanned, PeersReady, KeysReady}
 use Rattle.demand.proofs.PeerListLaws.{all-map, any-map, all-at, all-both, length-those}
 use Rattle.demand.proofs.PeerWordLaws.{words-of-exact}
@@ -48,7 +48,7 @@ record-length w n xs i h k =
     ap length (record-at w n xs i h) ∙ length-take-le w (drop (i * w) xs) (omega (arith, length-drop (i * w) xs, row w n i h))
 
 -- ---- a table's records
-and-under : (a b c : Bool) → (a ≡ true → b ≡ c) → (a && b) ≡ (a && c)
+pub and-under : (a b c : Bool) → (a ≡ true → b ≡ c) → (a && b) ≡ (a && c)
 and-under true b c h = h refl
 and-under false b c h = refl
 
@@ -152,8 +152,8 @@ pub record Roomy (t : PeerTables) : Type 0 where
   pub snapshotKeys : snapshotKeysSize ≤ length (t .snapshotKeys)
   pub contested : contestedSize ≤ length (t .contested)
 
-pub room-says : (t : PeerTables) → haveRoom t ≡ true → Roomy t
-unfolding haveRoom
+pub room-says : (t : PeerTables) → haveRoom (lengths t) ≡ true → Roomy t
+unfolding lengths haveRoom
 room-says t e =
     let a = both (leb peersSize (length (t .peers))) _ e in
     let b = both (leb snapshotKeysSize (length (t .snapshotKeys))) _ (a .1) in
@@ -163,7 +163,7 @@ room-says t e =
       contested = leb-true contestedSize (length (t .contested)) (b .1);
     }
 
-pub scanned-is-valid : (p : PeerDemand) (t : PeerTables) → haveRoom t ≡ true → all isWord (t .peers) ≡ true → all isWord (t .snapshotKeys) ≡ true → all isWord (t .contested) ≡ true → isScanned p t ≡ isValid p t
+pub scanned-is-valid : (p : PeerDemand) (t : PeerTables) → haveRoom (lengths t) ≡ true → all isWord (t .peers) ≡ true → all isWord (t .snapshotKeys) ≡ true → all isWord (t .contested) ≡ true → isScanned p t ≡ isValid p t
 unfolding isScanned isValid areExact valid stateOf
 scanned-is-valid p t room wp wk wc =
     let r = room-says t room in

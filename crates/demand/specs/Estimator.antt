@@ -19,12 +19,15 @@ unfoldable pub alpha : (e c : ℕ) → Float
 alpha e c = round binary64 false (S - weight e c) S
 
 -- 004, `tick`: alpha × the attempts per second of the elapsed nanoseconds + (1 − alpha) × the rate so far
-unfoldable pub folded : (rate : Float) (attempts e c : ℕ) → Float
-unfolding alpha
-folded rate attempts e c =
+unfoldable pub foldedBy : (a rate : Float) (attempts e : ℕ) → Float
+foldedBy a rate attempts e =
     let seconds = div binary64 (whole e) (whole 1_000_000_000) in
     let instantaneous = div binary64 (whole attempts) seconds in
-    add binary64 (mul binary64 (alpha e c) instantaneous) (mul binary64 (sub binary64 (whole 1) (alpha e c)) rate)
+    add binary64 (mul binary64 a instantaneous) (mul binary64 (sub binary64 (whole 1) a) rate)
+
+unfoldable pub folded : (rate : Float) (attempts e c : ℕ) → Float
+unfolding alpha foldedBy
+folded rate attempts e c = foldedBy (alpha e c) rate attempts e
 
 -- 004, `new` and `starting_at`
 abbrev pub new : ℕ → Demand
@@ -68,12 +71,13 @@ abbrev pub ticked : Demand → ℕ → Demand
 ticked d now = tickedFrom (d .times) d now
 
 -- 004, `unbiased_rate`; 01: 'An unbiased rate divides by (S − D) ÷ S; if that is 0, it is 0'
+unfoldable pub unbiasedBy : (a rate : Float) (measured : ℕ) → Float
+unbiasedBy a rate measured = cond (eqb measured 0) (whole 0) (cond (eq a (whole 0)) (whole 0) (div binary64 rate a))
+
 unfoldable pub unbiasedFrom : Times → Demand → Float
-unfolding alpha
+unfolding alpha unbiasedBy
 unbiasedFrom Unset d = whole 0
-unbiasedFrom (At last since) d =
-    let part = alpha (last - since) (d .«time_constant») in
-    cond (eqb (last - since) 0) (whole 0) (cond (eq part (whole 0)) (whole 0) (div binary64 (d .«current_rate») part))
+unbiasedFrom (At last since) d = unbiasedBy (alpha (last - since) (d .«time_constant»)) (d .«current_rate») (last - since)
 
 abbrev pub unbiased : Demand → Float
 unbiased d = unbiasedFrom (d .times) d

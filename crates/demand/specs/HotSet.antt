@@ -48,8 +48,11 @@ entries n xs = map entry (records 6 n xs)
 -- ---- validity (01, 'The saved image')
 
 -- the demand is finite with a clear sign bit, flags are 0 or 1, a time is 0 if missing
+abbrev pub areWords : (demand primary cooling time : ℕ) → Bool
+areWords demand primary cooling time = magnitude (ofBits binary64 demand) && (leb primary 1 && isTime cooling time)
+
 unfoldable pub isEntry : List ℕ → Bool
-isEntry r = magnitude (ofBits binary64 (getD r 1 0)) && (leb (getD r 2 0) 1 && isTime (getD r 3 0) (getD r 4 0))
+isEntry r = areWords (getD r 1 0) (getD r 2 0) (getD r 3 0) (getD r 4 0)
 
 unfoldable pub allEntries : List (List ℕ) → Bool
 allEntries [] = true
@@ -184,6 +187,38 @@ updateWith margin s key demand threshold now elsewhere es =
     cond (lt threshold demand)
     (promote margin (s .«max_size») key demand true now es)
     (belowThreshold margin (s .cooldown) (s .«max_size») key demand now elsewhere es)
+
+-- ---- updates of many keys, one after the other
+
+-- what one update is given
+pub record Update : Type 0 where
+  pub key : ℕ
+  pub demand : Float
+  pub threshold : Float
+  pub elsewhere : Bool
+
+-- keys with their demands, thresholds and flags, each at the key's place
+unfoldable pub updatesOf : (keys : List ℕ) (demands thresholds : List Float) (elsewhere : List Bool) → List Update
+updatesOf [] ds ts bs = []
+updatesOf (k ∷ ks) [] ts bs = []
+updatesOf (k ∷ ks) (d ∷ ds) [] bs = []
+updatesOf (k ∷ ks) (d ∷ ds) (t ∷ ts) [] = []
+updatesOf (k ∷ ks) (d ∷ ds) (t ∷ ts) (b ∷ bs) = record { key = k; demand = d; threshold = t; elsewhere = b } ∷ updatesOf ks ds ts bs
+
+abbrev pub updateBy : (margin : Float) → HotSet → (now : ℕ) → Update → List HotEntry → Outcome
+updateBy margin s now u es = updateWith margin s (u .key) (u .demand) (u .threshold) now (u .elsewhere) es
+
+-- whether each key is hot after its own update, and the entries after all
+pub record Outcomes : Type 0 where
+  pub hot : List Bool
+  pub left : List HotEntry
+
+unfoldable pub updateEach : (margin : Float) → HotSet → (now : ℕ) → List Update → List HotEntry → Outcomes
+updateEach margin s now [] es = record { hot = []; left = es }
+updateEach margin s now (u ∷ us) es =
+    let o = updateBy margin s now u es in
+    let rest = updateEach margin s now us (o .left) in
+    record { hot = o .hot ∷ rest .hot; left = rest .left }
 
 -- ---- 003, the readers
 abbrev pub there : Option HotEntry → Bool

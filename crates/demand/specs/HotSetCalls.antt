@@ -2,15 +2,17 @@
 use Prim.Native.Nat.{ℕ, _*_, min}
 use mathlib.Core.Path.{_≡_}
 use mathlib.Core.Bool.{Bool, false, _&&_}
-use mathlib.Core.List.{List, [], _∷_, map}
+use mathlib.Core.List.{List, [], _∷_, _++_, map}
 use mathlib.Core.Option.{Option, none, some}
 use lib.Dec.{leb, eqb}
 use lib.Ieee.{Float, binary64, ofBits}
-use lib.ListN.{length}
+use lib.ListN.{length, getD, take, drop}
 use Rattle.float.specs.Magnitude.{magnitude}
 use Rattle.records.specs.Records.{records, table, fits}
 use Rattle.gcra.specs.Questions.{Question, _asks_, Answer, refused, given, answer, changed}
-use Rattle.demand.specs.HotSet.{words, entries, validEntries, validSize, valid, get, Outcome, updateWith, isHot, sinceOf, primaryOf}
+use Rattle.demand.specs.PeerLists.{all}
+use Rattle.demand.specs.HotSet.{words, entries, validEntries, validSize, valid, get, isHot, sinceOf, primaryOf}
+use Rattle.demand.specs.HotSet.{Outcome, updateWith, Update, updatesOf, updateBy, updateEach}
 use Rattle.demand.specs.declared.hot_set.HotSet.{HotSet}
 use Rattle.demand.specs.declared.hot_set.HotEntry.{HotEntry}
 use Rattle.demand.specs.declared.hot_set.Updated.{Updated}
@@ -18,6 +20,8 @@ use Rattle.demand.specs.declared.hot_set.NewAnswer.{NewAnswer}
 use Rattle.demand.specs.declared.hot_set.NewAnswer.the-variants as new-answer
 use Rattle.demand.specs.declared.hot_set.UpdateAnswer.{UpdateAnswer}
 use Rattle.demand.specs.declared.hot_set.UpdateAnswer.the-variants as update-answer
+use Rattle.demand.specs.declared.hot_set.EachAnswer.{EachAnswer}
+use Rattle.demand.specs.declared.hot_set.EachAnswer.the-variants as each-answer
 use Rattle.demand.specs.declared.hot_set.TestAnswer.{TestAnswer}
 use Rattle.demand.specs.declared.hot_set.TestAnswer.the-variants as test-answer
 use Rattle.demand.specs.declared.hot_set.SinceAnswer.{SinceAnswer}
@@ -33,6 +37,10 @@ newAnswer (new-answer.Is s) = given s
 abbrev pub updateAnswer : UpdateAnswer → Answer Updated
 updateAnswer (update-answer.No n) = refused n
 updateAnswer (update-answer.Is u) = given u
+
+abbrev pub eachAnswer : EachAnswer → Answer HotSet
+eachAnswer (each-answer.No n) = refused n
+eachAnswer (each-answer.Is s) = given s
 
 abbrev pub testAnswer : TestAnswer → Answer Bool
 testAnswer (test-answer.No n) = refused n
@@ -99,6 +107,53 @@ pub record UpdatedWith (s : HotSet) (xs : List ℕ) (key : ℕ) (demand threshol
 -- `HotSet::update`: no peer holds the key primary
 abbrev pub UpdatedAlone : (s : HotSet) (xs : List ℕ) (key : ℕ) (demand threshold : Float) (now : ℕ) → UpdateAnswer → List ℕ → Type 0
 UpdatedAlone s xs key demand threshold now r ys = UpdatedWith s xs key demand threshold now false r ys
+
+-- ---- `HotSet::update_each`, of the first word of each of n records of w words
+
+-- the keys, and a demand, a threshold and a flag for each, are within what is lent
+unfoldable pub updatesFit : (keys w n demands thresholds elsewhere : ℕ) → Bool
+updatesFit keys w n demands thresholds elsewhere =
+    fits keys w n && (leb n demands && (leb n thresholds && leb n elsewhere))
+
+-- 'Is each demand .. given to the hot set, finite with a clear sign bit?' is asked of the n demands alone
+abbrev pub askSetEach : HotSet → (xs : List ℕ) (n : ℕ) (demands : List Float) (room : ℕ) → List Question
+askSetEach s xs n demands room = askSet s xs ++ ((11 asks all magnitude (take n demands)) ∷ (16 asks leb n room) ∷ [])
+
+abbrev pub askEach : HotSet → (xs keys : List ℕ) (w n : ℕ) (demands thresholds : List Float) (elsewhere : List Bool) (room : ℕ) → List Question
+askEach s xs keys w n demands thresholds elsewhere room =
+    (1 asks updatesFit (length keys) w n (length demands) (length thresholds) (length elsewhere))
+    ∷ askSetEach s xs n demands room
+
+-- the updates that are lent
+abbrev pub lentUpdates : (keys : List ℕ) (w n : ℕ) (demands thresholds : List Float) (elsewhere : List Bool) → List Update
+lentUpdates keys w n demands thresholds elsewhere =
+    updatesOf (map (λ (r : List ℕ). getD r 0 0) (records w n keys)) demands thresholds elsewhere
+
+-- the words after them: each update writes its entries in its turn
+unfoldable pub rewrittenEach : (margin : Float) → HotSet → (now : ℕ) → List Update → List HotEntry → List ℕ → List ℕ
+rewrittenEach margin s now [] es xs = xs
+rewrittenEach margin s now (u ∷ us) es xs =
+    let o = updateBy margin s now u es in
+    rewrittenEach margin s now us (o .left) (rewritten o xs)
+
+-- the set with that many entries
+abbrev pub sized : HotSet → ℕ → HotSet
+sized s n = record { cooldown = s .cooldown; «max_size» = s .«max_size»; len = n }
+
+pub record UpdatedEach
+    (s : HotSet) (xs keys : List ℕ) (w n : ℕ) (demands thresholds : List Float) (elsewhere : List Bool) (now : ℕ) (out : List Bool)
+    (r : EachAnswer) (ys : List ℕ) (out′ : List Bool)
+    : Type 0
+  where
+    pub answered :
+        eachAnswer r ≡ answer (askEach s xs keys w n demands thresholds elsewhere (length out))
+        (sized s (length (updateEach evictionMargin s now (lentUpdates keys w n demands thresholds elsewhere) (held s xs) .left)))
+    pub left :
+        ys ≡ changed (askEach s xs keys w n demands thresholds elsewhere (length out)) xs
+        (rewrittenEach evictionMargin s now (lentUpdates keys w n demands thresholds elsewhere) (held s xs) xs)
+    pub output :
+        out′ ≡ changed (askEach s xs keys w n demands thresholds elsewhere (length out)) out
+        (updateEach evictionMargin s now (lentUpdates keys w n demands thresholds elsewhere) (held s xs) .hot ++ drop n out)
 
 -- the readers: `is_hot`, `hot_since`, `is_primary`, `len`, `is_empty`
 abbrev pub SaidHot : HotSet → List ℕ → (key : ℕ) → TestAnswer → Type 0

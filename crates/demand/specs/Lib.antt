@@ -9,6 +9,7 @@ pub mod HotSetCalls
 pub mod PeerLists
 pub mod PeerRecords
 pub mod PeerState
+pub mod PeerWords
 pub mod PeerChanges
 pub mod PeerReaders
 pub mod PeerCalls

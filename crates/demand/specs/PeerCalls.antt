@@ -28,11 +28,11 @@ use Rattle.demand.specs.declared.peer_demand.FlagAnswer.{FlagAnswer}
 use Rattle.demand.specs.declared.peer_demand.FlagAnswer.the-variants as flag-answer
 use Rattle.demand.specs.declared.peer_demand.LenAnswer.{LenAnswer}
 use Rattle.demand.specs.declared.peer_demand.LenAnswer.the-variants as len-answer
-use Rattle.gcra.specs.Questions.{Question, _asks_, Answer, refused, given, answer, changed}
+use Rattle.gcra.specs.Questions.{Question, _asks_, Answer, refused, given, answer, changed, firstNo}
 use Rattle.demand.specs.Allocation.{isClusterSize}
 use Rattle.demand.specs.PeerLists.{all}
 use Rattle.demand.specs.PeerRecords.{PeerRecord}
-use Rattle.demand.specs.PeerState.{PeersState, PeerTables, maxPeers, maxDemandKeys, isWord, isKnown, haveRoom, stateOf, isValid, countsOf, written}
+use Rattle.demand.specs.PeerState.{PeersState, PeerTables, maxPeers, maxDemandKeys, isWord, isKnown, lengths, haveRoom, stateOf, isValid, countsOf, written}
 use Rattle.demand.specs.PeerChanges as changes
 use Rattle.demand.specs.PeerReaders as readers
 
@@ -75,11 +75,11 @@ clusterQuestions n = (7 asks isClusterSize n) ∷ []
 
 -- are the lent tables long enough?
 abbrev pub newQuestions : PeerTables → List Question
-newQuestions t = (1 asks haveRoom t) ∷ []
+newQuestions t = (1 asks haveRoom (lengths t)) ∷ []
 
 -- and could the lent state stand in a valid image?
 abbrev pub peersQuestions : PeerDemand → PeerTables → List Question
-peersQuestions p t = (1 asks haveRoom t) ∷ (2 asks isValid p t) ∷ []
+peersQuestions p t = (1 asks haveRoom (lengths t)) ∷ (2 asks isValid p t) ∷ []
 
 -- of calls on the keys of n records of w words, which are lent too: does the output fit?
 abbrev pub eachQuestions : PeerDemand → PeerTables → ℕ → ℕ → ℕ → ℕ → List Question
@@ -92,15 +92,13 @@ hasDemands r = all (λ (k : KeyDemand). magnitude (k .demand)) (changes.listed r
 abbrev pub hasPlace : ℕ → List PeerRecord → Bool
 hasPlace id ps = isKnown ps id || ltb (length ps) maxPeers
 
--- has the report at most 64 keys? and these two
+-- of a report on a valid state: has it at most 64 keys? and these two
+abbrev pub reportQuestionsOf : PeersState → ℕ → DemandReport → List Question
+reportQuestionsOf s id r =
+    (10 asks leb (r .count) maxDemandKeys) ∷ (11 asks hasDemands r) ∷ (12 asks hasPlace id (s .peers)) ∷ []
+
 abbrev pub reportQuestions : PeerDemand → PeerTables → ℕ → DemandReport → List Question
-reportQuestions p t id r =
-    (1 asks haveRoom t)
-    ∷ (2 asks isValid p t)
-    ∷ (10 asks leb (r .count) maxDemandKeys)
-    ∷ (11 asks hasDemands r)
-    ∷ (12 asks hasPlace id (stateOf p t .peers))
-    ∷ []
+reportQuestions p t id r = peersQuestions p t ++ reportQuestionsOf (stateOf p t) id r
 
 -- ---- what the types of a report's arguments say
 
@@ -136,6 +134,10 @@ abbrev pub Expires : PeerDemand → PeerTables → ℕ → ℕ → PeersChanged 
 Expires p t at maxAge r t′ = Changes (peersQuestions p t) (changes.expire at maxAge) p t r t′
 
 -- ---- calls that read, which are lent what they cannot write
+
+-- the number of the first of questions 1 and 2 that is answered 'no', 0 where none is
+abbrev pub Asks : PeerDemand → PeerTables → ℕ → Type 0
+Asks p t r = r ≡ firstNo (peersQuestions p t)
 
 abbrev pub IsNew : PeerTables → PeersAnswer → Type 0
 IsNew t r = peersAnswer r ≡ answer (newQuestions t) (record { peers = 0; «snapshot_keys» = 0; contested = 0 })

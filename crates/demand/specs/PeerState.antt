@@ -1,5 +1,5 @@
 -- The peers' state, when it is valid (01, 'The saved image'), and the tables that hold it. Definitions only.
-use Prim.Native.Nat.{ℕ, _+_, _*_, _^_}
+use Prim.Native.Nat.{ℕ, _*_, _^_}
 use mathlib.Core.Bool.{Bool, true, _&&_, _||_}
 use mathlib.Core.List.{List, map}
 use mathlib.Core.Option.{Option, none, some}
@@ -128,7 +128,16 @@ atEntry peers snapshotKeys contested = lent (peers .entry) (snapshotKeys .entry)
 abbrev pub atExit : {X Y Z : Type 0} → Both X (RefT (List ℕ)) → Both Y (RefT (List ℕ)) → Both Z (RefT (List ℕ)) → PeerTables
 atExit peers snapshotKeys contested = lent (peers .exit) (snapshotKeys .exit) (contested .exit)
 
--- question 1's formula: words of a record times the most records, and 64 spare contested records while a report is merged
+-- how many words each has
+pub record PeerLengths : Type 0 where
+  pub peers : ℕ
+  pub snapshotKeys : ℕ
+  pub contested : ℕ
+
+unfoldable pub lengths : PeerTables → PeerLengths
+lengths t = record { peers = length (t .peers); snapshotKeys = length (t .snapshotKeys); contested = length (t .contested) }
+
+-- question 1's formula: words of a record times the most records
 abbrev pub peersSize : ℕ
 peersSize = 12 * maxPeers
 
@@ -136,12 +145,11 @@ abbrev pub snapshotKeysSize : ℕ
 snapshotKeysSize = 4 * (maxPeers * maxDemandKeys)
 
 abbrev pub contestedSize : ℕ
-contestedSize = 6 * (maxPeers * maxContested + maxDemandKeys)
+contestedSize = 6 * (maxPeers * maxContested)
 
-unfoldable pub haveRoom : PeerTables → Bool
-haveRoom t =
-    leb peersSize (length (t .peers))
-    && (leb snapshotKeysSize (length (t .snapshotKeys)) && leb contestedSize (length (t .contested)))
+unfoldable pub haveRoom : PeerLengths → Bool
+haveRoom n =
+    leb peersSize (n .peers) && (leb snapshotKeysSize (n .snapshotKeys) && leb contestedSize (n .contested))
 
 -- the state that the records in use stand for
 unfoldable pub stateOf : PeerDemand → PeerTables → PeersState

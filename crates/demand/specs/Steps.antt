@@ -5,3 +5,4 @@ pub mod PeerScan
 pub mod PeerHeard
 pub mod PeerRuns
 pub mod PeerSteps
+pub mod PeerEach

@@ -20,21 +20,21 @@ pub enum ShareAnswer {
 }
 
 // Question 3: finite and above 0.
-fn is_rate(x: f64) -> bool
+pub fn is_rate(x: f64) -> bool
     ensures { λ r. ⌜ r ≡ Allocation.isRate x ⌝ }
 {
     if 0.0 < x { float::is_finite(x) } else { false }
 }
 
 // Question 5: from 0 to 1.
-fn is_floor_factor(x: f64) -> bool
+pub fn is_floor_factor(x: f64) -> bool
     ensures { λ r. ⌜ r ≡ Allocation.isFloorFactor x ⌝ }
 {
     if 0.0 <= x { x <= 1.0 } else { false }
 }
 
 // Question 7: 1 to 65,535.
-pub(crate) fn is_cluster_size(n: usize) -> bool
+pub fn is_cluster_size(n: usize) -> bool
     ensures { λ r. ⌜ r ≡ Allocation.isClusterSize n ⌝ }
 {
     if 1 <= n { n <= 65_535 } else { false }

@@ -44,14 +44,33 @@ pub fn alpha(elapsed: u64, time_constant: u64) -> f64
     float::u64_to_f64(parts) / 4503599627370496.0
 }
 
+// The rate after a tick that moves it by `alpha`.
+pub fn folded_by(alpha: f64, rate: f64, attempts: u64, elapsed: u64) -> f64
+    ensures { λ r. ⌜ r ≡ Estimator.foldedBy alpha rate attempts elapsed ⌝ }
+{
+    let elapsed_secs = float::u64_to_f64(elapsed) / 1_000_000_000.0;
+    let instantaneous_rate = float::u64_to_f64(attempts) / elapsed_secs;
+    alpha * instantaneous_rate + (1.0 - alpha) * rate
+}
+
 // The rate after a tick.
 fn folded(rate: f64, attempts: u64, elapsed: u64, time_constant: u64) -> f64
     ensures { λ r. ⌜ r ≡ Estimator.folded rate attempts elapsed «time_constant» ⌝ }
 {
-    let elapsed_secs = float::u64_to_f64(elapsed) / 1_000_000_000.0;
-    let instantaneous_rate = float::u64_to_f64(attempts) / elapsed_secs;
-    let alpha = alpha(elapsed, time_constant);
-    alpha * instantaneous_rate + (1.0 - alpha) * rate
+    folded_by(alpha(elapsed, time_constant), rate, attempts, elapsed)
+}
+
+// The rate over the weight `alpha` of all the time measured; 0 where there is none.
+pub fn unbiased_by(alpha: f64, rate: f64, measured: u64) -> f64
+    ensures { λ r. ⌜ r ≡ Estimator.unbiasedBy alpha rate measured ⌝ }
+{
+    if measured == 0 {
+        return 0.0;
+    }
+    if alpha == 0.0 {
+        return 0.0;
+    }
+    rate / alpha
 }
 
 impl Demand {
@@ -201,14 +220,11 @@ impl Demand {
             Times::Unset => 0.0,
             Times::At { last_tick, since } => {
                 let measured = whole::saturating_sub(last_tick, since);
-                if measured == 0 {
-                    return 0.0;
-                }
-                let weight = alpha(measured, self.time_constant);
-                if weight == 0.0 {
-                    return 0.0;
-                }
-                self.current_rate / weight
+                unbiased_by(
+                    alpha(measured, self.time_constant),
+                    self.current_rate,
+                    measured,
+                )
             }
         }
     }

@@ -19,14 +19,7 @@ ghost use Rattle.demand.specs.HotSetCalls as Calls;
 ghost use Rattle.gcra.specs.Questions.{firstNo};
 
 // To evict the weakest key a demand must be above this many times its own.
-const EVICTION_MARGIN: f64 = 1.1;
-
-// The most keys that a hot set may hold.
-const MAX_SIZE: usize = 64;
-
-// The words of an entry: key, demand, primary, whether it is cooling, since when, and hot since
-// when.
-const WORDS: usize = 6;
+pub(crate) const EVICTION_MARGIN: f64 = 1.1;
 
 // Whether a primary key's demand is below the threshold, and since when.
 pub enum Cooling {
@@ -65,6 +58,11 @@ pub enum NewAnswer {
 pub enum UpdateAnswer {
     No(u8),
     Is(Updated),
+}
+
+pub enum EachAnswer {
+    No(u8),
+    Is(HotSet),
 }
 
 pub enum TestAnswer {
@@ -120,6 +118,10 @@ impl Cooling {
 }
 
 impl HotEntry {
+    // The words of an entry: key, demand, primary, whether it is cooling, since when, and hot since
+    // when.
+    pub const WORDS: usize = 6;
+
     // A key that becomes hot at `now`.
     fn new(key: u64, demand: f64, primary: bool, now: u64) -> Self
         ensures { λ r. ⌜ r ≡ Set.newEntry key demand primary now ⌝ }
@@ -150,6 +152,20 @@ impl HotEntry {
             cooling_since,
             self.since,
         ]
+    }
+
+    // Whether words, whatever the key and since when it is hot, could be those of an entry in a valid
+    // image.
+    pub fn are_words(demand: u64, primary: u64, cooling: u64, cooling_since: u64) -> bool
+        ensures { λ r. ⌜ r ≡ Set.areWords demand primary cooling «cooling_since» ⌝ }
+    {
+        if !float::is_magnitude_bits(demand) {
+            return false;
+        }
+        if primary > 1 {
+            return false;
+        }
+        words::is_time(cooling, cooling_since)
     }
 
     // The entry whose words begin at `at`.
@@ -222,17 +238,17 @@ fn is_valid_size(max_size: usize) -> bool
     if max_size < 1 {
         return false;
     }
-    max_size <= MAX_SIZE
+    max_size <= HotSet::MAX_SIZE
 }
 
 // Whether `len` words are enough for a set of that size; a size above 64 counts as 64.
 fn has_room(max_size: usize, len: usize) -> bool
     ensures { λ r. ⌜ r ≡ leb (Calls.room «max_size») len ⌝ }
 {
-    if max_size > MAX_SIZE {
-        return WORDS * MAX_SIZE <= len;
+    if max_size > HotSet::MAX_SIZE {
+        return HotEntry::WORDS * HotSet::MAX_SIZE <= len;
     }
-    WORDS * max_size <= len
+    HotEntry::WORDS * max_size <= len
 }
 
 // ---- the entries in lent words: the map of keys
@@ -242,13 +258,7 @@ fn is_entry(hot: &[u64], at: usize) -> bool
     requires { ⌜ at + 6 ≤ length (now hot) ⌝ }
     ensures { λ r. ⌜ r ≡ Set.isEntry (drop at (now (hot .entry))) ⌝ }
 {
-    if !float::is_magnitude_bits(hot[at + 1]) {
-        return false;
-    }
-    if hot[at + 2] > 1 {
-        return false;
-    }
-    words::is_time(hot[at + 3], hot[at + 4])
+    HotEntry::are_words(hot[at + 1], hot[at + 2], hot[at + 3], hot[at + 4])
 }
 
 // Whether the key at `at` is above the one before it, if there is one.
@@ -256,22 +266,22 @@ fn follows(hot: &[u64], at: usize) -> bool
     requires { ⌜ at < length (now hot) ⌝ }
     ensures { λ r. ⌜ r ≡ follows at (now (hot .entry)) ⌝ }
 {
-    if at < WORDS {
+    if at < HotEntry::WORDS {
         return true;
     }
-    hot[at - WORDS] < hot[at]
+    hot[at - HotEntry::WORDS] < hot[at]
 }
 
 // Whether the first n records are within the words, and could stand in a valid image.
 pub fn are_valid(hot: &[u64], n: usize) -> bool
     ensures { λ r. ⌜ Calls.SaidValid (now (hot .entry)) n r ⌝ }
 {
-    if !records::fits(hot.len(), WORDS, n) {
+    if !records::fits(hot.len(), HotEntry::WORDS, n) {
         return false;
     }
     let mut i = 0;
     while i < n {
-        let at = i * WORDS;
+        let at = i * HotEntry::WORDS;
         if !follows(hot, at) {
             return false;
         }
@@ -288,8 +298,8 @@ fn get(hot: &[u64], n: usize, key: u64) -> Slot
     requires { ⌜ Held n (now hot) ⌝ }
     ensures { λ r. ⌜ slot r ≡ Set.get key (Set.entries n (now (hot .entry))) ⌝ }
 {
-    match records::find(hot, WORDS, 1, n, key, 0) {
-        records::Found::At(i) => Slot::Entry(HotEntry::of_words(hot, i * WORDS)),
+    match records::find(hot, HotEntry::WORDS, 1, n, key, 0) {
+        records::Found::At(i) => Slot::Entry(HotEntry::of_words(hot, i * HotEntry::WORDS)),
         records::Found::Gap(_) => Slot::Free,
         records::Found::Unfit => Slot::Free,
     }
@@ -305,12 +315,12 @@ fn put(hot: &mut [u64], n: usize, entry: HotEntry)
         ⌝ }
 {
     let r = entry.words();
-    match records::find(hot, WORDS, 1, n, entry.key, 0) {
+    match records::find(hot, HotEntry::WORDS, 1, n, entry.key, 0) {
         records::Found::At(i) => {
-            records::overwrite(hot, WORDS, n, i, &r);
+            records::overwrite(hot, HotEntry::WORDS, n, i, &r);
         }
         records::Found::Gap(i) => {
-            records::insert(hot, WORDS, n, i, &r);
+            records::insert(hot, HotEntry::WORDS, n, i, &r);
         }
         records::Found::Unfit => {}
     }
@@ -324,9 +334,9 @@ fn remove(hot: &mut [u64], n: usize, key: u64)
         (now (hot .entry))
         ⌝ }
 {
-    match records::find(hot, WORDS, 1, n, key, 0) {
+    match records::find(hot, HotEntry::WORDS, 1, n, key, 0) {
         records::Found::At(i) => {
-            records::remove(hot, WORDS, n, i);
+            records::remove(hot, HotEntry::WORDS, n, i);
         }
         records::Found::Gap(_) => {}
         records::Found::Unfit => {}
@@ -342,18 +352,24 @@ fn weakest(hot: &[u64], n: usize) -> HotEntry
     let mut least = 0;
     let mut i = 1;
     while i < n {
-        if float::total_less(hot[i * WORDS + 1], hot[least * WORDS + 1]) {
+        if float::total_less(
+            hot[i * HotEntry::WORDS + 1],
+            hot[least * HotEntry::WORDS + 1],
+        ) {
             least = i;
         }
         i += 1;
     }
-    HotEntry::of_words(hot, least * WORDS)
+    HotEntry::of_words(hot, least * HotEntry::WORDS)
 }
 
 impl HotSet {
+    // The most keys that a hot set may hold.
+    pub const MAX_SIZE: usize = 64;
+
     // The first question that is answered 'no', or 0: is there room, and could the set stand in a
     // valid image?
-    fn ask(self, hot: &[u64]) -> u8
+    pub(crate) fn ask(self, hot: &[u64]) -> u8
         ensures { λ r. ⌜ r ≡ firstNo (Calls.askSet self (now (hot .entry))) ⌝ }
     {
         if !has_room(self.max_size, hot.len()) {
@@ -489,7 +505,7 @@ impl HotSet {
     }
 
     // What `update_with` does once its questions are passed.
-    fn update_with_margin(
+    pub(crate) fn update_with_margin(
         self,
         hot: &mut [u64],
         key: u64,

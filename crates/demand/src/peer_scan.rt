@@ -96,7 +96,7 @@ fn is_peer(
 }
 
 // Whether the words are those of a valid peer.
-fn are_peer_words(words: &[u64]) -> bool
+pub(crate) fn are_peer_words(words: &[u64]) -> bool
     requires { ⌜ length (now words) ≡ 12 ⌝ }
     ensures { λ r. ⌜ r ≡ arePeerWords (now (words .entry)) ⌝ }
 {
@@ -116,7 +116,7 @@ fn are_peer_words(words: &[u64]) -> bool
 }
 
 // Whether the w words at `at` are those of a valid key of a peer.
-fn are_key_words(t: &[u64], at: usize, w: usize) -> bool
+pub(crate) fn are_key_words(t: &[u64], at: usize, w: usize) -> bool
     requires { ⌜ (4 ≤ w) × (at + w ≤ length (now t)) ⌝ }
     ensures { λ r. ⌜ r ≡ areKeyWords w (drop at (now (t .entry))) ⌝ }
 {

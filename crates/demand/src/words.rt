@@ -3,14 +3,14 @@ ghost use mathlib.Core.Path.{_≡_};
 ghost use Rattle.demand.specs.Words.{flagWord, isTime};
 
 // A flag as a word.
-pub(crate) fn flag_word(flag: bool) -> u64
+pub fn flag_word(flag: bool) -> u64
     ensures { λ r. ⌜ r ≡ flagWord flag ⌝ }
 {
     if flag { 1 } else { 0 }
 }
 
 // Whether a flag and a time are the words of a time that may be missing.
-pub(crate) fn is_time(flag: u64, time: u64) -> bool
+pub fn is_time(flag: u64, time: u64) -> bool
     ensures { λ r. ⌜ r ≡ isTime flag time ⌝ }
 {
     if flag == 0 {

@@ -3,10 +3,11 @@ use Prim.Native.Nat.{ℕ, zero, suc, _+_, _-_, _*_, _/_, _^_, _≤_, _<_, min}
 use mathlib.Core.Path.{_≡_, refl, sym, ap, _∙_, subst}
 use mathlib.Core.Logic.{inl, inr}
 use mathlib.Core.Bool.{true, false, and-false}
-use native.Mathlib.Nat.{le-trans, le-of-eq, mul-comm, mul-assoc, mul-pos, mul-le-mul-left, mul-le-mul-right, le-of-mul-le-mul-right, div-add-mod', mod-lt, div-mul-le-self, eq-zero-or-pos}
+use native.Mathlib.Nat.{le-trans, le-of-eq, mul-comm, mul-assoc, mul-pos, mul-le-mul-left, mul-le-mul-right, le-of-mul-le-mul-right}
+use native.Mathlib.Nat.{div-add-mod', mod-lt, div-mul-le-self, eq-zero-or-pos}
 use native.Mathlib.Omega.{arith}
 use lib.Dec.{T, eqb, ltb, lit<, lit≤}
-use borrow.Author.Tests.{eq-eqb, ltb-true, ltb-false}
+use borrow.Author.Tests.{ltb-true, ltb-false}
 use lib.Ieee.{Float, nan, inf, fin, binary64, round, mul, div, isNan, lt, eq, up, down, ofInt, toUnsigned}
 use Rattle.float.specs.Order.{below, choose, maximumNumber}
 use lib.Ieee.Fits.{mul-fits}
@@ -21,10 +22,10 @@ use Rattle.gcra.specs.declared.Gcra.{Gcra}
 use Rattle.gcra.specs.Packed.{Accepted, validQuota, maxBurst}
 use Rattle.gcra.specs.Rate.{float, slots, debtSlots, slotNanos, carryTat, setQuota}
 use Rattle.float.proofs.Tests.{split}
-use Rattle.gcra.proofs.Cases.{and-true}
 use Rattle.gcra.proofs.Validity.{Valid, valid-quota}
-use Rattle.gcra.proofs.Rates.{same-keeps}
-use Rattle.gcra.proofs.Fractions.{Part, Sized, part-times, part-then, part-over, sized-times, sized-over, sized-wider, rounds, near-low, near-high, near-sized}
+use Rattle.gcra.proofs.Rates.{same-keeps, equal-same}
+use Rattle.gcra.proofs.Fractions.{Part, Sized, part-times, part-then, part-over, sized-times, sized-over, sized-wider}
+use Rattle.gcra.proofs.Fractions.{rounds, near-low, near-high, near-sized}
 
 -- a whole number as a float
 whole-sized : (n : ℕ) → 0 < n → n < 2 ^ 64 → Sized n 1 (2 ^ 64)
@@ -102,10 +103,12 @@ module _ (debt old : ℕ) (D : 0 < debt) (D′ : debt < 2 ^ 64) (O : 0 < old) (O
       (rounds under-pos sized (lit≤ tt))
 
   quotient-low : Part (debt * 1) (1 * old) (num quotient) (den quotient) (less * exactly * less) (exactly * more * exactly)
-  quotient-low = part-then under-pos (part-times (near-low (whole-near debt D D′)) (part-over (near-high (whole-near old O O′)))) (near-low quotient-near)
+  quotient-low =
+      part-then under-pos (part-times (near-low (whole-near debt D D′)) (part-over (near-high (whole-near old O O′)))) (near-low quotient-near)
 
   quotient-high : Part (num quotient) (den quotient) (debt * 1) (1 * old) (exactly * (exactly * less)) (more * (more * exactly))
-  quotient-high = part-then under-pos (near-high quotient-near) (part-times (near-high (whole-near debt D D′)) (part-over (near-low (whole-near old O O′))))
+  quotient-high =
+      part-then under-pos (near-high quotient-near) (part-times (near-high (whole-near debt D D′)) (part-over (near-low (whole-near old O O′))))
 
 -- a float of moderate size that is at least the slots of a debt, up to the rounding
 record Slots (debt old : ℕ) (y : Float) : Type 0 where
@@ -122,7 +125,8 @@ quotient-slots debt old D D′ O O′ =
     }
 
 -- of two positive floats the greater is the first, or the second and no less than the first
-greater : (P : Float → Type 0) (x y : Float) → T (positive x) → T (positive y) → P x → (Part (num x) (den x) (num y) (den y) 1 1 → P y) → P (maximumNumber x y)
+greater : (P : Float → Type 0) (x y : Float) → T (positive x) → T (positive y) → P x
+    → (Part (num x) (den x) (num y) (den y) 1 1 → P y) → P (maximumNumber x y)
 unfolding maximumNumber choose below isNan lt
 greater P nan y p q f g = absurd p
 greater P (inf s) y p q f g = absurd p
@@ -174,7 +178,8 @@ module _ (y : Float) (Y : T (positive y)) (S : Sized (num y) (den y) (2 ^ 131)) 
   unfolding nearest
   nanos-is = rounded-part product (mul-fits binary64 y (float new)) (product-near .above)
 
-  whole-low : {a c m n : ℕ} → Part a c (num y) (den y) m n → Part (a * new) (c * 1) (2 * whole + 1) 2 (m * less * less * 1) (n * exactly * exactly * 1)
+  whole-low : {a c m n : ℕ} → Part a c (num y) (den y) m n
+      → Part (a * new) (c * 1) (2 * whole + 1) 2 (m * less * less * 1) (n * exactly * exactly * 1)
   whole-low h =
       part-then (den-pos product) (part-then factor-pos (part-times h (near-low (whole-near new N N′))) (near-low product-near))
       (nearest-up (num product) (den product) (den-pos product))
@@ -210,7 +215,8 @@ module _ (y : Float) (Y : T (positive y)) (S : Sized (num y) (den y) (2 ^ 131)) 
 
 -- ---- in whole slots
 -- p slots of T, carried over, are no less than p slots of T′ less one
-slots-kept : (d T T′ p r : ℕ) → 0 < T → 0 < T′ → p ≤ maxBurst → p * T ≤ d → d * T′ * 2 ^ 51 ≤ r * T * 2 ^ 51 + T * 2 ^ 50 + d * T′ * 2 → p * T′ < r + T′
+slots-kept : (d T T′ p r : ℕ) → 0 < T → 0 < T′ → p ≤ maxBurst → p * T ≤ d
+    → d * T′ * 2 ^ 51 ≤ r * T * 2 ^ 51 + T * 2 ^ 50 + d * T′ * 2 → p * T′ < r + T′
 slots-kept d T T′ p r P Q few owed h =
     let a : p * T * T′ ≤ d * T′ = mul-le-mul-right T′ owed in
     let b : p * T′ * (2 ^ 51 - 2) * T ≤ (r * 2 ^ 51 + 2 ^ 50) * T = omega arith in
@@ -281,11 +287,13 @@ module _ (u : Units) (a : Accepted u) (old new : Quota) (vo : validQuota u old �
       elim (eq-zero-or-pos (tat - now)) [
         | inl z ↦ nothing-owed p (old .interval) (new .interval) (carryTat tat old new now - now) (valid-old .least) (valid-new .least) (omega arith)
         | inr d ↦
-            held now (slotNanos (debtSlots tat old new now) new) (carryTat tat old new now) (p * new .interval) (new .interval) (carry-is tat old new now) early small
-            (λ f. slots-kept (tat - now) (old .interval) (new .interval) p _ (valid-old .least) (valid-new .least) few owed (carried-at-least tat now l d f))
+            held now (slotNanos (debtSlots tat old new now) new) (carryTat tat old new now) (p * new .interval) (new .interval)
+            (carry-is tat old new now) early small
+            (λ f.
+            slots-kept (tat - now) (old .interval) (new .interval) p _ (valid-old .least) (valid-new .least) few owed
+            (carried-at-least tat now l d f))
       ]
 
 -- The same quota changes nothing at all.
 pub same-quota-keeps : (g : Gcra) (now : ℕ) → setQuota g (g .quota) now ≡ g
-same-quota-keeps g now =
-    sym (same-keeps g (g .quota) now (and-true (eq-eqb (g .quota .interval) (g .quota .interval) refl) (eq-eqb (g .quota .burst) (g .quota .burst) refl)))
+same-quota-keeps g now = sym (same-keeps g (g .quota) now (equal-same (g .quota) (g .quota) refl))

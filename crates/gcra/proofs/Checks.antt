@@ -14,7 +14,7 @@ use Rattle.gcra.specs.declared.Decision.the-variants.{Allow, Deny}
 use Rattle.gcra.specs.declared.CheckAnswer.the-variants.{Is}
 use Rattle.gcra.specs.declared.Decoded.{Decoded}
 use Rattle.gcra.specs.declared.Stepped.{Stepped}
-use Rattle.gcra.specs.Meter.{isAllow, earliest, decide, moved, attempt, tatWord, parameters, tatAt, decision, check, outcome, checked}
+use Rattle.gcra.specs.Meter.{isAllow, earliest, decide, moved, attempt, tatWord, parameters, tatAt, decision, check, hasDebt, outcome, checked}
 use Rattle.gcra.specs.Run.{allowed}
 use Rattle.float.proofs.Tests.{split}
 
@@ -60,7 +60,8 @@ module _ (g : Gcra) (now : ℕ) (s : Stepped) (e : s ≡ attempt (parameters (g 
   unfolding attempt decision
   stepped-decision = ap (λ (x : Stepped). x .decision) e
 
-  pub checked-allow : isAllow (s .decision) ≡ true → record { answer = Is (s .decision); gcra = record { quota = g .quota; tat = At (s .tat) } } ≡ checked g now
+  pub checked-allow : isAllow (s .decision) ≡ true
+      → record { answer = Is (s .decision); gcra = record { quota = g .quota; tat = At (s .tat) } } ≡ checked g now
   unfolding attempt decision check checked
   checked-allow h = let k : isAllow (decide (parameters (g .quota)) (tatAt (g .tat) now) now) ≡ true = rw e at h in rw (e, k)
 
@@ -70,7 +71,8 @@ module _ (g : Gcra) (now : ℕ) (s : Stepped) (e : s ≡ attempt (parameters (g 
 
 -- what a check leaves, by how it was decided
 module _ (g : Gcra) (now : ℕ) where
-  pub check-allow : isAllow (decision g now) ≡ true → check g now ≡ record { quota = g .quota; tat = At (moved (parameters (g .quota)) (tatAt (g .tat) now) now) }
+  pub check-allow : isAllow (decision g now) ≡ true
+      → check g now ≡ record { quota = g .quota; tat = At (moved (parameters (g .quota)) (tatAt (g .tat) now) now) }
   unfolding check
   check-allow h = rw h
 
@@ -85,6 +87,24 @@ module _ (g : Gcra) (now : ℕ) where
   -- a TAT that fits a u64 is followed by one
   pub check-fits : tatWord (g .tat) < 2 ^ 64 → tatWord (check g now .tat) < 2 ^ 64
   check-fits l = split (isAllow (decision g now)) (λ h. rw (check-allow h) (omega arith)) (λ h. rw (check-deny h) l)
+
+-- A missing TAT counts as no less than 0.
+pub tat-at-least : (tat : Tat) (now : ℕ) → tatWord tat ≤ tatAt tat now
+tat-at-least Unset now = omega arith
+tat-at-least (At t) now = omega arith
+
+-- A check does not lower a TAT that fits a u64.
+pub check-raises : (g : Gcra) (now : ℕ) → tatWord (g .tat) < 2 ^ 64 → tatWord (g .tat) ≤ tatWord (check g now .tat)
+check-raises g now l =
+    split (isAllow (decision g now))
+    (λ e. rw (check-allow g now e) (omega (arith, tat-at-least (g .tat) now)))
+    (λ e. rw (check-deny g now e) (omega arith))
+
+-- A Gcra without debt has no TAT ahead of the reading.
+pub no-debt : (q : Quota) (tat : Tat) (now : ℕ) → hasDebt (record { quota = q; tat = tat }) now ≡ false → tatWord tat ≤ now
+unfolding hasDebt
+no-debt q Unset now e = omega arith
+no-debt q (At t) now e = ltb-false now t e
 
 -- A missing TAT decides and moves as TAT 0 does.
 pub unset-is-zero : (d : Decoded) (tat : Tat) (now : ℕ) → attempt d (tatAt tat now) now ≡ attempt d (tatWord tat) now

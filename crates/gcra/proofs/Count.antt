@@ -1,4 +1,5 @@
--- The quoted ceiling holds: of the checks of one Gcra, whatever the order of their readings, those allowed with readings from s to s + w number at most burst + w / T.
+-- The quoted ceiling holds: of the checks of one Gcra, whatever the order of their readings, those allowed with readings from s to s + w number at
+-- most burst + w / T.
 -- Each allowed check in the window moves the TAT by T, from s on, and none moves it past s + w + T * burst.
 use Prim.Native.Nat.{ℕ, zero, suc, _+_, _-_, _*_, _/_, _^_, _≤_, _<_, max}
 use mathlib.Core.Path.{_≡_, refl, ap, _∙_}
@@ -6,7 +7,7 @@ use mathlib.Core.Bool.{true, _&&_}
 use mathlib.Core.List.{List, [], _∷_}
 use mathlib.Core.Logic.{_⊎_, inl, inr}
 use native.Mathlib.Omega.{arith}
-use native.Mathlib.Nat.{mul-comm, le-div-iff-mul-le, add-mul-div-right}
+use native.Mathlib.Nat.{le-div-iff-mul-le, add-mul-div-right}
 use lib.Dec.{leb, ltb}
 use borrow.Author.Tests.{ltb-true, leb-true}
 use Rattle.gcra.specs.declared.Units.{Units}
@@ -26,11 +27,19 @@ use Rattle.gcra.proofs.Checks.{allow-reaches, check-allow, allowed-firs
 Owes : (T b s w y k : ℕ) → Type 0
 Owes T b s w y k = (k ≡ 0) ⊎ (k * T + max y s ≤ s + w + T * b)
 
-full : (T b : ℕ) → 1 ≤ b → T * (b - 1) + T ≡ T * b
+-- T * (burst - 1) and one interval more are burst intervals.
+pub full : (T b : ℕ) → 1 ≤ b → T * (b - 1) + T ≡ b * T
 full T zero h = omega arith
 full T (suc b) h = let e : suc b - 1 ≡ b = omega arith in omega (arith, ap (λ (z : ℕ). T * z) e)
 
-tau-le : (T b : ℕ) → (tau T b ≤ T * (b - 1)) × (tau T b ≤ 2 ^ 63 - 1)
+-- Where n intervals from the reading f on end no more than b intervals after the reading t, n is at most b and those between the readings.
+pub within : (n T f t b : ℕ) → 0 < T → f ≤ t → n * T + f ≤ b * T + t → n ≤ b + (t - f) / T
+within n T f t b p l h =
+    let m : n * T ≤ (t - f) + b * T = omega arith in
+    omega (arith, le-div-iff-mul-le {x = n} {y = (t - f) + b * T} p .1 m, add-mul-div-right (t - f) b p)
+
+-- tau, held or not
+pub tau-le : (T b : ℕ) → (tau T b ≤ T * (b - 1)) × (tau T b ≤ 2 ^ 63 - 1)
 unfolding tau
 tau-le T b = (omega arith, omega arith)
 
@@ -54,10 +63,7 @@ module _ (T b s w : ℕ) (some : 1 ≤ b) where
   quotient : (y k : ℕ) → 0 < T → Owes T b s w y k → k ≤ b + w / T
   unfolding Owes
   quotient y k p (inl e) = omega arith
-  quotient y k p (inr h) =
-      let c : T * b ≡ b * T = mul-comm T b in
-      let m : k * T ≤ w + b * T = omega arith in
-      omega (arith, le-div-iff-mul-le {x = k} {y = w + b * T} p .1 m, add-mul-div-right w b p)
+  quotient y k p (inr h) = let e : s + w - s ≡ w = omega arith in rw e at (within k T s (s + w) b p (omega arith) (omega arith))
 
 -- ---- one allowed check
 abbrev at : Quota → Tat → Gcra
@@ -92,7 +98,8 @@ module _ (q : Quota) (short : q .interval < 2 ^ 61) (some : 1 ≤ q .burst) (s w
   nothing tat = inl refl
 
   -- one allowed check, in the window or not
-  first : (tat : Tat) (t : ℕ) (ts : List ℕ) → tatWord tat ≤ t + q .interval * (q .burst - 1) → Owed (At (max (tatWord tat) t + q .interval)) ts → Owed tat (t ∷ ts)
+  first : (tat : Tat) (t : ℕ) (ts : List ℕ) → tatWord tat ≤ t + q .interval * (q .burst - 1)
+      → Owed (At (max (tatWord tat) t + q .interval)) ts → Owed tat (t ∷ ts)
   unfolding countIn
   first tat t ts r o =
       split (leb s t && leb t (s + w))

@@ -4,6 +4,7 @@ pub mod Answers
 pub mod Encoding
 pub mod Validity
 pub mod Packing
+pub mod PackedWords
 pub mod Checks
 pub mod Schedule
 pub mod Retry

@@ -1,4 +1,5 @@
--- Packed words: a valid quota comes back as itself, `decode` reads its T and tau, and `step` decides as a check does. For every accepted table of units.
+-- Packed words: a valid quota comes back as itself, `decode` reads its T and tau, and `step` decides as a check does.
+-- For every accepted table of units.
 use Prim.Native.Nat.{ℕ, _+_, _*_, _^_, _<_, min, max}
 use mathlib.Core.Path.{_≡_, ap}
 use mathlib.Core.Bool.{true}
@@ -20,7 +21,7 @@ use Rattle.gcra.proofs.Checks.{check-is-attempt}
 field-value : (v k b : ℕ) → k < 3 → b < 2 ^ 22 → valueOf (v * 2 ^ 24 + k * 2 ^ 22 + b) ≡ v
 field-value v k b h l = omega arith
 
-field-unit : (v k b : ℕ) → k < 3 → b < 2 ^ 22 → unitOf (v * 2 ^ 24 + k * 2 ^ 22 + b) ≡ k
+pub field-unit : (v k b : ℕ) → k < 3 → b < 2 ^ 22 → unitOf (v * 2 ^ 24 + k * 2 ^ 22 + b) ≡ k
 field-unit v k b h l = omega arith
 
 field-burst : (v k b : ℕ) → k < 3 → b < 2 ^ 22 → burstOf (v * 2 ^ 24 + k * 2 ^ 22 + b) ≡ b
@@ -77,7 +78,8 @@ module _ (u : Units) (a : Accepted u) (q : Quota) (h : validQuota u q ≡ true) 
       omega (arith, t .fits, t .code, valid .burst .most)
 
 -- `step` on a packed word decides as a check does, and leaves its TAT; TAT 0 stands for none.
-pub step-is-check : (u : Units) → Accepted u → (g : Gcra) → validQuota u (g .quota) ≡ true → (now : ℕ) → step u (tatWord (g .tat)) (pack u (g .quota)) now ≡ outcome g now
+pub step-is-check : (u : Units) → Accepted u → (g : Gcra) → validQuota u (g .quota) ≡ true → (now : ℕ)
+    → step u (tatWord (g .tat)) (pack u (g .quota)) now ≡ outcome g now
 step-is-check u a g h now = rw (decode-pack u a (g .quota) h) (check-is-attempt g now)
 
 -- A valid word is the word of the quota that it unpacks to.

@@ -2,8 +2,8 @@
 use Prim.Native.Nat.{ℕ, _^_, _<_, min}
 use native.Mathlib.Omega.{arith}
 use lib.Dec.{eqb}
-use borrow.Author.Tests.{eqb-true}
-use mathlib.Core.Path.{_≡_, refl, sym, ap, _∙_}
+use borrow.Author.Tests.{eqb-true, eq-eqb}
+use mathlib.Core.Path.{_≡_, refl, sym, ap}
 use mathlib.Core.Bool.{true, false}
 use lib.Ieee.{Float, binary64, le, lt, ofBits, ofInt, toUnsigned}
 use lib.Ieee.Scale.{finite}
@@ -14,8 +14,9 @@ use Rattle.gcra.specs.declared.Tat.{Tat}
 use Rattle.gcra.specs.declared.Tat.the-variants.{Unset, At}
 use Rattle.gcra.specs.declared.Gcra.{Gcra}
 use Rattle.gcra.specs.Rate.{float, quotientNanos, carryTat, carried, sameQuota, setQuota, perSecond}
+use Rattle.gcra.specs.Meter.{tatWord}
 use Rattle.float.proofs.Tests.{split}
-use Rattle.gcra.proofs.Cases.{and-both}
+use Rattle.gcra.proofs.Cases.{and-both, and-true}
 use Rattle.gcra.proofs.Validity.{with-interval-valid}
 
 pub zero-is : ofBits binary64 0 ≡ float 0
@@ -64,23 +65,42 @@ carried-unset t old new now e = rw e
 pub carried-at : (t : Tat) (n : ℕ) (old new : Quota) (now : ℕ) → t ≡ At n → At (carryTat n old new now) ≡ carried t old new now
 carried-at t n old new now e = rw e
 
+-- The test finds two quotas the same exactly where they are equal.
+pub same-equal : (p q : Quota) → sameQuota p q ≡ true → p ≡ q
+same-equal p q h =
+    let t = and-both (eqb (p .interval) (q .interval)) (eqb (p .burst) (q .burst)) h in
+    let i = eqb-true (p .interval) (q .interval) (t .0) in
+    let b = eqb-true (p .burst) (q .burst) (t .1) in
+    (λ k. record { interval = i k; burst = b k })
+
+pub equal-same : (p q : Quota) → p ≡ q → sameQuota p q ≡ true
+equal-same p q e =
+    and-true (eq-eqb (p .interval) (q .interval) (ap (λ (x : Quota). x .interval) e)) (eq-eqb (p .burst) (q .burst) (ap (λ (x : Quota). x .burst) e))
+
+-- What holds of a Gcra, and of it with another quota and its TAT carried over, holds after a change of quota.
+pub by-quota : (P : Gcra → Type 0) (g : Gcra) (q : Quota) (now : ℕ) → P g
+    → (sameQuota q (g .quota) ≡ false → P (record { quota = q; tat = carried (g .tat) (g .quota) q now }))
+    → P (setQuota g q now)
+unfolding setQuota
+by-quota P g q now same other = split (sameQuota q (g .quota)) (λ e. rw e same) (λ e. rw e (other e))
+
 -- The new quota holds afterwards.
 pub set-is : (g : Gcra) (q : Quota) (now : ℕ) → setQuota g q now .quota ≡ q
 unfolding setQuota
-set-is g q now =
-    split (sameQuota q (g .quota))
-    (λ h.
-    let p = and-both (eqb (q .interval) (g .quota .interval)) (eqb (q .burst) (g .quota .burst)) h in
-    rw h (same (eqb-true (q .interval) (g .quota .interval) (p .0)) (eqb-true (q .burst) (g .quota .burst) (p .1))))
-    (λ h. rw h)
-  where
-    same : q .interval ≡ g .quota .interval → q .burst ≡ g .quota .burst → g .quota ≡ q
-    same i b = ap (λ (n : ℕ). record { interval = n; burst = g .quota .burst }) (sym i) ∙ ap (λ (n : ℕ). record { interval = q .interval; burst = n }) (sym b)
+set-is g q now = split (sameQuota q (g .quota)) (λ h. rw h (sym (same-equal q (g .quota) h))) (λ h. rw h)
 
 -- A carried TAT fits a u64.
 pub carry-fits : (tat : ℕ) (old new : Quota) (now : ℕ) → carryTat tat old new now < 2 ^ 64
 unfolding carryTat
 carry-fits tat old new now = omega arith
+
+pub carried-fits : (tat : Tat) (old new : Quota) (now : ℕ) → tatWord (carried tat old new now) < 2 ^ 64
+carried-fits Unset old new now = omega arith
+carried-fits (At tat) old new now = carry-fits tat old new now
+
+-- So does the TAT after a change of quota.
+pub set-fits : (g : Gcra) (q : Quota) (now : ℕ) → tatWord (g .tat) < 2 ^ 64 → tatWord (setQuota g q now .tat) < 2 ^ 64
+set-fits g q now l = by-quota (λ (h : Gcra). tatWord (h .tat) < 2 ^ 64) g q now l (λ e. carried-fits (g .tat) (g .quota) q now)
 
 -- Any rate makes a valid quota.
 pub per-second-valid : (u : Units) → Accepted u → (rate : Float) (b : ℕ) → validBurst b ≡ true → validQuota u (perSecond u rate b) ≡ true

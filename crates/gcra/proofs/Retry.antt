@@ -26,12 +26,14 @@ denied-keep g (t ∷ ts) h =
     (λ e. absurd (cons-nil (sym (allowed-first g t ts e) ∙ h)))
     (λ e. rw (check-deny g t e) (denied-keep g ts (sym (denied-first g t ts e) ∙ h)))
 
--- the retry time reaches TAT - tau
-at-retry : (q : Quota) (tat : Tat) (now r : ℕ) → decision (record { quota = q; tat = tat }) now ≡ Deny r → isAllow (decision (record { quota = q; tat = tat }) r) ≡ true
+-- A check at the retry time is allowed: it reaches TAT - tau.
+pub at-retry : (q : Quota) (tat : Tat) (now r : ℕ) → decision (record { quota = q; tat = tat }) now ≡ Deny r
+    → isAllow (decision (record { quota = q; tat = tat }) r) ≡ true
 unfolding decision
 at-retry q Unset now r h = ap isAllow (decide-allow (parameters q) r r (omega arith))
 at-retry q (At t) now r h = ap isAllow (decide-allow (parameters q) t r (omega (arith, deny-is (parameters q) t now h .1)))
 
 -- A denied check's retry time, asked again at that time after any list of denied checks, is allowed.
-pub retry-allowed : (g : Gcra) (now r : ℕ) (ts : List ℕ) → decision g now ≡ Deny r → allowed g (now ∷ ts) ≡ [] → isAllow (decision (after g (now ∷ ts)) r) ≡ true
+pub retry-allowed : (g : Gcra) (now r : ℕ) (ts : List ℕ) → decision g now ≡ Deny r → allowed g (now ∷ ts) ≡ []
+    → isAllow (decision (after g (now ∷ ts)) r) ≡ true
 retry-allowed g now r ts h none = rw (denied-keep g (now ∷ ts) none) (at-retry (g .quota) (g .tat) now r h)

@@ -1,67 +1,70 @@
--- A check is I.371's virtual scheduling, with I = T and L = T * (burst - 1), where nothing is held at a limit.
-use Prim.Native.Nat.{ℕ, _+_, _-_, _*_, _^_, _<_, max}
+-- A check is I.371's virtual scheduling, with I = T and L = T * (burst - 1), where what decides it is not held at a limit.
+use Prim.Native.Nat.{ℕ, _+_, _-_, _*_, _^_, _≤_, _<_, max}
 use mathlib.Core.Path.{_≡_, refl, sym, ap, _∙_}
+use mathlib.Core.Bool.{true, false}
 use mathlib.Core.Option.{Option, none, some}
 use native.Mathlib.Omega.{arith}
 use lib.Dec.{ltb}
-use borrow.Author.Tests.{ltb-true, ltb-false}
+use borrow.Author.Tests.{ltb-true, ltb-false, lt-ltb, le-ltb}
 use Rattle.gcra.specs.declared.Tat.{Tat}
 use Rattle.gcra.specs.declared.Tat.the-variants.{Unset, At}
 use Rattle.gcra.specs.declared.Gcra.{Gcra}
 use Rattle.gcra.specs.declared.Decoded.{Decoded}
 use Rattle.gcra.specs.declared.Stepped.{Stepped}
 use Rattle.gcra.specs.Packed.{tau}
-use Rattle.gcra.specs.Meter.{isAllow, moved, attempt, parameters, tatAt, outcome}
+use Rattle.gcra.specs.Meter.{isAllow, earliest, decide, moved, attempt, parameters, tatAt, decision, outcome}
 use Rattle.gcra.specs.Schedule.{Cell, arrives, virtualScheduling}
 use Rattle.float.proofs.Tests.{split}
-use Rattle.gcra.proofs.Checks.{attempt-allow, attempt-deny, check-attempts}
+use Rattle.gcra.proofs.Checks.{decide-allow, decide-deny, attempt-allow, attempt-deny, check-attempts}
 
 -- a check's outcome as a cell's
 abbrev pub cell : Stepped → Cell
 cell s = record { conforms = isAllow (s .decision); tat = s .tat }
 
--- one attempt is one arrival, where TAT is not held at 2^64 - 1
-pub attempt-arrives : (d : Decoded) (tat now : ℕ) → max tat now + d .t < 2 ^ 64 → cell (attempt d tat now) ≡ arrives (d .t) (d .tau) tat now
+-- One attempt is one arrival at a limit L of at least tau: an allowed one where TAT is not held at 2^64 - 1, a denied one where L is tau.
+pub attempt-arrives : (d : Decoded) (L tat now : ℕ) → d .tau ≤ L
+    → (isAllow (decide d tat now) ≡ true → max tat now + d .t < 2 ^ 64)
+    → (isAllow (decide d tat now) ≡ false → L ≤ d .tau)
+    → cell (attempt d tat now) ≡ arrives (d .t) L tat now
 unfolding arrives
-attempt-arrives d tat now fits =
+attempt-arrives d L tat now most fits free =
+    split (ltb now (earliest d tat))
+    (λ e.
+    let l = ltb-true now (earliest d tat) e in
+    let k = free (ap isAllow (decide-deny d tat now l)) in
+    rw (attempt-deny d tat now l, le-ltb tat now (omega arith), lt-ltb (now + L) tat (omega arith)))
+    (λ e.
+    let l = ltb-false now (earliest d tat) e in
+    let k = fits (ap isAllow (decide-allow d tat now l)) in
     split (ltb tat now)
-    (λ e.
-    let l = ltb-true tat now e in
-    let m : moved d tat now ≡ now + d .t = omega arith in
-    rw (e, attempt-allow d tat now (omega arith), m))
-    (λ e.
-    let l = ltb-false tat now e in
-    split (ltb (now + d .tau) tat)
-    (λ f. let k = ltb-true (now + d .tau) tat f in rw (e, f, attempt-deny d tat now (omega arith)))
     (λ f.
-    let k = ltb-false (now + d .tau) tat f in
+    let b = ltb-true tat now f in
+    let m : moved d tat now ≡ now + d .t = omega arith in
+    rw (attempt-allow d tat now l, f, m))
+    (λ f.
+    let b = ltb-false tat now f in
     let m : moved d tat now ≡ tat + d .t = omega arith in
-    rw (e, f, attempt-allow d tat now (omega arith), m)))
+    rw (attempt-allow d tat now l, f, le-ltb (now + L) tat (omega arith), m)))
 
 -- a TAT as I.371 has it: none before the first cell
 abbrev pub theoretical : Tat → Option ℕ
 theoretical Unset = none
 theoretical (At tat) = some tat
 
--- tau, where it is not held
-whole : (T b : ℕ) → T * (b - 1) < 2 ^ 63 → tau T b ≡ T * (b - 1)
-unfolding tau
-whole T b h = omega arith
-
 first-cell : (I L : ℕ) (tat : Tat) (now : ℕ) → virtualScheduling I L (theoretical tat) now ≡ arrives I L (tatAt tat now) now
 unfolding virtualScheduling
 first-cell I L Unset now = refl
 first-cell I L (At t) now = refl
 
--- A check decides and moves the TAT as virtual scheduling does, where tau and TAT are not held at their limits.
-pub check-schedules : (g : Gcra) (now : ℕ)
-    → g .quota .interval * (g .quota .burst - 1) < 2 ^ 63
-    → max (tatAt (g .tat) now) now + g .quota .interval < 2 ^ 64
-    → cell (outcome g now) ≡ virtualScheduling (g .quota .interval) (g .quota .interval * (g .quota .burst - 1)) (theoretical (g .tat)) now
-check-schedules g now free fits =
+-- A check decides and moves the TAT as virtual scheduling does: an allowed one where TAT is not held at its limit, a denied one where tau is not.
+pub check-schedules : (g : Gcra) (now : ℕ) → let q = g .quota in
+    (isAllow (decision g now) ≡ true → max (tatAt (g .tat) now) now + q .interval < 2 ^ 64)
+    → (isAllow (decision g now) ≡ false → q .interval * (q .burst - 1) < 2 ^ 63)
+    → cell (outcome g now) ≡ virtualScheduling (q .interval) (q .interval * (q .burst - 1)) (theoretical (g .tat)) now
+unfolding decision tau
+check-schedules g now fits free =
     let q = g .quota in
     let tat = tatAt (g .tat) now in
     sym (ap cell (check-attempts q (g .tat) now))
-    ∙ attempt-arrives (parameters q) tat now fits
-    ∙ ap (λ (L : ℕ). arrives (q .interval) L tat now) (whole (q .interval) (q .burst) free)
+    ∙ attempt-arrives (parameters q) (q .interval * (q .burst - 1)) tat now (omega arith) fits (λ e. omega (arith, free e))
     ∙ sym (first-cell (q .interval) (q .interval * (q .burst - 1)) (g .tat) now)

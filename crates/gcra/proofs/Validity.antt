@@ -1,12 +1,12 @@
 -- What question 2 says of a lone quota, as facts.
-use Prim.Native.Nat.{ℕ, _*_, _≤_, min, max}
+use Prim.Native.Nat.{ℕ, _≤_, min, max}
 use mathlib.Core.Path.{_≡_}
 use mathlib.Core.Bool.{true}
 use native.Mathlib.Omega.{arith}
 use borrow.Author.Tests.{leb-true, eqb-true, le-leb, eq-eqb}
 use Rattle.gcra.specs.declared.Units.{Units}
 use Rattle.gcra.specs.declared.Quota.{Quota}
-use Rattle.gcra.specs.Packed.{Accepted, maxBurst, rounded, maxInterval, withInterval, validBurst, validQuota, width, valueOf, unitOf, unpack}
+use Rattle.gcra.specs.Packed.{Accepted, maxBurst, rounded, maxInterval, withInterval, validBurst, validQuota}
 use Rattle.gcra.proofs.Cases.{and-both, and-true}
 use Rattle.gcra.proofs.Encoding.{rounded-back, rounded-rounded}
 
@@ -44,15 +44,6 @@ unfolding validQuota
 quota-valid u q v =
     and-true (and-true (le-leb 1 (q .interval) (v .least)) (le-leb (q .interval) (maxInterval u) (v .most)))
     (and-true (burst-valid (q .burst) (v .burst)) (eq-eqb (rounded u (q .interval)) (q .interval) (v .own)))
-
--- What a word unpacks to fits, whatever the word.
-pub unpack-fits : (u : Units) → Accepted u → (w : ℕ) {q : Quota} → q ≡ unpack u w → (q .interval ≤ maxInterval u) × (q .burst ≤ maxBurst)
-unfolding unpack withInterval
-unpack-fits u a w e =
-    let n = valueOf w * width u (unitOf w) in
-    let m = min (max n 1) (maxInterval u) in
-    let l : m ≤ maxInterval u = omega arith in
-    rw e (rounded-back u a m l .most, omega arith)
 
 -- A quota made of any interval and a burst that fits is valid.
 pub made-valid : (u : Units) → Accepted u → (n b : ℕ) → ValidBurst b → Valid u (withInterval u n b)

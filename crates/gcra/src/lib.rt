@@ -41,6 +41,9 @@ const UNIT_CODES: u64 = 1 << Quota::UNIT_BITS;
 
 const VALUE_SCALE: u64 = UNIT_SCALE * UNIT_CODES;
 
+// The least value of a coarser unit: each is 1,000 of the one before it, which holds values below `VALUES`.
+const COARSER_LEAST: u64 = VALUES / 1_000 + 1;
+
 // How an interval is packed: a count, and the code of the unit that it counts.
 pub struct Encoded {
     pub value: u64,
@@ -206,27 +209,25 @@ impl Quota {
         if !Self::burst_fits(burst) {
             return QuotaAnswer::No(4);
         }
-        let interval = Self::quotient_nanos(UNIT_NANOS, float::ceil(1_000_000_000.0 / rate));
+        let interval = Self::quotient_nanos(float::ceil(1_000_000_000.0 / rate));
         QuotaAnswer::Is(Self::with_interval(UNIT_NANOS, interval, burst))
     }
 
     // The interval of a quotient 1e9 / rate, rounded up.
-    fn quotient_nanos(units: Units, quotient: f64) -> u64
-        requires { ⌜ Accepted units ⌝ }
-        ensures { λ r. ⌜ r ≡ Rate.quotientNanos units quotient ⌝ }
+    fn quotient_nanos(quotient: f64) -> u64
+        ensures { λ r. ⌜ r ≡ Rate.quotientNanos Packed.unitNanos quotient ⌝ }
     {
-        let longest = Self::max_interval(units);
         if !float::is_finite(quotient) {
-            return longest;
+            return MAX_INTERVAL;
         }
         if quotient >= 1.0 {
-            return whole::min(float::f64_to_u64(quotient), longest);
+            return whole::min(float::f64_to_u64(quotient), MAX_INTERVAL);
         }
-        if quotient > 0.0 { 1 } else { longest }
+        if quotient > 0.0 { 1 } else { MAX_INTERVAL }
     }
 
     // Whether a burst is 1 to `MAX_BURST`.
-    fn burst_fits(burst: u32) -> bool
+    pub fn burst_fits(burst: u32) -> bool
         ensures { λ r. ⌜ r ≡ Packed.validBurst burst ⌝ }
     {
         if 1 <= burst {
@@ -393,15 +394,23 @@ impl Quota {
         packed / VALUE_SCALE * unit_nanos(units, packed / UNIT_SCALE % UNIT_CODES)
     }
 
-    // Whether a word is one that `pack` gives.
+    // Whether a word is one that `pack` gives: some nanoseconds, or as many of a coarser unit as a
+    // finer one does not hold.
     pub fn is_packed(packed: u64) -> bool
         ensures { λ r. ⌜ r ≡ Packed.validWord Packed.unitNanos packed ⌝ }
     {
-        if !Self::unpacks(packed) {
+        let unit = packed / UNIT_SCALE % UNIT_CODES;
+        let value = packed / VALUE_SCALE;
+        if packed % UNIT_SCALE == 0 {
             return false;
         }
-        let quota = Self::unpack_in(UNIT_NANOS, packed);
-        quota.pack_in(UNIT_NANOS) == packed
+        if unit == 0 {
+            return 1 <= value;
+        }
+        if 2 < unit {
+            return false;
+        }
+        COARSER_LEAST <= value
     }
 
     fn same(self, other: Self) -> bool

@@ -1,5 +1,5 @@
 -- Lines in a buffer.
-use Prim.Native.Nat.{ℕ, suc, _-_, _^_, _≤_}
+use Prim.Native.Nat.{ℕ, suc, _+_, _≤_, _<_}
 use mathlib.Core.Path.{_≡_}
 use mathlib.Core.Logic.{_⊎_}
 use mathlib.Core.Bool.{Bool, true, cond, not, _&&_}
@@ -30,7 +30,7 @@ hasNoFeed (x ∷ xs) = not (eqb x feed) && hasNoFeed xs
 unfoldable pub inHand : Lines → List ℕ → List ℕ
 inHand s xs = cond (leb (s .from) (s .to) && leb (s .to) (length xs)) (slice (s .from) (s .to) xs) []
 
--- what stands behind a line: its line feed and what is in hand then, or nothing where the input ended
+-- what stands behind a line: its line feed and what is in hand then, or nothing where the input ended or was read 2^64 - 1 times
 abbrev pub Behind : List ℕ → List ℕ → Type 0
 Behind tail rest = (tail ≡ feed ∷ rest) ⊎ ((tail ≡ []) × (rest ≡ []))
 
@@ -42,21 +42,46 @@ pub record Parted (bytes passed line rest : List ℕ) : Type 0 where
   pub line-no-feed : hasNoFeed line ≡ true
   pub behind : Behind tail rest
 
+-- a line that is shorter than a buffer of this length
+pub record Fits (long : ℕ) (bytes line rest : List ℕ) : Type 0 where
+  pub some : 0 < length bytes
+  pub short : length line < long
+  pub parts : Parted bytes [] line rest
+
 -- a line whose first bytes did not fit a buffer of this length, and were passed over
 pub record TooLong (long : ℕ) (bytes line rest : List ℕ) : Type 0 where
   pub passed : List ℕ
   pub many : long ≤ length passed
   pub parts : Parted bytes passed line rest
 
--- what came, by its kind; after 2^64 - 1 reads the end is told as well
+-- What came, by its kind: there is no line only where there are no bytes, and a line is too long where it is not shorter than the buffer.
 abbrev pub Told : Kind → ℕ → List ℕ → List ℕ → List ℕ → Type 0
-Told kind.Whole long bytes line rest = Parted bytes [] line rest
+Told kind.Whole long bytes line rest = Fits long bytes line rest
 Told kind.TooLong long bytes line rest = TooLong long bytes line rest
-Told kind.End long bytes line rest = (bytes ≡ []) ⊎ (2 ^ 64 - 1 ≤ length bytes)
+Told kind.End long bytes line rest = (bytes ≡ []) × (line ≡ []) × (rest ≡ [])
 
--- what came, of the bytes that were in hand and some that the input gave: no contract can say which. A line lies within the buffer.
-pub record Came (bytes : List ℕ) (l : Line) (ys : List ℕ) : Type 0 where
+-- the line that is in hand, where a line feed is
+abbrev pub lineInHand : Lines → List ℕ → Line
+lineInHand s xs =
+    let end = s .from + indexOf feed (inHand s xs) in
+    record { start = s .from; end = end; kind = kind.Whole; rest = record { from = end + 1; to = s .to } }
+
+-- The buffer keeps its length, and the line and what is in hand behind it lie within it.
+pub record Placed (xs : List ℕ) (l : Line) (ys : List ℕ) : Type 0 where
+  pub as-long : length ys ≡ length xs
   pub ordered : l .start ≤ l .end
   pub inside : l .end ≤ length ys
+  pub rest-ordered : l .rest .from ≤ l .rest .to
+  pub rest-inside : l .rest .to ≤ length ys
+
+-- A line of the bytes in hand and of `input`, which the reads gave: the contract of a read leaves open which bytes it brings.
+pub record FromInput (hand : List ℕ) (l : Line) (ys : List ℕ) : Type 0 where
   pub input : List ℕ
-  pub told : Told (l .kind) (length ys) (bytes ++ input) (slice (l .start) (l .end) ys) (inHand (l .rest) ys)
+  pub told : Told (l .kind) (length ys) (hand ++ input) (slice (l .start) (l .end) ys) (inHand (l .rest) ys)
+
+-- What `next_line` answers, and the buffer afterwards. Where a line feed is in hand, nothing is read and the buffer stays. Else the input is
+-- read: the line and what is in hand behind it are told; where they lie in the buffer, and its other bytes, are free.
+pub record Came (s : Lines) (xs : List ℕ) (l : Line) (ys : List ℕ) : Type 0 where
+  pub placed : Placed xs l ys
+  pub in-hand : indexOf feed (inHand s xs) < length (inHand s xs) → (l ≡ lineInHand s xs) × (ys ≡ xs)
+  pub from-input : length (inHand s xs) ≤ indexOf feed (inHand s xs) → FromInput (inHand s xs) l ys

@@ -4,8 +4,8 @@ ghost use mathlib.Core.Path.{_≡_};
 ghost use Prim.Native.Nat.{_+_, _-_, _≤_};
 ghost use lib.ListN.{length, take};
 ghost use lib.Seq.{slice};
-ghost use Rattle.text.specs.Input.{indexOf, feed, inHand, Came};
-ghost use Rattle.text.specs.Steps.{Held, Roomy, lineOf, noLine, lastLine};
+ghost use Rattle.text.specs.Input.{indexOf, feed, Came};
+ghost use Rattle.text.specs.Steps.{seen, Held, NoFeed, Roomy, More, LineRead, lineOf, noLine, lastLine};
 
 // Bytes from..to of the buffer are read and not yet handed out.
 pub struct Lines {
@@ -48,12 +48,14 @@ fn to_front(buf: &mut [u8], from: usize, to: usize)
     }
 }
 
-// Reads once into the buffer from `to` on, and answers where the bytes end then.
-fn read_more(buf: &mut [u8], to: usize) -> usize
+// Reads once into the buffer from `to` on, where a turn is left, and answers where the bytes end then.
+fn read_more(buf: &mut [u8], to: usize, turns: u64) -> usize
     requires { ⌜ to ≤ length (now buf) ⌝ }
-    ensures { λ r. ⌜ (to ≤ r) × (r ≤ length (now (buf .entry))) ⌝ }
-    ensures { λ _. ⌜ take to (now (buf .exit)) ≡ take to (now (buf .entry)) ⌝ }
+    ensures { λ r. ⌜ More turns to r (now (buf .entry)) (now (buf .exit)) ⌝ }
 {
+    if turns == 0 {
+        return to;
+    }
     let part = &mut buf[to..];
     let got = libc::read(STDIN_FILENO, part);
     to + io::count(got, part)
@@ -157,27 +159,39 @@ fn in_hand(buf: &[u8], s: Lines) -> Window
     }
 }
 
-// The next line, read as far as need be. The loop counts its turns down from a number that no run
-// uses up.
-pub fn next_line(buf: &mut [u8], s: Lines) -> Line
-    ensures { λ r. ⌜ Came (inHand s (now (buf .entry))) r (now (buf .exit)) ⌝ }
+// The next line where none is in hand: the input is read as far as need be. The loop counts its
+// turns down from a number that no run uses up; where it did, the input would count as ended.
+fn read_line(buf: &mut [u8], hand: Window) -> Line
+    requires { ⌜ NoFeed hand (now buf) ⌝ }
+    ensures { λ r. ⌜ LineRead (seen hand (now (buf .entry))) (now (buf .entry)) r (now (buf .exit)) ⌝ }
 {
-    let mut w = in_hand(buf, s);
+    let mut w = hand;
     let mut turns = u64::MAX;
-    while 0 < turns {
-        let from = w.from;
-        let to = w.to;
-        let e = line_end(buf, from, to);
-        if e < to {
-            return line_of(from, e, w.given_up, e + 1, to);
-        }
+    loop {
         w = make_room(buf, w);
-        let more = read_more(buf, w.to);
+        let more = read_more(buf, w.to, turns);
         if more == w.to {
             return last_line(w);
         }
-        w.to = more;
         turns -= 1;
+        w.to = more;
+        let e = line_end(buf, w.from, more);
+        if e < more {
+            return line_of(w.from, e, w.given_up, e + 1, more);
+        }
     }
-    no_line()
+}
+
+// The next line: the one in hand, or one that the input is read for.
+pub fn next_line(buf: &mut [u8], s: Lines) -> Line
+    ensures { λ r. ⌜ Came s (now (buf .entry)) r (now (buf .exit)) ⌝ }
+{
+    let w = in_hand(buf, s);
+    let from = w.from;
+    let to = w.to;
+    let e = line_end(buf, from, to);
+    if e < to {
+        return line_of(from, e, false, e + 1, to);
+    }
+    read_line(buf, w)
 }

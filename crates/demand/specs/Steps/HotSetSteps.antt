@@ -2,14 +2,14 @@
 use Prim.Native.Nat.{ℕ, _-_, _*_, _≤_}
 use mathlib.Core.Path.{_≡_}
 use mathlib.Core.Bool.{Bool, true, cond}
-use mathlib.Core.List.{List}
+use mathlib.Core.List.{List, _++_}
 use mathlib.Core.Option.{Option, none, some}
 use lib.Dec.{ltb}
 use lib.Ieee.{Float}
-use lib.ListN.{length, getD}
+use lib.ListN.{length, getD, drop}
 use Rattle.records.specs.Records.{records}
-use Rattle.demand.specs.HotSet.{validEntries, weakest, Outcome, evict, promote, belowThreshold, updateWith}
-use Rattle.demand.specs.HotSetCalls.{held, updated, rewritten}
+use Rattle.demand.specs.HotSet.{validEntries, weakest, Outcome, evict, promote, belowThreshold, updateWith, Update, updateEach}
+use Rattle.demand.specs.HotSetCalls.{held, updated, rewritten, rewrittenEach, sized}
 use Rattle.demand.specs.declared.hot_set.HotSet.{HotSet}
 use Rattle.demand.specs.declared.hot_set.HotEntry.{HotEntry}
 use Rattle.demand.specs.declared.hot_set.Updated.{Updated}
@@ -49,3 +49,13 @@ Cools margin s key demand now elsewhere xs r ys =
 abbrev pub Updates : (margin : Float) → HotSet → (key : ℕ) (demand threshold : Float) (now : ℕ) (elsewhere : Bool) (xs : List ℕ) → Updated → List ℕ → Type 0
 Updates margin s key demand threshold now elsewhere xs r ys =
     Acted s (updateWith margin s key demand threshold now elsewhere (held s xs)) xs r ys
+
+-- what updates of many keys, one after the other, make of the set, of the words and of the output
+pub record UpdatesEach
+    (margin : Float) (s : HotSet) (xs : List ℕ) (us : List Update) (now n : ℕ) (out : List Bool)
+    (r : HotSet) (ys : List ℕ) (out′ : List Bool)
+    : Type 0
+  where
+    pub says : r ≡ sized s (length (updateEach margin s now us (held s xs) .left))
+    pub left : ys ≡ rewrittenEach margin s now us (held s xs) xs
+    pub output : out′ ≡ updateEach margin s now us (held s xs) .hot ++ drop n out

@@ -14,7 +14,7 @@ use Rattle.demand.specs.declared.peer_demand.PeersChanged.{PeersChanged}
 use Rattle.demand.specs.declared.peer_demand.ChangeAnswer.the-variants as change-answer
 use Rattle.demand.specs.PeerLists.{any, present}
 use Rattle.demand.specs.PeerRecords.{Snapshot, PeerRecord, ContestedKey}
-use Rattle.demand.specs.PeerState.{PeerTables, isKnown, haveRoom, isValid}
+use Rattle.demand.specs.PeerState.{PeerTables, isKnown, lengths, haveRoom, isValid}
 use Rattle.demand.specs.PeerChanges.{holdEnded, notEnded, isFresh, isFreshSnapshot, isHeldPeer}
 
 -- n records of w words whose keys of d words ascend
@@ -47,7 +47,7 @@ staysPeer at cs id held taken =
 
 -- what questions 1 and 2 ask
 pub record Valid (p : PeerDemand) (t : PeerTables) : Type 0 where
-  pub room : haveRoom t ≡ true
+  pub room : haveRoom (lengths t) ≡ true
   pub state : isValid p t ≡ true
 
 -- a 'no' with the peers as they were, and the peers after a change

@@ -11,7 +11,7 @@ abbrev start : tie.Else2 → tie.Start
 start c = c .before .before .before .before .before .before .before .before .before
 
 sound : (c : tie.Else2) → Tables (start c .args .self) (tables (start c .args .peers .now) (start c .args .snapshot-keys .now) (start c .args .contested .now))
-sound c = tables-of _ _ (asked-all _ _ _ (c .before .ask .ensures .first) (c .if2 .left))
+sound c = tables-of _ _ (asked-all _ _ _ (c .before .ask .ensures) (c .if2 .left))
 
 returns : tie.Need-returns
 returns c =
@@ -19,7 +19,7 @@ returns c =
     changes-as _ _ _ _ _ _ _ (sym (leaves-now _ _ _ _ (f .before .before .before .before .if1 .taken))) (f .forget .ensures)
 
 returns-2 : tie.Need-returns-2
-returns-2 c = changes-not _ _ _ _ _ _ (c .before .before .ask .ensures .first) (c .before .if2 .taken) (c .refused .ensures)
+returns-2 c = changes-not _ _ _ _ _ _ (c .before .before .ask .ensures) (c .before .if2 .taken) (c .refused .ensures)
 
 hold-peer-requires : tie.Need-hold-peer-requires
 hold-peer-requires c κs =
@@ -32,7 +32,7 @@ returns-3 c =
     let b = h .before in
     let e = b .before .before in
     let a = e .before in
-    peers-changed _ _ _ _ _ _ _ (a .ask .ensures .first) (e .if2 .left) (c .done .ensures)
+    peers-changed _ _ _ _ _ _ _ (a .ask .ensures) (e .if2 .left) (c .done .ensures)
     (leave-stores _ _ _ _ _ _ _ (sound e) (a .before .before .before .before .if1 .left) (b .saturating-add .ensures) (h .hold-peer .ensures))
 
 pub leave-spec : {M : Type 1} → statement M
