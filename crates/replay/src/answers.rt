@@ -1,10 +1,13 @@
 // Answers, made of up to four values or a list, and how they are written.
+use crate::lent;
+
 // Room that the answer to a line may take.
-const ROOM: usize = 8192;
+const ROOM: usize = 20480;
 
 // A value of an answer; `Refused` has a number of 01's questions, `Deny` the time to try again, and
-// `Unknown` answers what is no call. `Floats` and `Flags` say how many words of a list follow, the
-// bits of floats or flags.
+// `Unknown` answers what is no call. Words of a list follow some values: so many bits of floats or
+// flags, hot keys of three words, keys with their rates of four, checks of three; and behind the rate
+// of the settings the rest of them.
 pub(crate) enum Value {
     Nothing,
     Unknown,
@@ -22,6 +25,11 @@ pub(crate) enum Value {
     Float32(f32),
     Floats(u64),
     Flags(u64),
+    HotKeys(u64),
+    KeysWithRates(u64),
+    Checks(u64),
+    Settings(f64),
+    Slash,
 }
 
 // The values of an answer in their order. Where the first is nothing no line is written.
@@ -83,6 +91,7 @@ fn put_word(out: &mut [u8], at: usize, value: Value) -> usize {
         Value::Missing => text::put(out, at, b"none"),
         Value::Done => text::put(out, at, b"ok"),
         Value::NoState => text::put(out, at, b"nostate"),
+        Value::Slash => text::put(out, at, b"/"),
         _ => put_order(out, at, value),
     }
 }
@@ -102,6 +111,19 @@ fn put_float64(out: &mut [u8], at: usize, x: f64) -> usize {
     }
 }
 
+// The value that a list follows: how long it is, or the first of the settings.
+fn put_head(out: &mut [u8], at: usize, value: Value) -> usize {
+    match value {
+        Value::Floats(n) => text::put_decimal(out, at, n),
+        Value::Flags(n) => text::put_decimal(out, at, n),
+        Value::HotKeys(n) => text::put_decimal(out, at, n),
+        Value::KeysWithRates(n) => text::put_decimal(out, at, n),
+        Value::Checks(n) => text::put_decimal(out, at, n),
+        Value::Settings(rate) => put_float64(out, at, rate),
+        _ => put_word(out, at, value),
+    }
+}
+
 // A value is written where there is room, which a line's answer always has.
 fn put_value(out: &mut [u8], at: usize, value: Value) -> usize {
     match value {
@@ -112,9 +134,7 @@ fn put_value(out: &mut [u8], at: usize, value: Value) -> usize {
         Value::Whole(n) => text::put_decimal(out, at, n),
         Value::Float64(x) => put_float64(out, at, x),
         Value::Float32(x) => text::put_hex(out, at, float::f32_to_bits(x) as u64, 8),
-        Value::Floats(n) => text::put_decimal(out, at, n),
-        Value::Flags(n) => text::put_decimal(out, at, n),
-        _ => put_word(out, at, value),
+        _ => put_head(out, at, value),
     }
 }
 
@@ -138,21 +158,36 @@ fn put_values(out: &mut [u8], at: usize, answer: Answer) -> usize {
     put_next(out, c, fourth)
 }
 
-// How many words of the list belong to an answer.
+// How many words of the list belong to an answer; those of checks are apart.
 fn listed(value: Value) -> u64 {
     match value {
         Value::Floats(n) => n,
         Value::Flags(n) => n,
+        Value::HotKeys(n) => lent::three_each(n),
+        Value::KeysWithRates(n) => lent::four_each(n),
+        Value::Settings(rate) => 8,
         _ => 0,
     }
 }
 
-// A word of the list, as the answer says.
-fn put_word_of(out: &mut [u8], at: usize, value: Value, word: u64) -> usize {
-    let next = text::put(out, at, b" ");
+// Whether word i of the list is a float: a hot key's demand, a key's three rates, alpha and the floor.
+fn is_float(value: Value, i: usize) -> bool {
     match value {
-        Value::Floats(n) => text::put_hex(out, next, word, 16),
-        _ => text::put_decimal(out, next, word),
+        Value::Floats(n) => true,
+        Value::HotKeys(n) => i % 3 == 1,
+        Value::KeysWithRates(n) => i % 4 != 0,
+        Value::Settings(rate) => i == 1 || i == 2,
+        _ => false,
+    }
+}
+
+// A word of the list, the bits of a float or a whole number.
+fn put_word_of(out: &mut [u8], at: usize, is_bits: bool, word: u64) -> usize {
+    let next = text::put(out, at, b" ");
+    if is_bits {
+        text::put_hex(out, next, word, 16)
+    } else {
+        text::put_decimal(out, next, word)
     }
 }
 
@@ -165,8 +200,45 @@ fn put_list(out: &mut [u8], from: usize, value: Value, list: &[u64]) -> usize {
         if n <= i as u64 {
             return at;
         }
-        at = put_word_of(out, at, value, list[i]);
+        at = put_word_of(out, at, is_float(value, i), list[i]);
         i += 1;
+    }
+    at
+}
+
+// How many checks the list has.
+fn checks_of(value: Value) -> u64 {
+    if let Value::Checks(n) = value { n } else { 0 }
+}
+
+// One check by its three words: the number of the question, whether it is denied, the retry time.
+fn check_of(no: u64, denied: u64, retry_at: u64) -> Value {
+    if no != 0 {
+        return Value::Refused((no % 256) as u8);
+    }
+    if denied != 0 {
+        return Value::Deny(retry_at);
+    }
+    Value::Allow
+}
+
+fn put_check(out: &mut [u8], at: usize, check: Value) -> usize {
+    let next = text::put(out, at, b" / ");
+    put_value(out, next, check)
+}
+
+// So many checks of the list.
+fn put_checks(out: &mut [u8], from: usize, n: u64, list: &[u64]) -> usize {
+    let mut at = from;
+    let mut left = n;
+    let mut i = 0;
+    while 3 <= list.len() - i {
+        if left == 0 {
+            return at;
+        }
+        at = put_check(out, at, check_of(list[i], list[i + 1], list[i + 2]));
+        left -= 1;
+        i += 3;
     }
     at
 }
@@ -178,7 +250,8 @@ pub(crate) fn put(out: &mut [u8], at: usize, answer: Answer, list: &[u64]) -> us
         return at;
     }
     let end = put_values(out, at, answer);
-    let all = put_list(out, end, first, list);
+    let behind = put_list(out, end, first, list);
+    let all = put_checks(out, behind, checks_of(first), list);
     let next = text::put(out, all, b"\n");
     text::flush(out, next, ROOM)
 }

@@ -21,76 +21,124 @@ pub(crate) const LEAVE: usize = 5;
 
 pub(crate) const EXPIRE: usize = 6;
 
-pub(crate) const HGET: usize = 7;
+pub(crate) const LEND: usize = 7;
 
-pub(crate) const GET: usize = 8;
+pub(crate) const NEW: usize = 8;
 
-pub(crate) const TOTAL: usize = 9;
+pub(crate) const TICKS: usize = 9;
 
-pub(crate) const ELSEWHERE: usize = 10;
+pub(crate) const CAP: usize = 10;
 
-pub(crate) const PLEN: usize = 11;
+pub(crate) const CHECK: usize = 11;
 
-pub(crate) const PEMPTY: usize = 12;
+pub(crate) const CHECKIN: usize = 12;
 
-pub(crate) const TOTALS: usize = 13;
+pub(crate) const RECORD: usize = 13;
 
-pub(crate) const ELSEWHERES: usize = 14;
+pub(crate) const TICK: usize = 14;
 
-pub(crate) const U2F: usize = 15;
+pub(crate) const TRACED: usize = 15;
 
-pub(crate) const F2U: usize = 16;
+pub(crate) const CHECKS: usize = 16;
 
-pub(crate) const CEIL: usize = 17;
+pub(crate) const HGET: usize = 17;
 
-pub(crate) const ROUND: usize = 18;
+pub(crate) const GET: usize = 18;
 
-pub(crate) const MIN: usize = 19;
+pub(crate) const TOTAL: usize = 19;
 
-pub(crate) const MAX: usize = 20;
+pub(crate) const ELSEWHERE: usize = 20;
 
-pub(crate) const TOTCMP: usize = 21;
+pub(crate) const PLEN: usize = 21;
 
-pub(crate) const QUOTANEW: usize = 22;
+pub(crate) const PEMPTY: usize = 22;
 
-pub(crate) const PERSEC: usize = 23;
+pub(crate) const TOTALS: usize = 23;
 
-pub(crate) const UNPACK: usize = 24;
+pub(crate) const ELSEWHERES: usize = 24;
 
-pub(crate) const RATEPERSEC: usize = 25;
+pub(crate) const RATES: usize = 25;
 
-pub(crate) const PACK: usize = 26;
+pub(crate) const QUOTA: usize = 26;
 
-pub(crate) const CEILING: usize = 27;
+pub(crate) const LIMIT: usize = 27;
 
-pub(crate) const GCHECK: usize = 28;
+pub(crate) const HOTSINCE: usize = 28;
 
-pub(crate) const GSET: usize = 29;
+pub(crate) const ISHOT: usize = 29;
 
-pub(crate) const GDEBT: usize = 30;
+pub(crate) const TRACKED: usize = 30;
 
-pub(crate) const GRETRY: usize = 31;
+pub(crate) const NEWQUOTA: usize = 31;
 
-pub(crate) const STEP: usize = 32;
+pub(crate) const NEWFACTOR: usize = 32;
 
-pub(crate) const DTICK: usize = 33;
+pub(crate) const NTRACKED: usize = 33;
 
-pub(crate) const DREC: usize = 34;
+pub(crate) const NHOT: usize = 34;
 
-pub(crate) const DUNB: usize = 35;
+pub(crate) const CONFIG: usize = 35;
 
-pub(crate) const DECAY: usize = 36;
+pub(crate) const HOTDEMAND: usize = 36;
 
-pub(crate) const SHARE: usize = 37;
+pub(crate) const MOSTDENIED: usize = 37;
 
-pub(crate) const NEWER: usize = 38;
+pub(crate) const MOSTSHADOW: usize = 38;
 
-pub(crate) const STALE: usize = 39;
+pub(crate) const U2F: usize = 39;
+
+pub(crate) const F2U: usize = 40;
+
+pub(crate) const CEIL: usize = 41;
+
+pub(crate) const ROUND: usize = 42;
+
+pub(crate) const MIN: usize = 43;
+
+pub(crate) const MAX: usize = 44;
+
+pub(crate) const TOTCMP: usize = 45;
+
+pub(crate) const QUOTANEW: usize = 46;
+
+pub(crate) const PERSEC: usize = 47;
+
+pub(crate) const UNPACK: usize = 48;
+
+pub(crate) const RATEPERSEC: usize = 49;
+
+pub(crate) const PACK: usize = 50;
+
+pub(crate) const CEILING: usize = 51;
+
+pub(crate) const GCHECK: usize = 52;
+
+pub(crate) const GSET: usize = 53;
+
+pub(crate) const GDEBT: usize = 54;
+
+pub(crate) const GRETRY: usize = 55;
+
+pub(crate) const STEP: usize = 56;
+
+pub(crate) const DTICK: usize = 57;
+
+pub(crate) const DREC: usize = 58;
+
+pub(crate) const DUNB: usize = 59;
+
+pub(crate) const DECAY: usize = 60;
+
+pub(crate) const SHARE: usize = 61;
+
+pub(crate) const NEWER: usize = 62;
+
+pub(crate) const STALE: usize = 63;
 
 // What is no call, and what gets no answer.
-pub(crate) const NO_CALL: usize = 40;
+pub(crate) const NO_CALL: usize = 64;
 
-pub(crate) const SKIPPED: usize = 41;
+pub(crate) const SKIPPED: usize = 65;
 
 // Bytes in a row of the list: a name, a space and a letter for each field.
 const ROW: usize = 16;
@@ -158,19 +206,22 @@ fn row_of(name: &[u8], list: &[u8]) -> Row
     }
 }
 
-// Whether keys are listed behind the fields of a call.
-fn lists_keys(place: usize) -> bool {
+// Whether a list or a shadow limit follows the fields of a call.
+fn goes_on(place: usize) -> bool {
+    if place == TRACED || place == CHECKS {
+        return true;
+    }
     place == REPORT || place == TOTALS || place == ELSEWHERES
 }
 
-// The call of a line by a list: the fields are good and end the line, or listed keys follow them.
+// The call of a line by a list: the fields are good and end the line, or more follows them.
 fn listed(line: &[u8], list: &[u8]) -> Call {
     let name_end = fields::end_of(line, 0);
     let row = row_of(&line[0..name_end], list);
     let kinds = row.kinds;
     let end = row.end;
     let args = fields::args_of(line, fields::behind(name_end), &list[kinds..end]);
-    if args.good && (line.len() < args.next || lists_keys(row.place)) {
+    if args.good && (line.len() < args.next || goes_on(row.place)) {
         Call {
             place: row.place,
             args,
@@ -207,9 +258,16 @@ pub(crate) fn call_of(kind: Kind, line: &[u8]) -> Call {
         b"l.hnew uu       l.hupd uddub    \
           newpeers        report uuuihc   forget u        leave uuu       \
           expire uu       \
+          lend uuuuuu     new didduuuuu   ticks uu        cap e           \
+          check uuu       checkin udiuu   record uuuudiuu tick uu         \
+          traced udi      checks uuc      \
           l.hget u        \
           get uu          total u         elsewhere u     plen            \
           pempty          totals uc       elsewheres uc   \
+          rates u         quota u         limit u         hotsince u      \
+          ishot u         tracked u       newquota diu    newfactor u     \
+          ntracked        nhot            config          hotdemand u     \
+          mostdenied uu   mostshadow uu   \
           l.u2f u         l.f2u d         l.ceil d        l.round d       \
           l.min dd        l.max dd        l.totcmp dd     \
           l.quotanew ii   l.persec di     l.unpack u      l.ratepersec ui \

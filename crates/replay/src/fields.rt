@@ -3,6 +3,7 @@
 //   c, b      a count of listed keys; yes or no, as 1 and 0
 //   d, f      an f64 or an f32 by its bits, in hexadecimal digits
 //   o         a whole number or `none`; the fields of this kind are all `none` or none is
+//   e         an f64 or `none`
 ghost use Prim.Native.Nat.{_≤_};
 ghost use lib.ListN.{length};
 use text::Number;
@@ -19,6 +20,9 @@ pub(crate) struct Args {
     pub(crate) fourth: u64,
     pub(crate) fifth: u64,
     pub(crate) sixth: u64,
+    pub(crate) seventh: u64,
+    pub(crate) eighth: u64,
+    pub(crate) ninth: u64,
 }
 
 // What a field holds; `Given` is a number that might have been `none`.
@@ -88,7 +92,7 @@ fn largest(kind: u8) -> u64 {
 
 // The number of a field: a bit pattern has all its digits, a whole number 1 to 20.
 fn number_of(field: &[u8], kind: u8) -> Number {
-    if kind == b'd' {
+    if kind == b'd' || kind == b'e' {
         return text::hex(field, 16);
     }
     if kind == b'f' {
@@ -100,8 +104,13 @@ fn number_of(field: &[u8], kind: u8) -> Number {
     text::decimal(field)
 }
 
+// Whether a field of a kind may be `none`.
+fn may_miss(kind: u8) -> bool {
+    kind == b'o' || kind == b'e'
+}
+
 fn field_of(field: &[u8], kind: u8) -> Field {
-    if kind == b'o' && same(field, b"none") {
+    if may_miss(kind) && same(field, b"none") {
         return Field::Missing;
     }
     let Number::Value(n) = number_of(field, kind) else {
@@ -110,7 +119,7 @@ fn field_of(field: &[u8], kind: u8) -> Field {
     if largest(kind) < n {
         return Field::Unfit;
     }
-    if kind == b'o' {
+    if may_miss(kind) {
         Field::Given(n)
     } else {
         Field::Value(n)
@@ -205,7 +214,7 @@ fn next(line: &[u8], c: Cursor, kinds: &[u8], i: usize) -> Cursor {
     past_next(line, c, kind)
 }
 
-// The fields of these kinds, at most six, from `at` on. A space ends the kinds.
+// The fields of these kinds, at most nine, from `at` on. A space ends the kinds.
 pub(crate) fn args_of(line: &[u8], at: usize, kinds: &[u8]) -> Args {
     let start = Cursor {
         at,
@@ -220,15 +229,49 @@ pub(crate) fn args_of(line: &[u8], at: usize, kinds: &[u8]) -> Args {
     let fourth = next(line, third, kinds, 3);
     let fifth = next(line, fourth, kinds, 4);
     let sixth = next(line, fifth, kinds, 5);
+    let seventh = next(line, sixth, kinds, 6);
+    let eighth = next(line, seventh, kinds, 7);
+    let ninth = next(line, eighth, kinds, 8);
     Args {
-        good: sixth.good,
-        next: sixth.at,
-        none: sixth.none,
+        good: ninth.good,
+        next: ninth.at,
+        none: ninth.none,
         first: first.value,
         second: second.value,
         third: third.value,
         fourth: fourth.value,
         fifth: fifth.value,
         sixth: sixth.value,
+        seventh: seventh.value,
+        eighth: eighth.value,
+        ninth: ninth.value,
+    }
+}
+
+// Whole numbers that a line lists to its end.
+pub(crate) struct Listed {
+    pub(crate) words: [u64; 512],
+    pub(crate) good: bool,
+}
+
+// The so many numbers that are listed from there on, of which 512 are held.
+pub(crate) fn words_of(line: &[u8], from: usize, count: u64) -> Listed {
+    let mut words = [0; 512];
+    let mut at = from;
+    let mut i = 0;
+    while i < count {
+        let one = one_of(line, at, b'u');
+        if !one.good {
+            return Listed { words, good: false };
+        }
+        at = one.next;
+        if i < 512 {
+            words[i as usize] = one.value;
+        }
+        i += 1;
+    }
+    Listed {
+        words,
+        good: line.len() < at,
     }
 }

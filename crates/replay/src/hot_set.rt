@@ -72,7 +72,7 @@ fn of_test(answer: TestAnswer) -> Value {
     }
 }
 
-fn of_since(answer: SinceAnswer) -> Value {
+pub(crate) fn of_since(answer: SinceAnswer) -> Value {
     match answer {
         SinceAnswer::No(n) => Value::Refused(n),
         SinceAnswer::NotHot => Value::Missing,

@@ -6,49 +6,21 @@ mod estimator;
 mod fields;
 mod helpers;
 mod hot_set;
+mod lent;
+mod limiter_calls;
+mod limiter_readers;
 mod meter;
 mod peers;
+mod session;
 
 use answers::Answer;
 use answers::Value;
 use calls::Call;
 use fields::Args;
-use hot_set::Hot;
-use peers::Peers;
+use session::Done;
+use session::Session;
 use text::lines::Kind;
 use text::lines::Lines;
-
-// What the script's calls made.
-struct Session {
-    hot: Hot,
-    peers: Peers,
-}
-
-// An answer, and what there is after the call.
-struct Done {
-    answer: Answer,
-    session: Session,
-}
-
-fn after_hot(done: hot_set::Done, s: Session) -> Done {
-    let value = done.value;
-    let hot = done.hot;
-    let peers = s.peers;
-    Done {
-        answer: answers::one(value),
-        session: Session { hot, peers },
-    }
-}
-
-fn after_peers(done: peers::Done, s: Session) -> Done {
-    let value = done.value;
-    let hot = s.hot;
-    let peers = done.peers;
-    Done {
-        answer: answers::one(value),
-        session: Session { hot, peers },
-    }
-}
 
 // The answer to what is no call.
 fn answer_none(place: usize) -> Answer {
@@ -82,8 +54,11 @@ fn answer_of(
     call: Call,
     s: Session,
     hot: &[u64],
-    peers: &[u64],
     keys: &[u64],
+    hot_keys: &[u64],
+    shadows: &[u64],
+    peer_table: &[u64],
+    snapshots: &[u64],
     contested: &[u64],
     list: &mut [u64],
 ) -> Answer {
@@ -93,15 +68,52 @@ fn answer_of(
         let set = s.hot;
         return hot_set::answer(args, set, hot);
     }
-    if place < calls::TOTALS {
-        let state = s.peers;
-        return peers::answer(place, args, state, peers, keys, contested);
+    if place < calls::RATES {
+        return session::read_peers(line, place, args, s, peer_table, snapshots, contested, list);
     }
     if place < calls::U2F {
-        let state = s.peers;
-        return peers::answer_each(line, place, args, state, peers, keys, contested, list);
+        return session::read_node(place, args, s, keys, hot_keys, shadows, list);
     }
     answer_alone(place, args)
+}
+
+// A call on limiter and peers together, or on what is lent of them.
+fn respond_both(
+    place: usize,
+    args: Args,
+    s: Session,
+    keys: &mut [u64],
+    hot_keys: &mut [u64],
+    shadows: &mut [u64],
+    peer_table: &[u64],
+    snapshots: &[u64],
+    contested: &[u64],
+) -> Done {
+    if place == calls::LEND {
+        return session::lend(args, s);
+    }
+    if place == calls::NEW {
+        return session::make(
+            args,
+            s,
+            keys,
+            hot_keys,
+            shadows,
+            peer_table,
+            snapshots,
+            contested,
+        );
+    }
+    session::tick_with_shares(
+        args,
+        s,
+        keys,
+        hot_keys,
+        shadows,
+        peer_table,
+        snapshots,
+        contested,
+    )
 }
 
 // Answers what came; a list that belongs to the answer is left in `list`.
@@ -110,8 +122,11 @@ fn respond(
     line: &[u8],
     s: Session,
     hot: &mut [u64],
-    peers: &mut [u64],
     keys: &mut [u64],
+    hot_keys: &mut [u64],
+    shadows: &mut [u64],
+    peer_table: &mut [u64],
+    snapshots: &mut [u64],
     contested: &mut [u64],
     list: &mut [u64],
 ) -> Done {
@@ -119,20 +134,79 @@ fn respond(
     let place = call.place;
     let args = call.args;
     if place < calls::NEWPEERS {
-        let set = s.hot;
-        return after_hot(hot_set::change(place, args, set, hot), s);
+        return session::change_hot(place, args, s, hot);
     }
-    if place < calls::HGET {
-        let state = s.peers;
-        return after_peers(
-            peers::change(line, place, args, state, peers, keys, contested),
+    if place < calls::LEND {
+        return session::change_peers(line, place, args, s, peer_table, snapshots, contested);
+    }
+    if place < calls::CAP {
+        return respond_both(
+            place,
+            args,
             s,
+            keys,
+            hot_keys,
+            shadows,
+            peer_table,
+            snapshots,
+            contested,
         );
     }
+    if place < calls::HGET {
+        return session::change_node(line, place, args, s, keys, hot_keys, shadows, list);
+    }
     Done {
-        answer: answer_of(line, call, s, hot, peers, keys, contested, list),
+        answer: answer_of(
+            line,
+            call,
+            s,
+            hot,
+            keys,
+            hot_keys,
+            shadows,
+            peer_table,
+            snapshots,
+            contested,
+            list,
+        ),
         session: s,
     }
+}
+
+// The same, with as many words of the tables as the script lends.
+fn respond_lent(
+    kind: Kind,
+    line: &[u8],
+    s: Session,
+    hot: &mut [u64],
+    keys: &mut [u64],
+    hot_keys: &mut [u64],
+    shadows: &mut [u64],
+    peer_table: &mut [u64],
+    snapshots: &mut [u64],
+    contested: &mut [u64],
+    list: &mut [u64],
+) -> Done {
+    let lent = s.lent;
+    let a = lent::at_most(lent.keys, keys.len());
+    let b = lent::at_most(lent.hot, hot_keys.len());
+    let c = lent::at_most(lent.shadows, shadows.len());
+    let d = lent::at_most(lent.peers, peer_table.len());
+    let e = lent::at_most(lent.snapshots, snapshots.len());
+    let f = lent::at_most(lent.contested, contested.len());
+    respond(
+        kind,
+        line,
+        s,
+        hot,
+        &mut keys[..a],
+        &mut hot_keys[..b],
+        &mut shadows[..c],
+        &mut peer_table[..d],
+        &mut snapshots[..e],
+        &mut contested[..f],
+        list,
+    )
 }
 
 fn is_end(kind: Kind) -> bool {
@@ -158,8 +232,11 @@ fn turn_of(
     out: &mut [u8],
     t: Turn,
     hot: &mut [u64],
-    peers: &mut [u64],
     keys: &mut [u64],
+    hot_keys: &mut [u64],
+    shadows: &mut [u64],
+    peer_table: &mut [u64],
+    snapshots: &mut [u64],
     contested: &mut [u64],
     list: &mut [u64],
 ) -> Turn {
@@ -173,13 +250,16 @@ fn turn_of(
     let start = came.start;
     let end = came.end;
     let left = came.rest;
-    let done = respond(
+    let done = respond_lent(
         kind,
         &input[start..end],
         s,
         hot,
-        peers,
         keys,
+        hot_keys,
+        shadows,
+        peer_table,
+        snapshots,
         contested,
         list,
     );
@@ -199,15 +279,15 @@ fn run(
     input: &mut [u8],
     out: &mut [u8],
     hot: &mut [u64],
-    peers: &mut [u64],
     keys: &mut [u64],
+    hot_keys: &mut [u64],
+    shadows: &mut [u64],
+    peer_table: &mut [u64],
+    snapshots: &mut [u64],
     contested: &mut [u64],
     list: &mut [u64],
 ) {
-    let session = Session {
-        hot: hot_set::nothing(),
-        peers: peers::nothing(),
-    };
+    let session = session::nothing();
     let mut t = Turn {
         ended: false,
         from: 0,
@@ -217,7 +297,19 @@ fn run(
     };
     let mut turns = u64::MAX;
     while 0 < turns && !t.ended {
-        t = turn_of(input, out, t, hot, peers, keys, contested, list);
+        t = turn_of(
+            input,
+            out,
+            t,
+            hot,
+            keys,
+            hot_keys,
+            shadows,
+            peer_table,
+            snapshots,
+            contested,
+            list,
+        );
         turns -= 1;
     }
     text::flush(out, t.at, out.len());
@@ -227,16 +319,22 @@ fn main() {
     let mut input = io::large_buffer();
     let mut out = io::large_buffer();
     let mut hot = [0u64; 384];
-    let mut peers = [0u64; 384];
-    let mut keys = [0u64; 8192];
-    let mut contested = [0u64; 49536];
-    let mut list = [0u64; 256];
+    let mut keys = [0u64; 90112];
+    let mut hot_keys = [0u64; 384];
+    let mut shadows = [0u64; 16384];
+    let mut peer_table = [0u64; 384];
+    let mut snapshots = [0u64; 8192];
+    let mut contested = [0u64; 49152];
+    let mut list = [0u64; 1024];
     run(
         &mut input,
         &mut out,
         &mut hot,
-        &mut peers,
         &mut keys,
+        &mut hot_keys,
+        &mut shadows,
+        &mut peer_table,
+        &mut snapshots,
         &mut contested,
         &mut list,
     );

@@ -21,7 +21,7 @@ use gcra::Stepped;
 use gcra::Tat;
 
 // What the quota and the Gcra answer, as the script writes it.
-fn of_quota(answer: QuotaAnswer) -> Answer {
+pub(crate) fn of_quota(answer: QuotaAnswer) -> Answer {
     match answer {
         QuotaAnswer::No(n) => answers::refused(n),
         QuotaAnswer::Is(quota) => answers::two(
@@ -38,7 +38,7 @@ fn of_number(answer: NumberAnswer) -> Answer {
     }
 }
 
-fn of_rate(answer: RateAnswer) -> Answer {
+pub(crate) fn of_rate(answer: RateAnswer) -> Answer {
     match answer {
         RateAnswer::No(n) => answers::refused(n),
         RateAnswer::Is(rate) => answers::one(Value::Float64(rate)),
@@ -67,7 +67,7 @@ fn of_tat(tat: Tat) -> Value {
     }
 }
 
-fn of_decision(decision: Decision) -> Value {
+pub(crate) fn of_decision(decision: Decision) -> Value {
     match decision {
         Decision::Allow => Value::Allow,
         Decision::Deny { retry_at } => Value::Deny(retry_at),

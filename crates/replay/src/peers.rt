@@ -5,6 +5,7 @@ use crate::answers::Value;
 use crate::calls;
 use crate::fields;
 use crate::fields::Args;
+use crate::lent;
 use demand::boundary::PeerId;
 use demand::peer_demand::ChangeAnswer;
 use demand::peer_demand::DemandReport;
@@ -17,7 +18,6 @@ use demand::peer_demand::PeersAnswer;
 use demand::peer_demand::PeersChanged;
 use demand::peer_demand::RoundsAnswer;
 use demand::peer_demand::TotalAnswer;
-ghost use Prim.Native.Nat.{_≤_};
 
 // The peers' state of the script, once it is made.
 pub(crate) struct Peers {
@@ -120,33 +120,29 @@ fn of_total(answer: TotalAnswer) -> Answer {
     }
 }
 
-fn of_flag(answer: FlagAnswer) -> Answer {
+pub(crate) fn of_flag(answer: FlagAnswer) -> Answer {
     match answer {
         FlagAnswer::No(n) => answers::refused(n),
         FlagAnswer::Is(yes) => answers::one(answers::flag(yes)),
     }
 }
 
-fn of_len(answer: LenAnswer) -> Answer {
+pub(crate) fn of_len(answer: LenAnswer) -> Answer {
     match answer {
         LenAnswer::No(n) => answers::refused(n),
         LenAnswer::Is(n) => answers::one(Value::Whole(n as u64)),
     }
 }
 
-// The answer to a call that reads the peers.
-pub(crate) fn answer(
+// The answer to a call that reads the peers for one key or none.
+fn answer_one(
     place: usize,
     args: Args,
-    p: Peers,
+    value: PeerDemand,
     peers: &[u64],
     keys: &[u64],
     contested: &[u64],
 ) -> Answer {
-    if !p.made {
-        return answers::one(Value::NoState);
-    }
-    let value = p.value;
     let key = args.first;
     match place {
         calls::GET => of_heard(value.get(peers, keys, contested, PeerId::new(key), args.second)),
@@ -155,45 +151,6 @@ pub(crate) fn answer(
         calls::PLEN => of_len(value.len(peers, keys, contested)),
         calls::PEMPTY => of_flag(value.is_empty(peers, keys, contested)),
         _ => answers::unknown(),
-    }
-}
-
-// The keys that a call on many lists, to the line's end.
-struct Wanted {
-    keys: [u64; 256],
-    good: bool,
-}
-
-// The so many keys that are listed from there on, of which 256 are held.
-fn wanted_of(line: &[u8], from: usize, count: u64) -> Wanted {
-    let mut keys = [0; 256];
-    let mut at = from;
-    let mut i = 0;
-    while i < count {
-        let one = fields::one_of(line, at, b'u');
-        if !one.good {
-            return Wanted { keys, good: false };
-        }
-        at = one.next;
-        if i < 256 {
-            keys[i as usize] = one.value;
-        }
-        i += 1;
-    }
-    Wanted {
-        keys,
-        good: line.len() < at,
-    }
-}
-
-// As much room for answers as the script gives, `most` at most.
-fn room_of(room: u64, most: usize) -> usize
-    ensures { λ r. ⌜ r ≤ most ⌝ }
-{
-    if room < most as u64 {
-        room as usize
-    } else {
-        most
     }
 }
 
@@ -243,7 +200,7 @@ fn answer_totals(
     totals: &mut [f64],
     list: &mut [u64],
 ) -> Answer {
-    let room = room_of(args.first, totals.len());
+    let room = lent::at_most(args.first, totals.len());
     let count = args.second;
     let answer = value.total_of_each(
         peers,
@@ -269,7 +226,7 @@ fn answer_elsewheres(
     flags: &mut [bool],
     list: &mut [u64],
 ) -> Answer {
-    let room = room_of(args.first, flags.len());
+    let room = lent::at_most(args.first, flags.len());
     let count = args.second;
     let answer = value.hot_elsewhere_of_each(
         peers,
@@ -285,7 +242,7 @@ fn answer_elsewheres(
 }
 
 // The answer to a call that reads the peers for many keys; what it tells is left in the list.
-pub(crate) fn answer_each(
+fn answer_each(
     line: &[u8],
     place: usize,
     args: Args,
@@ -295,14 +252,14 @@ pub(crate) fn answer_each(
     contested: &[u64],
     list: &mut [u64],
 ) -> Answer {
-    let wanted = wanted_of(line, args.next, args.second);
-    if !wanted.good {
+    let listed = fields::words_of(line, args.next, args.second);
+    if !listed.good {
         return answers::unknown();
     }
     if !p.made {
         return answers::one(Value::NoState);
     }
-    let all = wanted.keys;
+    let all = listed.words;
     let value = p.value;
     if place == calls::TOTALS {
         let mut totals = [0.0; 256];
@@ -310,6 +267,27 @@ pub(crate) fn answer_each(
     }
     let mut flags = [false; 256];
     answer_elsewheres(args, &all, value, peers, keys, contested, &mut flags, list)
+}
+
+// The answer to a call that reads the peers.
+pub(crate) fn answer(
+    line: &[u8],
+    place: usize,
+    args: Args,
+    p: Peers,
+    peers: &[u64],
+    keys: &[u64],
+    contested: &[u64],
+    list: &mut [u64],
+) -> Answer {
+    if calls::TOTALS <= place {
+        return answer_each(line, place, args, p, peers, keys, contested, list);
+    }
+    if !p.made {
+        return answers::one(Value::NoState);
+    }
+    let value = p.value;
+    answer_one(place, args, value, peers, keys, contested)
 }
 
 // A call that changes the peers, but for a report.

@@ -5,7 +5,9 @@ use Rattle.replay.proofs.turn_of.Tie as tie
 
 same-length : tie.Need-same-length
 same-length c =
-    let n = c .before .before .before .before .before .before .before .before .before .before .before .before .before .before .before .before .before .before .before .before .before .before .before .before .before .before .before .before .before .next-line in
+    let after-respond = c .before .before .before .before .before .before .before .before .before .before .before .before .before in
+    let at-respond = after-respond .before .before .before .before .before .before .before .before .before .before .before .before .before in
+    let n = at-respond .before .before .before .before .before .before .before .before .before .before .before .before .next-line in
     search (needs, n)
 
 pub turn-of-spec : {M : Type 1} → statement M
@@ -20,6 +22,9 @@ turn-of-spec =
     (λ c κs. search needs)
     (λ c κs. search needs)
     same-length
+    (λ c. search needs)
+    (λ c. search needs)
+    (λ c. search needs)
     (λ c. search needs)
     (λ c. search needs)
     (λ c. search needs)

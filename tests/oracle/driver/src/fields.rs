@@ -63,6 +63,14 @@ impl<'a> Fields<'a> {
         hexadecimal(self.word()?, 16).map(f64::from_bits)
     }
 
+    /// An f64, or `none`.
+    pub fn maybe_f64(&mut self) -> Option<Option<f64>> {
+        match self.word()? {
+            b"none" => Some(None),
+            word => hexadecimal(word, 16).map(|bits| Some(f64::from_bits(bits))),
+        }
+    }
+
     pub fn f32(&mut self) -> Option<f32> {
         hexadecimal(self.word()?, 8).map(|bits| f32::from_bits(bits as u32))
     }

@@ -6,7 +6,7 @@ use rateguard_core::sync::{AtomicU64, Ordering};
 use crate::fields::Fields;
 use crate::questions::{asked, burst_fits, quota_is_valid};
 use crate::script::{Call, State};
-use crate::text::{decision_text, f64_text, flag_text, maybe_text};
+use crate::text::{decision_text, f64_text, flag_text, maybe_text, quota_text};
 
 pub const CALLS: &[(&str, Call)] = &[
     ("l.quotanew", quota_new),
@@ -40,10 +40,6 @@ fn gcra_at(fields: &mut Fields) -> Option<(Gcra, u64)> {
     let (gcra, now) = (lone_gcra(fields)?, fields.u64()?);
     fields.end()?;
     Some((gcra, now))
-}
-
-fn quota_text(quota: Quota) -> String {
-    format!("{} {}", quota.interval, quota.burst)
 }
 
 fn check_text(decision: &Decision, tat: Option<u64>) -> String {

@@ -29,10 +29,14 @@ const MOST_LISTED: u64 = 256;
 /// The most peers that may be known.
 const MOST_PEERS: usize = 32;
 
+/// Makes the peers alone: a limiter that stood beside the old ones is gone.
 fn new(state: &mut State, fields: &mut Fields) -> Option<String> {
     fields.end()?;
-    state.peers = Some(PeerDemand::new());
-    Some("ok".into())
+    asked(&[(1, state.lent.hold_peers())], || {
+        state.limiter = None;
+        state.peers = Some(PeerDemand::new());
+        "ok".into()
+    })
 }
 
 fn listed_key(fields: &mut Fields) -> Option<KeyDemand> {
@@ -55,6 +59,7 @@ fn apply(state: &mut State, fields: &mut Fields) -> Option<String> {
         return no_state();
     };
     let questions = [
+        (1, state.lent.hold_peers()),
         (10, report.keys.len() <= MAX_DEMAND_KEYS),
         (11, report.keys.iter().all(|key| is_demand32(key.demand))),
         (12, peers.peers.contains_key(&from) || peers.peers.len() < MOST_PEERS),
@@ -87,8 +92,10 @@ fn changed(state: &mut State, change: impl FnOnce(&mut PeerDemand)) -> Option<St
     let Some(peers) = &mut state.peers else {
         return no_state();
     };
-    change(peers);
-    Some("ok".into())
+    asked(&[(1, state.lent.hold_peers())], || {
+        change(peers);
+        "ok".into()
+    })
 }
 
 fn get(state: &mut State, fields: &mut Fields) -> Option<String> {
@@ -148,12 +155,15 @@ fn each(state: &State, fields: &mut Fields, tell: impl Fn(&PeerDemand, u64) -> S
     let Some(peers) = &state.peers else {
         return no_state();
     };
-    asked(&[(16, keys.len() as u64 <= room)], || {
+    asked(&[(1, state.lent.hold_peers()), (16, keys.len() as u64 <= room)], || {
         let told = keys.iter().map(|&key| format!(" {}", tell(peers, key)));
         keys.len().to_string() + &told.collect::<String>()
     })
 }
 
 fn read(state: &State, reader: impl FnOnce(&PeerDemand) -> String) -> Option<String> {
-    state.peers.as_ref().map_or_else(no_state, |peers| Some(reader(peers)))
+    let Some(peers) = &state.peers else {
+        return no_state();
+    };
+    asked(&[(1, state.lent.hold_peers())], || reader(peers))
 }

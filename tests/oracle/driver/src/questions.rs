@@ -2,12 +2,19 @@
 
 use rateguard_core::gcra::{MAX_BURST, MAX_INTERVAL, Quota};
 
-/// The answer of a call: `no N` for the first question that is answered no, in the order given; else what `act` answers.
+/// The number of the first question that is answered no, in the order given.
+pub fn ask(questions: &[(u8, bool)]) -> Result<(), u8> {
+    questions.iter().find(|(_, yes)| !yes).map_or(Ok(()), |&(number, _)| Err(number))
+}
+
+/// The answer of a call: what it tells, or `no N`.
+pub fn told(answer: Result<String, u8>) -> Option<String> {
+    Some(answer.unwrap_or_else(|number| format!("no {number}")))
+}
+
+/// The same where all questions can be asked at once.
 pub fn asked(questions: &[(u8, bool)], act: impl FnOnce() -> String) -> Option<String> {
-    match questions.iter().find(|(_, yes)| !yes) {
-        Some((number, _)) => Some(format!("no {number}")),
-        None => Some(act()),
-    }
+    told(ask(questions).map(|()| act()))
 }
 
 /// 2, of a lone quota: an interval that packing gives back, and a burst that fits.
@@ -35,6 +42,11 @@ pub fn rate_fits(rate: f64) -> bool {
 /// 4.
 pub fn burst_fits(burst: u32) -> bool {
     (1..=MAX_BURST).contains(&burst)
+}
+
+/// 5, of alpha.
+pub fn alpha_fits(alpha: f64) -> bool {
+    alpha > 0.0 && alpha <= 1.0
 }
 
 /// 5, of the floor factor.

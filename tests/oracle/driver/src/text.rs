@@ -1,6 +1,6 @@
 //! Values as an answer writes them.
 
-use rateguard_core::gcra::Decision;
+use rateguard_core::gcra::{Decision, Quota};
 
 pub fn f64_text(value: f64) -> String {
     if value.is_nan() { "nan".into() } else { format!("{:016x}", value.to_bits()) }
@@ -24,4 +24,8 @@ pub fn decision_text(decision: &Decision) -> String {
         Decision::Allow => "allow".into(),
         Decision::Deny { retry_at } => format!("deny {retry_at}"),
     }
+}
+
+pub fn quota_text(quota: Quota) -> String {
+    format!("{} {}", quota.interval, quota.burst)
 }

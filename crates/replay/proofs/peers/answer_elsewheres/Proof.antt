@@ -6,7 +6,7 @@ use Rattle.replay.proofs.peers.answer_elsewheres.Statement.{statement}
 use Rattle.replay.proofs.peers.answer_elsewheres.Tie as tie
 
 slice-aggregate-hot-elsewhere-of-each : tie.Need-slice-aggregate-hot-elsewhere-of-each
-slice-aggregate-hot-elsewhere-of-each c = sym (length-take-le _ _ (c .before .room-of .ensures))
+slice-aggregate-hot-elsewhere-of-each c = sym (length-take-le _ _ (c .before .at-most .ensures))
 
 pub answer-elsewheres-spec : {M : Type 1} → statement M
 answer-elsewheres-spec =

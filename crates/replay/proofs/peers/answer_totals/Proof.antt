@@ -6,7 +6,7 @@ use Rattle.replay.proofs.peers.answer_totals.Statement.{statement}
 use Rattle.replay.proofs.peers.answer_totals.Tie as tie
 
 slice-aggregate-total-of-each : tie.Need-slice-aggregate-total-of-each
-slice-aggregate-total-of-each c = sym (length-take-le _ _ (c .before .room-of .ensures))
+slice-aggregate-total-of-each c = sym (length-take-le _ _ (c .before .at-most .ensures))
 
 pub answer-totals-spec : {M : Type 1} → statement M
 answer-totals-spec =

@@ -3,6 +3,8 @@
 mod demand;
 mod helpers;
 mod hot_set;
+mod limiter;
+mod limiter_calls;
 mod mangle;
 mod meter;
 mod peers;
@@ -25,6 +27,7 @@ fn source(layer: &str) -> Option<Box<dyn Source>> {
         "demand" => Box::new(demand::Estimators),
         "hotset" => Box::<hot_set::HotSets>::default(),
         "peers" => Box::<peers::Peers>::default(),
+        "limiter" => Box::<limiter::Limiters>::default(),
         _ => return None,
     })
 }

@@ -206,7 +206,7 @@ impl Talker {
 }
 
 /// The bits of an f32 that is finite with a clear sign bit, often one of few.
-fn demand(rng: &mut Rng) -> u32 {
+pub fn demand(rng: &mut Rng) -> u32 {
     match rng.below(8) {
         0 => rng.pick(&[0, 1, 0x007f_ffff, 0x0080_0000, 0x7f7f_ffff]),
         1 => rng.below(0x7f80_0000) as u32,

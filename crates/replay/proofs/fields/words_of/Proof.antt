@@ -1,17 +1,17 @@
--- `replay::peers::wanted_of` is safe: each key stands within the 256 places.
+-- `replay::fields::words_of` is safe: each number stands within the 512 places.
 use mathlib.Core.Path.{_≡_, _∙_, ap}
 use Prim.Native.Nat.{_-_, _≤_}
 use mathlib.Core.Logic.{⊎-elim}
 use lib.ListN.{length}
 use borrow.Author.Needs.{needs}
-use Rattle.replay.proofs.peers.wanted_of.Statement.{statement}
-use Rattle.replay.proofs.peers.wanted_of.Tie as tie
+use Rattle.replay.proofs.fields.words_of.Statement.{statement}
+use Rattle.replay.proofs.fields.words_of.Tie as tie
 
 abbrev Inv-loop : tie.InvT-loop
-Inv-loop line from count keys₀ at₀ i₀ keys at i = (i ≤ count) × (length keys ≡ 256)
+Inv-loop line from count words₀ at₀ i₀ words at i = (i ≤ count) × (length words ≡ 512)
 
 abbrev μ-loop : tie.MeasureT-loop
-μ-loop line from count keys₀ at₀ i₀ keys at i = count - i
+μ-loop line from count words₀ at₀ i₀ words at i = count - i
 
 loop-again : tie.Need-loop-again Inv-loop μ-loop
 loop-again c =
@@ -20,8 +20,8 @@ loop-again c =
     (λ w. (search needs, ap length (w .1) ∙ search needs))
     (c .if2 .came)
 
-pub wanted-of-spec : {M : Type 1} → statement M
-wanted-of-spec =
+pub words-of-spec : {M : Type 1} → statement M
+words-of-spec =
     tie.close
     (tie.spec
     Inv-loop

@@ -1,0 +1,116 @@
+-- Laws: what the walks of a tick require holds of a value and tables that pass questions 1 and 2.
+use mathlib.Core.Path.{_≡_, refl, sym, ap, _∙_}
+use mathlib.Core.Bool.{true}
+use mathlib.Core.List.{List, [], _∷_, map}
+use Prim.Native.Nat.{ℕ, _*_, _≤_}
+use native.Mathlib.Omega.{arith}
+use lib.ListN.{length, length-map}
+use Rattle.records.specs.Records.{records, ascending, same}
+use Rattle.records.proofs.OrderLaws.{same-eq}
+use Rattle.records.proofs.RecordLaws.{length-records}
+use Rattle.records.proofs.TestLaws.{both, and-intro}
+use Rattle.gcra.specs.Packed.{unitNanos}
+use Rattle.demand.specs.HotSet as hot-set
+use Rattle.demand.specs.PeerLists.{all}
+use Rattle.demand.specs.PeerState.{exact}
+use Rattle.demand.specs.Steps.HotSetSteps.{Held}
+use Rattle.demand.proofs.HotSetWords.{is-entry-words}
+use Rattle.demand.proofs.HotSetMap.{of-asc}
+use Rattle.limiter.specs.declared.Limiter.{Limiter}
+use Rattle.limiter.specs.State.{LimiterTables, LimiterState, lengths, haveRoom, keyWords, keyOf, shadowOf, validHotEntry, stateOf, areExact, isValid}
+use Rattle.limiter.specs.Steps.TickSteps.{HeldKeys}
+use Rattle.limiter.proofs.States.KeyListLaws.{rising-ascends}
+use Rattle.limiter.proofs.States.RecordValidLaws.{held}
+use Rattle.limiter.proofs.States.HotEntryLaws.{entry-says}
+use Rattle.limiter.proofs.States.StateValidLaws.{keyOfKey, sizes-say, ValidState, valid-says, few-shadows}
+use Rattle.limiter.proofs.States.WrittenLaws.{room-says}
+use Rattle.limiter.proofs.Walking.CapLaws.{first-word}
+
+-- records whose words are exactly those of what they stand for
+exact-list : {A : Type 0} (words : A → List ℕ) (of : List ℕ → A) (rs : List (List ℕ)) → exact words of rs ≡ true → rs ≡ map words (map of rs)
+unfolding all
+exact-list words of [] e = refl
+exact-list words of (r ∷ rs) e =
+    let b = both (same (words (of r)) r) _ e in
+    (λ i. sym (same-eq (words (of r)) r (b .0)) i ∷ exact-list words of rs (b .1) i)
+
+-- valid hot entries are entries
+all-entries : (rs : List (List ℕ)) → exact hot-set.words hot-set.entry rs ≡ true → all validHotEntry (map hot-set.entry rs) ≡ true → hot-set.allEntries rs ≡ true
+unfolding all hot-set.allEntries
+all-entries [] e v = refl
+all-entries (r ∷ rs) e v =
+    let b = both (same (hot-set.words (hot-set.entry r)) r) _ e in
+    let w = both (validHotEntry (hot-set.entry r)) _ v in
+    let g = entry-says (hot-set.entry r) (w .0) in
+    and-intro (hot-set.isEntry r) _
+    (ap hot-set.isEntry (sym (same-eq (hot-set.words (hot-set.entry r)) r (b .0))) ∙ is-entry-words (hot-set.entry r) (held (hot-set.entry r .demand) (g .demand-f64)) (g .finite))
+    (all-entries rs (b .1) (w .1))
+
+module _ (l : Limiter) (t : LimiterTables) (room : haveRoom (l .config) (lengths t) ≡ true) (e : isValid unitNanos l t ≡ true) where
+  parts : (areExact unitNanos l t ≡ true) × ValidState unitNanos (stateOf unitNanos l t)
+  unfolding isValid
+  parts = let b = both (areExact unitNanos l t) _ e in (b .0, valid-says unitNanos (stateOf unitNanos l t) (b .1))
+
+  abbrev state : LimiterState
+  state = stateOf unitNanos l t
+
+  exacts : (exact (keyWords unitNanos) (keyOf unitNanos) (records 22 (l .keys) (t .keys)) ≡ true) × (exact hot-set.words hot-set.entry (records 6 (l .hot) (t .hot)) ≡ true)
+  unfolding areExact
+  exacts =
+      let b = both (exact (keyWords unitNanos) (keyOf unitNanos) (records 22 (l .keys) (t .keys))) _ (parts .0) in
+      (b .0, both (exact hot-set.words hot-set.entry (records 6 (l .hot) (t .hot))) _ (b .1) .0)
+
+  -- how many there are of each
+  key-count : length (state .keys) ≡ l .keys
+  unfolding stateOf
+  key-count = length-map (records 22 (l .keys) (t .keys)) (keyOf unitNanos) ∙ length-records 22 (l .keys) (t .keys)
+
+  hot-count : length (state .hot) ≡ l .hot
+  unfolding stateOf hot-set.entries
+  hot-count = length-map (records 6 (l .hot) (t .hot)) hot-set.entry ∙ length-records 6 (l .hot) (t .hot)
+
+  shadow-count : length (state .shadows) ≡ l .shadows
+  unfolding stateOf
+  shadow-count = length-map (records 4 (l .shadows) (t .shadows)) (shadowOf unitNanos) ∙ length-records 4 (l .shadows) (t .shadows)
+
+  pub few-keys : (l .keys ≤ 4096) × (l .shadows ≤ 4096)
+  unfolding stateOf
+  few-keys =
+      let v = parts .1 in
+      let z = sizes-say (l .config) (v .settings .config .sizes) in
+      (omega (arith, v .few, z, key-count), omega (arith, v .few, z, key-count, few-shadows unitNanos state v, shadow-count))
+
+  rooms : (l .keys * 22 ≤ length (t .keys)) × (l .hot * 6 ≤ length (t .hot)) × (l .shadows * 4 ≤ length (t .shadows))
+  unfolding stateOf
+  rooms =
+      let v = parts .1 in
+      let z = sizes-say (l .config) (v .settings .config .sizes) in
+      let r = room-says (l .config) (lengths t) room in (
+        omega (arith, v .few, z, key-count, r .for-keys),
+        omega (arith, v .hot-few, z, hot-count, r .for-hot),
+        omega (arith, v .few, z, key-count, few-shadows unitNanos state v, shadow-count, r .for-shadows),
+      )
+
+  pub held-keys : HeldKeys (l .keys) (t .keys)
+  unfolding stateOf
+  held-keys =
+      let x = exact-list (keyWords unitNanos) (keyOf unitNanos) (records 22 (l .keys) (t .keys)) (exacts .0) in
+      record {
+        fit = rooms .0;
+        exact = x;
+        valids = parts .1 .keys;
+        ascends = ap (ascending 1) x ∙ rising-ascends keyOfKey (keyWords unitNanos) first-word (state .keys) (parts .1 .keys-rise);
+      }
+
+  pub held-hot : Held (l .hot) (t .hot)
+  unfolding stateOf hot-set.entries hot-set.validEntries
+  held-hot =
+      let rs : List (List ℕ) = records 6 (l .hot) (t .hot) in
+      let x = exact-list hot-set.words hot-set.entry rs (exacts .1) in
+      record {
+        fit = rooms .1;
+        good = and-intro (ascending 1 rs) _ (ap (ascending 1) x ∙ of-asc (state .hot) (parts .1 .hot-rise)) (all-entries rs (exacts .1) (parts .1 .hot));
+      }
+
+  pub held-shadows : l .shadows * 4 ≤ length (t .shadows)
+  held-shadows = rooms .2

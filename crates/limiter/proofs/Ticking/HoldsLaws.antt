@@ -1,0 +1,278 @@
+-- Laws: what pass one and what comes after it leave in the tables is the state after the tick.
+use mathlib.Core.Path.{_≡_, refl, sym, ap, _∙_}
+use mathlib.Core.Bool.{Bool, true}
+use mathlib.Core.List.{List, _∷_, map}
+use Prim.Native.Nat.{ℕ, _+_, _-_, _*_, _≤_}
+use native.Mathlib.Omega.{arith}
+use lib.Ieee.{Float}
+use lib.ListN.{length, take, drop, length-take, length-map}
+use lib.Seq.{drop-drop}
+use Rattle.records.specs.Records.{records, table}
+use Rattle.records.proofs.RecordLaws.{length-records}
+use Rattle.records.proofs.TestLaws.{contradiction, both}
+use Rattle.gcra.specs.Packed.{unitNanos}
+use Rattle.gcra.specs.Questions.{Question, passes, firstNo}
+use Rattle.gcra.proofs.Answers.{answer-passed, answer-no, changed-passed, kept-no, not-passed}
+use Rattle.demand.specs.declared.hot_set.HotEntry.{HotEntry}
+use Rattle.demand.specs.declared.peer_demand.ChangeAnswer.the-variants.{No, Done}
+use Rattle.demand.specs.Allocation.{isClusterSize}
+use Rattle.demand.specs.HotSet as hot-set
+use Rattle.demand.specs.HotSet.{entries, isHot}
+use Rattle.demand.specs.PeerLists.{only}
+use Rattle.demand.proofs.HotSetMap.{table-same}
+use Rattle.demand.proofs.PeerOrderLaws.{length-only}
+use Rattle.demand.proofs.PeerRangeLaws.{map-only}
+use Rattle.demand.proofs.PeerStoreLaws.{map-map}
+use Rattle.demand.proofs.PeerWordLaws.{words-of-exact}
+use Rattle.limiter.specs.declared.LastTick.the-variants.{At}
+use Rattle.limiter.specs.declared.Limiter.{Limiter}
+use Rattle.limiter.specs.declared.pass_one.Passed.{Passed}
+use Rattle.limiter.specs.State.{KeyRecord, ShadowRecord, LimiterState, LimiterTables, tables, base, isF64, isTracked, keyWords, shadowWords}
+use Rattle.limiter.specs.State.{shadowOf, settingsOf, lengths, sizes, haveRoom, stateOf, isValid, valueOf}
+use Rattle.limiter.specs.Ticks.{Others, Settled, isElsewhere, passOne, passTwo, keysAfter, tickWith}
+use Rattle.limiter.specs.Calls.{Holds, Ticking}
+use Rattle.limiter.specs.Steps.TickSteps.{keyRecord, keyRecords, staysUnder, shadowKey}
+use Rattle.limiter.specs.Steps.PassOneSteps.{Holding}
+use Rattle.limiter.specs.Steps.PassTwoSteps.{termsOf, shareBy, totalAt, requoted, Finishing, keysLeft, shadowsLeft, Finished, Ticked}
+use Rattle.limiter.proofs.States.StateValidLaws.{sizes-say, ValidState, few-shadows}
+use Rattle.limiter.proofs.States.TypedTableLaws.{written-again, past-written, length-written}
+use Rattle.limiter.proofs.States.WrittenLaws.{key-long, shadow-long}
+use Rattle.limiter.proofs.Walking.CapLaws.{capped-is, only-exact}
+use Rattle.limiter.proofs.Checking.ReadyLaws.{few-keys, held-shadows}
+use Rattle.limiter.proofs.Checking.LiftLaws.{cap-forth, facts, keys-counted, shadows-counted, shadows-exact}
+use Rattle.limiter.proofs.PassTwo.QuotaLaws.{requoted-many}
+use Rattle.limiter.proofs.PassTwo.RateLaws.{requoted-is}
+
+-- past more words than those past which two lists agree, they agree
+drop-more : (a b : ℕ) (xs ys : List ℕ) → a ≤ b → drop a xs ≡ drop a ys → drop b xs ≡ drop b ys
+drop-more a b xs ys h e =
+    let z : b ≡ a + (b - a) = omega arith in
+    ap (λ (m : ℕ). drop m xs) z ∙ sym (drop-drop (b - a) a xs) ∙ ap (drop (b - a)) e ∙ drop-drop (b - a) a ys ∙ ap (λ (m : ℕ). drop m ys) (sym z)
+
+module _ (l : Limiter) (t : LimiterTables) (room : haveRoom (l .config) (lengths t) ≡ true) (ok : isValid unitNanos l t ≡ true) where
+  abbrev start : LimiterState
+  start = stateOf unitNanos l t
+
+  state-facts : ValidState unitNanos start
+  state-facts = facts l t room ok
+
+  -- ---- after pass one
+  module _ (o : Others) (now n : ℕ) (q : Passed) (keys₁ hot₁ : List ℕ) (flags : List Bool)
+      (h : Holding l (passOne base (settingsOf l) o now n (keyRecords (l .keys) (t .keys)) (entries (l .hot) (t .hot)))
+      (isElsewhere base (settingsOf l) o now n) (t .keys) (t .hot) q keys₁ hot₁ flags) where
+    abbrev p : Settled
+    p = passOne base (settingsOf l) o now n (keyRecords (l .keys) (t .keys)) (entries (l .hot) (t .hot))
+
+    -- there are few keys and hot entries
+    pub few : (q .keys ≤ 4096) × (q .hot ≤ 64)
+    unfolding stateOf
+    few =
+        let z = sizes-say (l .config) (state-facts .settings .config .sizes) in
+        (omega (arith, h .keys-few, few-keys l t room ok), omega (arith, h .hot-few, z .most-hot))
+
+    -- each key has its flag
+    flags-fit : q .keys ≤ length flags
+    flags-fit =
+        omega (arith, ap length (h .flags), length-take (q .keys) flags, length-map (p .keys) (isElsewhere base (settingsOf l) o now n), h .key-count)
+
+    pub finishing :
+        (totals : List Float) → 64 ≤ length totals → isClusterSize n ≡ true → Finishing l keys₁ (q .keys) hot₁ (q .hot) (t .shadows) flags totals n
+    unfolding stateOf
+    finishing totals g c =
+        record {
+          keys-held = h .keys-held;
+          keys-few = few .0;
+          hot-held = h .hot-held;
+          shadows-fit = held-shadows l t room ok;
+          shadows-few = few-keys l t room ok .1;
+          flags-fit = flags-fit;
+          totals-fit = omega (arith, few);
+          floor = both (isF64 (l .config .«floor_factor»)) _ (state-facts .settings .config .floor) .1;
+          nodes = c;
+        }
+
+    -- ---- after the tick
+    module _ (even : Bool) (ts : List Float)
+        (same : (k : KeyRecord) → isHot (k .key) (p .hot) ≡ true
+        → o .share k ≡ shareBy (termsOf l even n) (k .limit .rate) (k .demand .rate) (totalAt (k .key) (p .hot) ts))
+        (r : Limiter) (keys₃ shadows₃ : List ℕ)
+        (f : Finished l keys₁ (entries (q .hot) hot₁) (q .hot) (t .shadows)
+        (requoted (termsOf l even n) (entries (q .hot) hot₁) ts now flags (keyRecords (q .keys) keys₁)) now r keys₃ shadows₃) where
+      abbrev after : LimiterState
+      after = tickWith base o now n start
+
+      abbrev set : List KeyRecord
+      set = requoted (termsOf l even n) (entries (q .hot) hot₁) ts now flags (keyRecords (q .keys) keys₁)
+
+      abbrev left : List KeyRecord
+      left = keysLeft l (entries (q .hot) hot₁) set
+
+      set-is : set ≡ passTwo base (settingsOf l) o now n (p .hot) (p .keys)
+      set-is =
+          (λ i. requoted (termsOf l even n) (h .hot-are i) ts now flags (h .keys-are i))
+          ∙ requoted-is l even o now n (p .hot) ts same flags (p .keys) (ap (λ (m : ℕ). take m flags) (sym (h .key-count)) ∙ h .flags)
+
+      left-is : left ≡ keysAfter base (settingsOf l) o now n p
+      left-is =
+          (λ i. keysLeft l (h .hot-are i) (set-is i))
+          ∙ sym (capped-is base (settingsOf l) o now n (p .hot) (passTwo base (settingsOf l) o now n (p .hot) (p .keys)))
+
+      -- the shadows that are left
+      abbrev tracked : ShadowRecord → Bool
+      tracked x = isTracked left (x .key)
+
+      abbrev shadows : List ShadowRecord
+      shadows = map (shadowOf unitNanos) (records 4 (l .shadows) (t .shadows))
+
+      shadow-rows : shadowsLeft l left (t .shadows) ≡ map (shadowWords unitNanos) (only tracked shadows)
+      shadow-rows =
+          let rs : List (List ℕ) = records 4 (l .shadows) (t .shadows) in
+          let test : List ℕ → Bool = λ (x : List ℕ). isTracked left (shadowKey x) in
+          only-exact (λ (x : List ℕ). shadowWords unitNanos (shadowOf unitNanos x)) test rs
+          (sym (words-of-exact (shadowWords unitNanos) (shadowOf unitNanos) rs (shadows-exact l t room ok))
+          ∙ map-map (shadowWords unitNanos) (shadowOf unitNanos) rs)
+          ∙ sym (map-map (shadowWords unitNanos) (shadowOf unitNanos) (only test rs))
+          ∙ ap (map (shadowWords unitNanos)) (map-only (shadowOf unitNanos) tracked rs)
+
+      shadow-count : length (shadowsLeft l left (t .shadows)) ≡ length (only tracked shadows)
+      shadow-count = ap length shadow-rows ∙ length-map (only tracked shadows) (shadowWords unitNanos)
+
+      shadows-are : only tracked shadows ≡ after .shadows
+      unfolding tickWith stateOf
+      shadows-are = ap (λ (zs : List KeyRecord). only (λ (x : ShadowRecord). isTracked zs (x .key)) shadows) left-is
+
+      -- the value
+      ticked-value : r ≡ valueOf after
+      unfolding tickWith stateOf
+      ticked-value =
+          f .value
+          ∙ (λ i. record {
+            config = l .config;
+            cap = sym (cap-forth (l .cap)) i;
+            «last_tick» = At now;
+            keys = length (left-is i);
+            hot = h .hot-count i;
+            shadows = (shadow-count ∙ ap length shadows-are) i;
+          })
+
+      -- ---- the tables
+      few-left : (length set ≡ q .keys) × (length left ≤ q .keys)
+      few-left =
+          let m : length set ≡ q .keys =
+          requoted-many (termsOf l even n) (entries (q .hot) hot₁) ts now flags (keyRecords (q .keys) keys₁)
+          (omega (arith, flags-fit, length-map (records 22 (q .keys) keys₁) keyRecord, length-records 22 (q .keys) keys₁))
+          ∙ length-map (records 22 (q .keys) keys₁) keyRecord
+          ∙ length-records 22 (q .keys) keys₁ in (
+            m,
+            omega (
+              arith,
+              m,
+              length-only (staysUnder (l .config .«demand_time_constant») (l .config .«max_tracked_keys») (entries (q .hot) hot₁)
+                  set) set,
+            ),
+          )
+
+      abbrev keys₂ : List ℕ
+      keys₂ = table (map (keyWords unitNanos) set) keys₁
+
+      keys₂-long : length keys₂ ≡ length (t .keys)
+      keys₂-long = length-written (keyWords unitNanos) 22 (key-long unitNanos) set keys₁ (omega (arith, few-left, h .keys-held .fit)) ∙ h .keys-long
+
+      keys-long : length keys₃ ≡ length (t .keys)
+      keys-long =
+          ap length (f .keys-left)
+          ∙ length-written (keyWords unitNanos) 22 (key-long unitNanos) left keys₂
+          (omega (arith, few-left, h .keys-held .fit, h .keys-long, keys₂-long))
+          ∙ keys₂-long
+
+      -- to write them again changes nothing
+      keys-front : keys₃ ≡ table (map (keyWords unitNanos) (after .keys)) keys₃
+      unfolding tickWith stateOf
+      keys-front =
+          f .keys-left
+          ∙ written-again (keyWords unitNanos) 22 (key-long unitNanos) left keys₂
+          ∙ (λ i. table (map (keyWords unitNanos) (left-is i)) (sym (f .keys-left) i))
+
+      hot-front : hot₁ ≡ table (map hot-set.words (after .hot)) hot₁
+      unfolding tickWith stateOf
+      hot-front = sym (table-same (q .hot) hot₁ (h .hot-held)) ∙ ap (λ (es : List HotEntry). table (map hot-set.words es) hot₁) (h .hot-are)
+
+      shadow-words : shadows₃ ≡ table (map (shadowWords unitNanos) (only tracked shadows)) (t .shadows)
+      shadow-words = f .shadows-left ∙ ap (λ (rs : List (List ℕ)). table rs (t .shadows)) shadow-rows
+
+      shadows-front : shadows₃ ≡ table (map (shadowWords unitNanos) (after .shadows)) shadows₃
+      shadows-front =
+          shadow-words
+          ∙ written-again (shadowWords unitNanos) 4 (shadow-long unitNanos) (only tracked shadows) (t .shadows)
+          ∙ (λ i. table (map (shadowWords unitNanos) (shadows-are i)) (sym shadow-words i))
+
+      few-shadows-left : length (only tracked shadows) ≤ l .shadows
+      few-shadows-left =
+          omega (
+            arith,
+            length-only tracked shadows,
+            length-map (records 4 (l .shadows) (t .shadows)) (shadowOf unitNanos),
+            length-records 4
+                (l .shadows) (t .shadows),
+          )
+
+      ticked-tables : Holds after t (tables keys₃ hot₁ shadows₃)
+      unfolding tickWith stateOf
+      ticked-tables =
+          let v = state-facts in
+          let z = sizes-say (l .config) (v .settings .config .sizes) in
+          record {
+            front = (λ i. tables (keys-front i) (hot-front i) (shadows-front i));
+            long =
+                (λ i. record {
+                  keys = keys-long i;
+                  hot = h .hot-long i;
+                  shadows =
+                      (ap length shadow-words
+                      ∙ length-written (shadowWords unitNanos) 4 (shadow-long unitNanos) (only tracked shadows) (t .shadows)
+                      (omega (arith, few-shadows-left, held-shadows l t room ok))) i;
+                });
+            keys =
+                ap (drop (sizes (l .config) .keys)) (f .keys-left)
+                ∙ past-written (keyWords unitNanos) 22 (key-long unitNanos) left keys₂ (sizes (l .config) .keys)
+                (omega (arith, few-left, h .keys-few, v .few, keys-counted l t room ok, z))
+                ∙ past-written (keyWords unitNanos) 22 (key-long unitNanos) set keys₁ (sizes (l .config) .keys)
+                (omega (arith, few-left, h .keys-few, v .few, keys-counted l t room ok, z))
+                ∙ drop-more (l .keys * 22) (sizes (l .config) .keys) keys₁ (t .keys) (omega (arith, v .few, keys-counted l t room ok, z))
+                (h .keys-past);
+            hot = h .hot-past;
+            shadows =
+                ap (drop (sizes (l .config) .shadows)) shadow-words
+                ∙ past-written (shadowWords unitNanos) 4 (shadow-long unitNanos) (only tracked shadows) (t .shadows) (sizes (l .config) .shadows)
+                (omega (arith, few-shadows-left, few-shadows unitNanos start v, shadows-counted l t room ok, v .few, z));
+          }
+
+      pub ticked : Ticked after t r (tables keys₃ hot₁ shadows₃)
+      ticked = record { value = ticked-value; held = ticked-tables }
+
+-- ---- the promise
+
+-- every question is answered 'yes'
+pub ticking-done :
+    (qs : List Question) (after : LimiterState) (l : Limiter) (t : LimiterTables) (r : Limiter) (t′ : LimiterTables) → passes qs ≡ true
+    → Ticked after t r t′
+    → Ticking qs after l t (record { answer = Done; limiter = r }) t′
+ticking-done qs after l t r t′ e h =
+    record {
+      answered = answer-passed tt qs e;
+      limiter = h .value ∙ changed-passed (valueOf after) l qs e;
+      held = λ x. h .held;
+      unmoved = λ x. contradiction (sym e ∙ x);
+    }
+
+-- a 'no' changes nothing
+pub ticking-no :
+    (qs : List Question) (after : LimiterState) (l : Limiter) (t : LimiterTables) (m : ℕ) → m ≡ firstNo qs → (m ≡ 0 → ⊥)
+    → Ticking qs after l t (record { answer = No m; limiter = l }) t
+ticking-no qs after l t m e z =
+    record {
+      answered = answer-no tt qs m e z;
+      limiter = kept-no (valueOf after) l qs m e z;
+      held = λ x. contradiction (sym x ∙ not-passed qs m e z);
+      unmoved = λ x. refl;
+    }
