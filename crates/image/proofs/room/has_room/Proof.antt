@@ -1,0 +1,52 @@
+-- `has_room` meets its contract.
+use mathlib.Core.Path.{sym, ap, _∙_}
+use mathlib.Core.Bool.{Bool, true, false, cond, _&&_}
+use native.Mathlib.Omega.{arith}
+use borrow.Author.Needs.{needs}
+use Rattle.gcra.proofs.Cases.{told-no, told-yes}
+use Rattle.image.proofs.ReadLaws.{begins-room}
+use Rattle.image.proofs.RoomLaws.{room-unread, room-short, room-peers}
+use Rattle.image.proofs.room.has_room.Statement.{statement}
+use Rattle.image.proofs.room.has_room.Tie as tie
+
+returns : tie.Need-returns
+returns c = room-unread _ _ _ _ _ _ _ (told-no (c .before .begins .ensures) (c .if1 .taken))
+
+word-at-requires : tie.Need-word-at-requires
+word-at-requires c κs = omega (arith, begins-room 1 0 _ (told-yes (c .before .begins .ensures) (c .if1 .left)))
+
+word-at-requires-2 : tie.Need-word-at-requires-2
+word-at-requires-2 c κs = omega (arith, begins-room 1 0 _ (told-yes (c .before .before .begins .ensures) (c .before .if1 .left)))
+
+returns-2 : tie.Need-returns-2
+returns-2 c =
+    let h = c .before in
+    let o = h .before in
+    let t = o .before in
+    let e = t .before in
+    room-short _ _ _ _ _ _ _ (told-yes (e .before .begins .ensures) (e .if1 .left)) (t .word-at .ensures) (o .word-at2 .ensures)
+    (told-no (h .have-room .ensures) (c .if2 .taken))
+
+returns-3 : tie.Need-returns-3
+returns-3 c =
+    let y = c .before in
+    let h = y .before in
+    let o = h .before in
+    let t = o .before in
+    let e = t .before in
+    c .peers-fit .ensures
+    ∙ room-peers _ _ _ _ _ _ _ (told-yes (e .before .begins .ensures) (e .if1 .left)) (t .word-at .ensures) (o .word-at2 .ensures)
+    (told-yes (h .have-room .ensures) (y .if2 .left))
+
+pub has-room-spec : {M : Type 1} → statement M
+has-room-spec =
+    tie.close
+    (tie.spec
+    (λ c κs. search needs)
+    returns
+    word-at-requires
+    word-at-requires-2
+    (λ c κs. search needs)
+    returns-2
+    (λ c κs. search needs)
+    returns-3)

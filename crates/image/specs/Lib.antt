@@ -1,0 +1,5 @@
+pub mod Image
+pub mod Reader
+pub mod Calls
+pub mod Steps
+pub mod LoadSteps

@@ -1,0 +1,111 @@
+// The saved image of a limiter and its peers: `save` writes it, `load` takes nothing else.
+mod judge;
+mod room;
+mod rows;
+mod scan;
+mod store;
+mod words;
+mod writer;
+
+use demand::peer_demand::LenAnswer;
+use demand::peer_demand::PeerDemand;
+use limiter::Limiter;
+ghost use Rattle.demand.specs.PeerState as peer-state;
+ghost use Rattle.limiter.specs.State.{atEntry, atExit};
+ghost use Rattle.image.specs.Calls as Calls;
+
+// The most bytes that an image has: room for any save.
+pub const LARGEST_IMAGE: usize = 1_372_566;
+
+// What a load makes: the limiter, and the peers.
+pub struct Loaded {
+    pub limiter: Limiter,
+    pub peers: PeerDemand,
+}
+
+// The number of the question that was answered 'no', or what the image makes.
+pub enum LoadAnswer {
+    No(u8),
+    Is(Loaded),
+}
+
+// Writes the image of the lent state: how many bytes.
+pub fn save(
+    limiter: Limiter,
+    keys: &[u64],
+    hot: &[u64],
+    shadows: &[u64],
+    peers: PeerDemand,
+    peer_table: &[u64],
+    snapshot_keys: &[u64],
+    contested: &[u64],
+    out: &mut [u8],
+) -> LenAnswer
+    ensures { λ r. ⌜
+        Calls.Saves limiter (atEntry keys hot shadows) peers (peer-state.atEntry «peer_table» «snapshot_keys» contested)
+        (now (out .entry)) r (now (out .exit))
+        ⌝ }
+{
+    let here = limiter.ask(keys, hot, shadows);
+    let there = peers.ask(peer_table, snapshot_keys, contested);
+    let no = writer::first_of(here, there);
+    writer::save_asked(
+        no,
+        limiter,
+        keys,
+        hot,
+        shadows,
+        peers,
+        peer_table,
+        snapshot_keys,
+        contested,
+        out,
+    )
+}
+
+// Makes the limiter and the peers of an image, in tables that may hold anything. The image is judged
+// before the first word is stored.
+pub fn load(
+    image: &[u8],
+    keys: &mut [u64],
+    hot: &mut [u64],
+    shadows: &mut [u64],
+    peer_table: &mut [u64],
+    snapshot_keys: &mut [u64],
+    contested: &mut [u64],
+) -> LoadAnswer
+    ensures { λ r. ⌜
+        Calls.Loads (now (image .entry)) (atEntry keys hot shadows)
+        (peer-state.atEntry «peer_table» «snapshot_keys» contested) r (atExit keys hot shadows)
+        (peer-state.atExit «peer_table» «snapshot_keys» contested)
+        ⌝ }
+{
+    if !room::has_room(
+        image,
+        keys.len(),
+        hot.len(),
+        shadows.len(),
+        peer_table.len(),
+        snapshot_keys.len(),
+        contested.len(),
+    ) {
+        return LoadAnswer::No(1);
+    }
+    let found = scan::scan(image);
+    match judge::judge(image, found) {
+        LoadAnswer::No(no) => LoadAnswer::No(no),
+        LoadAnswer::Is(loaded) => {
+            store::store(
+                image,
+                found,
+                keys,
+                hot,
+                shadows,
+                peer_table,
+                snapshot_keys,
+                contested,
+            );
+            LoadAnswer::Is(loaded)
+        }
+    }
+}

@@ -1,0 +1,9 @@
+-- The count: what one call may do to a key, the bound that any list of such turns keeps, that every call is one, and a list of calls that reaches the
+-- bound.
+pub mod Slots
+pub mod Turns
+pub mod Law
+pub mod CallTurns
+pub mod Spared
+pub mod TraceTurns
+pub mod Tight

@@ -1,0 +1,211 @@
+-- What a call that changes the limiter or the peers leaves stands for the state changed; a refused one leaves what was there. One lemma for each
+-- shape of promise.
+use Prim.Native.Nat.{ℕ}
+use mathlib.Core.Path.{_≡_, refl, sym, ap, _∙_, subst}
+use mathlib.Core.Bool.{Bool, true, false, cond, _&&_}
+use mathlib.Core.List.{List, map}
+use lib.Dec.{leb}
+use lib.Ieee.{Float}
+use mathlib.Core.Option.{Option}
+use Rattle.records.specs.Records.{records}
+use Rattle.records.proofs.TestLaws.{split, both}
+use Rattle.gcra.specs.Packed.{unitNanos}
+use Rattle.gcra.specs.Questions.{Question, Answer, passes, changed}
+use Rattle.gcra.proofs.Encoding.{units-accepted}
+use Rattle.gcra.proofs.Answers.{changed-passed}
+use Rattle.demand.specs.declared.peer_demand.PeerDemand.{PeerDemand}
+use Rattle.demand.specs.HotSet as hot-set
+use Rattle.demand.specs.PeerState as peer-state
+use Rattle.demand.specs.PeerState.{PeersState, PeerTables, peersSize, snapshotKeysSize, contestedSize, exact, countsOf}
+use Rattle.limiter.specs.declared.Limiter.{Limiter}
+use Rattle.limiter.specs.declared.Changed.{Changed}
+use Rattle.limiter.specs.State as limiter-state
+use Rattle.limiter.specs.State.{Settings, LimiterState, LimiterTables, lengths, haveRoom, keyWords, keyOf, shadowWords, shadowOf, valueOf}
+use Rattle.limiter.specs.Calls.{Acts, Holds, Ticking}
+use Rattle.limiter.specs.Checks.{setCap}
+use Rattle.limiter.proofs.States.WrittenLaws.{cap-back, last-tick-back, read-back, written-valid, lengths-written}
+use Rattle.image.proofs.StoreLaws as stores
+use Rattle.run.proofs.Standing.Stands.{LimiterStands, PeersStand, putTables, putPeers, limiter-back, peers-back, keys-counted, hot-counted}
+use Rattle.run.proofs.Standing.Stands.{shadows-counted}
+use Rattle.run.proofs.Standing.Asked.{asking, Agrees, same-answer, same-passes, same-state, same-changed}
+
+-- ---- any change
+
+-- a value and tables that come back: they stand for y where every question is answered 'yes', and are as they were where one is not
+pub record Leaves {Value Tables S : Type 0} (Stand : Value → Tables → S → Type 0) (put : Tables → Tables) (qs : List Question) (y : S)
+    (v : Value) (t : Tables) (v′ : Value) (t′ : Tables) : Type 0 where
+  pub done : passes qs ≡ true → Stand v′ (put t′) y
+  pub kept : passes qs ≡ false → (v′ ≡ v) × (t′ ≡ t)
+
+module _ {Value Tables S : Type 0} {Stand : Value → Tables → S → Type 0} {put : Tables → Tables} {qs : List Question} {x y : S}
+    {v v′ : Value} {t t′ : Tables} where
+  -- so they stand for the state changed
+  pub left-stands : Leaves Stand put qs y v t v′ t′ → Stand v (put t) x → Stand v′ (put t′) (changed qs x y)
+  left-stands u s = split (passes qs)
+      (λ e. subst (Stand v′ (put t′)) (changed-passed y x qs e) (u .done e))
+      (λ e.
+      let k = u .kept e in
+      subst (Stand v′ (put t′)) (sym (ap (λ (b : Bool). cond b y x) e))
+      (subst (λ (a : Value). Stand a (put t′) x) (sym (k .0)) (subst (λ (b : Tables). Stand v (put b) x) (sym (k .1)) s)))
+
+-- ---- the limiter
+
+-- a state that can be written: it is valid and there is room for it
+pub record Lasting (y : LimiterState) (t : LimiterTables) : Type 0 where
+  pub valid : limiter-state.valid unitNanos y ≡ true
+  pub room : haveRoom (y .settings .config) (lengths t) ≡ true
+
+-- what is written stands for it
+pub written-stands : (y : LimiterState) (t : LimiterTables) → limiter-state.valid unitNanos y ≡ true
+    → LimiterStands (valueOf y) (limiter-state.written unitNanos y t) y
+unfolding limiter-state.isValid
+written-stands y t v =
+    record {
+      valid = v;
+      reads = read-back unitNanos units-accepted y t v;
+      exact =
+          both (limiter-state.areExact unitNanos (valueOf y) (limiter-state.written unitNanos y t)) _
+          (written-valid unitNanos units-accepted y t v) .0;
+    }
+
+module _ {A : Type 0} {said : Answer A} {qs : List Question} {value : A} {y : LimiterState} {l l′ : Limiter} {t t′ : LimiterTables} where
+  -- by `Acts`
+  pub acts-leave : (whole : LimiterTables) → Acts said qs value y l t l′ t′ → (passes qs ≡ true → Lasting y t)
+      → Leaves LimiterStands (putTables whole) qs y l t l′ t′
+  acts-leave whole c keeps =
+      record {
+        done = λ e.
+            let k = keeps e in
+            let w = limiter-state.written unitNanos y t in
+            subst (λ (a : Limiter). LimiterStands a (putTables whole t′) y) (changed-passed (valueOf y) l qs e ∙ sym (c .limiter))
+            (subst (λ (b : LimiterTables). LimiterStands (valueOf y) (putTables whole b) y) (changed-passed w t qs e ∙ sym (c .words))
+            (limiter-back whole (ap (haveRoom (y .settings .config)) (lengths-written unitNanos units-accepted y t (k .valid) (k .room)) ∙ k .room)
+            (written-stands y t (k .valid))));
+        kept = λ e.
+            (c .limiter ∙ ap (λ (b : Bool). cond b (valueOf y) l) e, c .words ∙ ap (λ (b : Bool). cond b (limiter-state.written unitNanos y t) t) e);
+      }
+
+module _ {qs : List Question} {y : LimiterState} {l : Limiter} {r : Changed} {t t′ : LimiterTables} where
+  -- by `Ticking`
+  pub ticking-leaves : (whole : LimiterTables) → Ticking qs y l t r t′ → (passes qs ≡ true → Lasting y t)
+      → Leaves LimiterStands (putTables whole) qs y l t (r .limiter) t′
+  ticking-leaves whole c keeps =
+      record {
+        done = λ e.
+            let k = keeps e in
+            let h = c .held e in
+            subst (λ (a : Limiter). LimiterStands a (putTables whole t′) y) (changed-passed (valueOf y) l qs e ∙ sym (c .limiter))
+            (limiter-back whole (ap (haveRoom (y .settings .config)) (h .long) ∙ k .room)
+            (subst (λ (b : LimiterTables). LimiterStands (valueOf y) b y) (sym (h .front)) (written-stands y t′ (k .valid))));
+        kept = λ e. (c .limiter ∙ ap (λ (b : Bool). cond b (valueOf y) l) e, c .unmoved e);
+      }
+
+-- other settings over the same tables
+abbrev withSettings : Settings → LimiterState → LimiterState
+withSettings z x = record { settings = z; keys = x .keys; hot = x .hot; shadows = x .shadows }
+
+-- stand for the state with those settings
+settings-stand :
+    {l : Limiter} {t : LimiterTables} {x : LimiterState} (z : Settings) → limiter-state.valid unitNanos (withSettings z x) ≡ true
+    → LimiterStands l t x
+    → LimiterStands (valueOf (withSettings z x)) t (withSettings z x)
+unfolding limiter-state.stateOf limiter-state.areExact hot-set.entries
+settings-stand {l} {t} {x} z v s =
+    record {
+      valid = v;
+      reads =
+          (λ i. record {
+            settings = record { config = z .config; cap = cap-back (z .cap) i; lastTick = last-tick-back (z .lastTick) i };
+            keys =
+                (ap (λ (m : ℕ). map (keyOf unitNanos) (records 22 m (t .keys))) (keys-counted s) ∙ ap (λ (y : LimiterState). y .keys) (s .reads)) i;
+            hot = (ap (λ (m : ℕ). map hot-set.entry (records 6 m (t .hot))) (hot-counted s) ∙ ap (λ (y : LimiterState). y .hot) (s .reads)) i;
+            shadows =
+                (ap (λ (m : ℕ). map (shadowOf unitNanos) (records 4 m (t .shadows))) (shadows-counted s)
+                ∙ ap (λ (y : LimiterState). y .shadows) (s .reads)) i;
+          });
+      exact =
+          (λ i. exact (keyWords unitNanos) (keyOf unitNanos) (records 22 (keys-counted s i) (t .keys))
+          && (exact hot-set.words hot-set.entry (records 6 (hot-counted s i) (t .hot))
+          && exact (shadowWords unitNanos) (shadowOf unitNanos) (records 4 (shadows-counted s i) (t .shadows))))
+          ∙ s .exact;
+    }
+
+-- by `SetsCap`, which leaves the tables
+pub cap-leaves :
+    {qs : List Question} {l l′ : Limiter} {t : LimiterTables} {y : LimiterState} (whole : LimiterTables) (x : Option Float)
+    → l′ ≡ changed qs l (valueOf (setCap x y)) → (passes qs ≡ true → (LimiterStands l t y) × Lasting (setCap x y) t)
+    → Leaves LimiterStands (putTables whole) qs (setCap x y) l t l′ t
+cap-leaves {qs} {l} {l′} {t} {y} whole x c keeps =
+    record {
+      done = λ e.
+          let k = keeps e in
+          subst (λ (a : Limiter). LimiterStands a (putTables whole t) (setCap x y)) (changed-passed (valueOf (setCap x y)) l qs e ∙ sym c)
+          (limiter-back whole (k .1 .room) (settings-stand (setCap x y .settings) (k .1 .valid) (k .0)));
+      kept = λ e. (c ∙ ap (λ (b : Bool). cond b (valueOf (setCap x y)) l) e, refl);
+    }
+
+-- ---- the peers
+
+module _ (y : PeersState) (t : PeerTables) (e : peer-state.valid y ≡ true) where
+  -- what is written stands for the state
+  pub peers-written-stand : PeersStand (countsOf y) (peer-state.written y t) y
+  unfolding peer-state.isValid
+  peers-written-stand =
+      record {
+        valid = e;
+        reads = stores.peers-back y e t;
+        exact = both (peer-state.areExact (countsOf y) (peer-state.written y t)) _ (stores.peers-back-valid y e t) .0;
+      }
+
+  -- the tables stay as long
+  peers-room-written : peer-state.haveRoom (peer-state.lengths t) ≡ true → peer-state.haveRoom (peer-state.lengths (peer-state.written y t)) ≡ true
+  unfolding peer-state.lengths peer-state.haveRoom
+  peers-room-written room =
+      let l = stores.peers-lengths y e t room in
+      (λ i. leb peersSize (l .peers i) && (leb snapshotKeysSize (l .snapshotKeys i) && leb contestedSize (l .contested i))) ∙ room
+
+-- a state that can be written
+pub record PeersLasting (y : PeersState) (t : PeerTables) : Type 0 where
+  pub valid : peer-state.valid y ≡ true
+  pub room : peer-state.haveRoom (peer-state.lengths t) ≡ true
+
+-- by `Changes`, whose value and words are of the state y
+pub changes-leave :
+    {qs : List Question} {y : PeersState} {p p′ : PeerDemand} {t t′ : PeerTables} (whole : PeerTables) → p′ ≡ changed qs p (countsOf y)
+    → t′ ≡ changed qs t (peer-state.written y t) → (passes qs ≡ true → PeersLasting y t) → Leaves PeersStand (putPeers whole) qs y p t p′ t′
+changes-leave {qs} {y} {p} {p′} {t} {t′} whole value words keeps =
+    record {
+      done = λ e.
+          let k = keeps e in
+          subst (λ (a : PeerDemand). PeersStand a (putPeers whole t′) y) (changed-passed (countsOf y) p qs e ∙ sym value)
+          (subst (λ (b : PeerTables). PeersStand (countsOf y) (putPeers whole b) y) (changed-passed (peer-state.written y t) t qs e ∙ sym words)
+          (peers-back whole (peers-room-written y t (k .valid) (k .room)) (peers-written-stand y t (k .valid))));
+      kept = λ e. (value ∙ ap (λ (b : Bool). cond b (countsOf y) p) e, words ∙ ap (λ (b : Bool). cond b (peer-state.written y t) t) e);
+    }
+
+-- ---- a promise on what is lent is one on the state that it stands for
+
+module _ {S : Type 0} {room v room′ v′ : Bool} {y y′ : S} (g : Agrees room v y room′ v′ y′) (front : List Question) (rest : S → List Question) where
+  -- `Acts`
+  pub acts-there :
+      {A : Type 0} {said : Answer A} {l l′ : Limiter} {t t′ : LimiterTables} (value : S → A) (after : S → LimiterState)
+      → Acts said (asking front rest room v y) (value y) (after y) l t l′ t′
+      → Acts said (asking front rest room′ v′ y′) (value y′) (after y′) l t l′ t′
+  acts-there {l = l} {t = t} value after c =
+      record {
+        answered = c .answered ∙ same-answer g front rest value;
+        limiter = c .limiter ∙ same-changed g front rest l (λ (x : S). valueOf (after x));
+        words = c .words ∙ same-changed g front rest t (λ (x : S). limiter-state.written unitNanos (after x) t);
+      }
+
+  -- `Ticking`
+  pub ticking-there :
+      {l : Limiter} {r : Changed} {t t′ : LimiterTables} (after : S → LimiterState)
+      → Ticking (asking front rest room v y) (after y) l t r t′ → Ticking (asking front rest room′ v′ y′) (after y′) l t r t′
+  ticking-there {l = l} {t = t} {t′ = t′} after c =
+      record {
+        answered = c .answered ∙ same-answer g front rest (λ (x : S). tt);
+        limiter = c .limiter ∙ same-changed g front rest l (λ (x : S). valueOf (after x));
+        held = λ e. subst (λ (x : S). Holds (after x) t t′) (same-state g front rest e) (c .held (same-passes g front rest ∙ e));
+        unmoved = λ e. c .unmoved (same-passes g front rest ∙ e);
+      }
