@@ -7,7 +7,8 @@ const ROOM: usize = 20480;
 // A value of an answer; `Refused` has a number of 01's questions, `Deny` the time to try again, and
 // `Unknown` answers what is no call. Words of a list follow some values: so many bits of floats or
 // flags, hot keys of three words, keys with their rates of four, checks of three; and behind the rate
-// of the settings the rest of them.
+// of the settings the rest of them. `Image` is the word before an image's length and its `Hash`;
+// where the answer is `Dump`, the image itself is still to be written.
 pub(crate) enum Value {
     Nothing,
     Unknown,
@@ -30,6 +31,9 @@ pub(crate) enum Value {
     Checks(u64),
     Settings(f64),
     Slash,
+    Image,
+    Hash(u64),
+    Dump,
 }
 
 // The values of an answer in their order. Where the first is nothing no line is written.
@@ -69,7 +73,7 @@ pub(crate) fn unknown() -> Answer {
     one(Value::Unknown)
 }
 
-fn is_there(value: Value) -> bool {
+pub(crate) fn is_there(value: Value) -> bool {
     if let Value::Nothing = value {
         false
     } else {
@@ -92,6 +96,8 @@ fn put_word(out: &mut [u8], at: usize, value: Value) -> usize {
         Value::Done => text::put(out, at, b"ok"),
         Value::NoState => text::put(out, at, b"nostate"),
         Value::Slash => text::put(out, at, b"/"),
+        Value::Image => text::put(out, at, b"image"),
+        Value::Hash(hash) => text::put_hex(out, at, hash, 16),
         _ => put_order(out, at, value),
     }
 }
@@ -125,7 +131,7 @@ fn put_head(out: &mut [u8], at: usize, value: Value) -> usize {
 }
 
 // A value is written where there is room, which a line's answer always has.
-fn put_value(out: &mut [u8], at: usize, value: Value) -> usize {
+pub(crate) fn put_value(out: &mut [u8], at: usize, value: Value) -> usize {
     match value {
         Value::Unknown => text::put(out, at, b"?"),
         Value::Allow => text::put(out, at, b"allow"),
@@ -243,15 +249,21 @@ fn put_checks(out: &mut [u8], from: usize, n: u64, list: &[u64]) -> usize {
     at
 }
 
-// Writes the line of an answer, and what is ready where little room is left then.
+// Writes an answer, but not the end of its line.
 pub(crate) fn put(out: &mut [u8], at: usize, answer: Answer, list: &[u64]) -> usize {
     let first = answer.first;
-    if !is_there(first) {
-        return at;
-    }
     let end = put_values(out, at, answer);
     let behind = put_list(out, end, first, list);
-    let all = put_checks(out, behind, checks_of(first), list);
-    let next = text::put(out, all, b"\n");
-    text::flush(out, next, ROOM)
+    put_checks(out, behind, checks_of(first), list)
+}
+
+// Ends the line of an answer, and writes what is ready where little room is left then.
+pub(crate) fn end_line(out: &mut [u8], at: usize) -> usize {
+    let next = text::put(out, at, b"\n");
+    spare(out, next)
+}
+
+// Writes what is ready where there might be too little room for an answer.
+pub(crate) fn spare(out: &[u8], at: usize) -> usize {
+    text::flush(out, at, ROOM)
 }

@@ -5,8 +5,9 @@ use text::lines::Kind;
 ghost use Prim.Native.Nat.{_≤_};
 ghost use lib.ListN.{length};
 
-// The places of the calls in the list: first those that change something, then those that read the
-// state, then those that stand alone. Calls of a layer stand together, so that a range tells it.
+// The places of the calls in the list: first those that change something, then those on the image,
+// those that read the state, and those that stand alone. Calls of a layer stand together, so that a
+// range tells it.
 pub(crate) const HNEW: usize = 0;
 
 pub(crate) const HUPD: usize = 1;
@@ -41,104 +42,114 @@ pub(crate) const TRACED: usize = 15;
 
 pub(crate) const CHECKS: usize = 16;
 
-pub(crate) const HGET: usize = 17;
+pub(crate) const SAVE: usize = 17;
 
-pub(crate) const GET: usize = 18;
+pub(crate) const LOAD: usize = 18;
 
-pub(crate) const TOTAL: usize = 19;
+pub(crate) const LOADHEX: usize = 19;
 
-pub(crate) const ELSEWHERE: usize = 20;
+pub(crate) const RELOAD: usize = 20;
 
-pub(crate) const PLEN: usize = 21;
+pub(crate) const DUMP: usize = 21;
 
-pub(crate) const PEMPTY: usize = 22;
+pub(crate) const HGET: usize = 22;
 
-pub(crate) const TOTALS: usize = 23;
+pub(crate) const GET: usize = 23;
 
-pub(crate) const ELSEWHERES: usize = 24;
+pub(crate) const TOTAL: usize = 24;
 
-pub(crate) const RATES: usize = 25;
+pub(crate) const ELSEWHERE: usize = 25;
 
-pub(crate) const QUOTA: usize = 26;
+pub(crate) const PLEN: usize = 26;
 
-pub(crate) const LIMIT: usize = 27;
+pub(crate) const PEMPTY: usize = 27;
 
-pub(crate) const HOTSINCE: usize = 28;
+pub(crate) const TOTALS: usize = 28;
 
-pub(crate) const ISHOT: usize = 29;
+pub(crate) const ELSEWHERES: usize = 29;
 
-pub(crate) const TRACKED: usize = 30;
+pub(crate) const RATES: usize = 30;
 
-pub(crate) const NEWQUOTA: usize = 31;
+pub(crate) const QUOTA: usize = 31;
 
-pub(crate) const NEWFACTOR: usize = 32;
+pub(crate) const LIMIT: usize = 32;
 
-pub(crate) const NTRACKED: usize = 33;
+pub(crate) const HOTSINCE: usize = 33;
 
-pub(crate) const NHOT: usize = 34;
+pub(crate) const ISHOT: usize = 34;
 
-pub(crate) const CONFIG: usize = 35;
+pub(crate) const TRACKED: usize = 35;
 
-pub(crate) const HOTDEMAND: usize = 36;
+pub(crate) const NEWQUOTA: usize = 36;
 
-pub(crate) const MOSTDENIED: usize = 37;
+pub(crate) const NEWFACTOR: usize = 37;
 
-pub(crate) const MOSTSHADOW: usize = 38;
+pub(crate) const NTRACKED: usize = 38;
 
-pub(crate) const U2F: usize = 39;
+pub(crate) const NHOT: usize = 39;
 
-pub(crate) const F2U: usize = 40;
+pub(crate) const CONFIG: usize = 40;
 
-pub(crate) const CEIL: usize = 41;
+pub(crate) const HOTDEMAND: usize = 41;
 
-pub(crate) const ROUND: usize = 42;
+pub(crate) const MOSTDENIED: usize = 42;
 
-pub(crate) const MIN: usize = 43;
+pub(crate) const MOSTSHADOW: usize = 43;
 
-pub(crate) const MAX: usize = 44;
+pub(crate) const U2F: usize = 44;
 
-pub(crate) const TOTCMP: usize = 45;
+pub(crate) const F2U: usize = 45;
 
-pub(crate) const QUOTANEW: usize = 46;
+pub(crate) const CEIL: usize = 46;
 
-pub(crate) const PERSEC: usize = 47;
+pub(crate) const ROUND: usize = 47;
 
-pub(crate) const UNPACK: usize = 48;
+pub(crate) const MIN: usize = 48;
 
-pub(crate) const RATEPERSEC: usize = 49;
+pub(crate) const MAX: usize = 49;
 
-pub(crate) const PACK: usize = 50;
+pub(crate) const TOTCMP: usize = 50;
 
-pub(crate) const CEILING: usize = 51;
+pub(crate) const QUOTANEW: usize = 51;
 
-pub(crate) const GCHECK: usize = 52;
+pub(crate) const PERSEC: usize = 52;
 
-pub(crate) const GSET: usize = 53;
+pub(crate) const UNPACK: usize = 53;
 
-pub(crate) const GDEBT: usize = 54;
+pub(crate) const RATEPERSEC: usize = 54;
 
-pub(crate) const GRETRY: usize = 55;
+pub(crate) const PACK: usize = 55;
 
-pub(crate) const STEP: usize = 56;
+pub(crate) const CEILING: usize = 56;
 
-pub(crate) const DTICK: usize = 57;
+pub(crate) const GCHECK: usize = 57;
 
-pub(crate) const DREC: usize = 58;
+pub(crate) const GSET: usize = 58;
 
-pub(crate) const DUNB: usize = 59;
+pub(crate) const GDEBT: usize = 59;
 
-pub(crate) const DECAY: usize = 60;
+pub(crate) const GRETRY: usize = 60;
 
-pub(crate) const SHARE: usize = 61;
+pub(crate) const STEP: usize = 61;
 
-pub(crate) const NEWER: usize = 62;
+pub(crate) const DTICK: usize = 62;
 
-pub(crate) const STALE: usize = 63;
+pub(crate) const DREC: usize = 63;
+
+pub(crate) const DUNB: usize = 64;
+
+pub(crate) const DECAY: usize = 65;
+
+pub(crate) const SHARE: usize = 66;
+
+pub(crate) const NEWER: usize = 67;
+
+pub(crate) const STALE: usize = 68;
 
 // What is no call, and what gets no answer.
-pub(crate) const NO_CALL: usize = 64;
+pub(crate) const NO_CALL: usize = 69;
 
-pub(crate) const SKIPPED: usize = 65;
+pub(crate) const SKIPPED: usize = 70;
 
 // Bytes in a row of the list: a name, a space and a letter for each field.
 const ROW: usize = 16;
@@ -206,9 +217,9 @@ fn row_of(name: &[u8], list: &[u8]) -> Row
     }
 }
 
-// Whether a list or a shadow limit follows the fields of a call.
+// Whether a list, a shadow limit or an image follows the fields of a call.
 fn goes_on(place: usize) -> bool {
-    if place == TRACED || place == CHECKS {
+    if place == TRACED || place == CHECKS || place == LOADHEX {
         return true;
     }
     place == REPORT || place == TOTALS || place == ELSEWHERES
@@ -261,6 +272,8 @@ pub(crate) fn call_of(kind: Kind, line: &[u8]) -> Call {
           lend uuuuuu     new didduuuuu   ticks uu        cap e           \
           check uuu       checkin udiuu   record uuuudiuu tick uu         \
           traced udi      checks uuc      \
+          save u          load            loadhex         reload          \
+          dump            \
           l.hget u        \
           get uu          total u         elsewhere u     plen            \
           pempty          totals uc       elsewheres uc   \

@@ -1,17 +1,20 @@
-// Reads a script of calls from standard input and answers each on a line of its own. A line that
-// does not fit the buffer of 65,536 bytes is no call: the longest call is far shorter.
+// Reads a script of calls from standard input and answers each on a line of its own. The input's
+// buffer holds a line of 3,145,728 bytes and its line feed; a longer one is no call.
 mod answers;
 mod calls;
+mod digits;
 mod estimator;
 mod fields;
 mod helpers;
 mod hot_set;
+mod images;
 mod lent;
 mod limiter_calls;
 mod limiter_readers;
 mod meter;
 mod peers;
 mod session;
+mod shown;
 
 use answers::Answer;
 use answers::Value;
@@ -119,7 +122,7 @@ fn respond_both(
 // Answers what came; a list that belongs to the answer is left in `list`.
 fn respond(
     kind: Kind,
-    line: &[u8],
+    line: &mut [u8],
     s: Session,
     hot: &mut [u64],
     keys: &mut [u64],
@@ -128,6 +131,7 @@ fn respond(
     peer_table: &mut [u64],
     snapshots: &mut [u64],
     contested: &mut [u64],
+    kept: &mut [u8],
     list: &mut [u64],
 ) -> Done {
     let call = calls::call_of(kind, line);
@@ -152,8 +156,23 @@ fn respond(
             contested,
         );
     }
-    if place < calls::HGET {
+    if place < calls::SAVE {
         return session::change_node(line, place, args, s, keys, hot_keys, shadows, list);
+    }
+    if place < calls::HGET {
+        return images::change(
+            line,
+            place,
+            args,
+            s,
+            keys,
+            hot_keys,
+            shadows,
+            peer_table,
+            snapshots,
+            contested,
+            kept,
+        );
     }
     Done {
         answer: answer_of(
@@ -176,7 +195,7 @@ fn respond(
 // The same, with as many words of the tables as the script lends.
 fn respond_lent(
     kind: Kind,
-    line: &[u8],
+    line: &mut [u8],
     s: Session,
     hot: &mut [u64],
     keys: &mut [u64],
@@ -185,6 +204,7 @@ fn respond_lent(
     peer_table: &mut [u64],
     snapshots: &mut [u64],
     contested: &mut [u64],
+    kept: &mut [u8],
     list: &mut [u64],
 ) -> Done {
     let lent = s.lent;
@@ -205,8 +225,131 @@ fn respond_lent(
         &mut peer_table[..d],
         &mut snapshots[..e],
         &mut contested[..f],
+        kept,
         list,
     )
+}
+
+// Shows the state's image behind what is written of an answer, with as many words of the tables as
+// the script lends.
+fn show_lent(
+    out: &mut [u8],
+    at: usize,
+    whole: bool,
+    s: Session,
+    keys: &[u64],
+    hot_keys: &[u64],
+    shadows: &[u64],
+    peer_table: &[u64],
+    snapshots: &[u64],
+    contested: &[u64],
+) -> usize {
+    let lent = s.lent;
+    let a = lent::at_most(lent.keys, keys.len());
+    let b = lent::at_most(lent.hot, hot_keys.len());
+    let c = lent::at_most(lent.shadows, shadows.len());
+    let d = lent::at_most(lent.peers, peer_table.len());
+    let e = lent::at_most(lent.snapshots, snapshots.len());
+    let f = lent::at_most(lent.contested, contested.len());
+    shown::put(
+        out,
+        at,
+        whole,
+        s,
+        &keys[..a],
+        &hot_keys[..b],
+        &shadows[..c],
+        &peer_table[..d],
+        &snapshots[..e],
+        &contested[..f],
+    )
+}
+
+// Whether the image is still to be written for an answer.
+fn is_dump(first: Value) -> bool {
+    if let Value::Dump = first { true } else { false }
+}
+
+// Where `wanted`, shows the state's image, whole or not.
+fn show_if(
+    wanted: bool,
+    out: &mut [u8],
+    at: usize,
+    whole: bool,
+    s: Session,
+    keys: &[u64],
+    hot_keys: &[u64],
+    shadows: &[u64],
+    peer_table: &[u64],
+    snapshots: &[u64],
+    contested: &[u64],
+) -> usize {
+    if !wanted {
+        return at;
+    }
+    show_lent(
+        out,
+        at,
+        whole,
+        s,
+        keys,
+        hot_keys,
+        shadows,
+        peer_table,
+        snapshots,
+        contested,
+    )
+}
+
+// Writes the line of an answer, the image's length and hash behind it where the script is to show
+// images and there is one.
+fn put_line(
+    show: bool,
+    out: &mut [u8],
+    at: usize,
+    done: Done,
+    keys: &[u64],
+    hot_keys: &[u64],
+    shadows: &[u64],
+    peer_table: &[u64],
+    snapshots: &[u64],
+    contested: &[u64],
+    list: &[u64],
+) -> usize {
+    let answer = done.answer;
+    let first = answer.first;
+    let s = done.session;
+    if !answers::is_there(first) {
+        return at;
+    }
+    let end = answers::put(out, at, answer, list);
+    let dumped = show_if(
+        is_dump(first),
+        out,
+        end,
+        true,
+        s,
+        keys,
+        hot_keys,
+        shadows,
+        peer_table,
+        snapshots,
+        contested,
+    );
+    let all = show_if(
+        show && session::has_both(s),
+        out,
+        dumped,
+        false,
+        s,
+        keys,
+        hot_keys,
+        shadows,
+        peer_table,
+        snapshots,
+        contested,
+    );
+    answers::end_line(out, all)
 }
 
 fn is_end(kind: Kind) -> bool {
@@ -215,6 +358,61 @@ fn is_end(kind: Kind) -> bool {
         Kind::TooLong => false,
         Kind::End => true,
     }
+}
+
+// After an answer: where the answers end, and the session.
+struct Answered {
+    at: usize,
+    session: Session,
+}
+
+// Answers what came.
+fn answer_line(
+    show: bool,
+    kind: Kind,
+    line: &mut [u8],
+    out: &mut [u8],
+    at: usize,
+    s: Session,
+    hot: &mut [u64],
+    keys: &mut [u64],
+    hot_keys: &mut [u64],
+    shadows: &mut [u64],
+    peer_table: &mut [u64],
+    snapshots: &mut [u64],
+    contested: &mut [u64],
+    kept: &mut [u8],
+    list: &mut [u64],
+) -> Answered {
+    let done = respond_lent(
+        kind,
+        line,
+        s,
+        hot,
+        keys,
+        hot_keys,
+        shadows,
+        peer_table,
+        snapshots,
+        contested,
+        kept,
+        list,
+    );
+    let end = put_line(
+        show,
+        out,
+        at,
+        done,
+        keys,
+        hot_keys,
+        shadows,
+        peer_table,
+        snapshots,
+        contested,
+        list,
+    );
+    let session = done.session;
+    Answered { at: end, session }
 }
 
 // After a line: whether the input ended, the bytes in hand, where the answers end, and the session.
@@ -228,6 +426,7 @@ struct Turn {
 
 // Reads a line and answers it.
 fn turn_of(
+    show: bool,
     input: &mut [u8],
     out: &mut [u8],
     t: Turn,
@@ -238,6 +437,7 @@ fn turn_of(
     peer_table: &mut [u64],
     snapshots: &mut [u64],
     contested: &mut [u64],
+    kept: &mut [u8],
     list: &mut [u64],
 ) -> Turn {
     let rest = Lines {
@@ -250,9 +450,12 @@ fn turn_of(
     let start = came.start;
     let end = came.end;
     let left = came.rest;
-    let done = respond_lent(
+    let answered = answer_line(
+        show,
         kind,
-        &input[start..end],
+        &mut input[start..end],
+        out,
+        t.at,
         s,
         hot,
         keys,
@@ -261,21 +464,22 @@ fn turn_of(
         peer_table,
         snapshots,
         contested,
+        kept,
         list,
     );
-    let answer = done.answer;
-    let after = done.session;
+    let session = answered.session;
     Turn {
         ended: is_end(kind),
         from: left.from,
         to: left.to,
-        at: answers::put(out, t.at, answer, list),
-        session: after,
+        at: answered.at,
+        session,
     }
 }
 
 // Answers line after line. The loop counts its turns down from a number that no run uses up.
 fn run(
+    show: bool,
     input: &mut [u8],
     out: &mut [u8],
     hot: &mut [u64],
@@ -285,6 +489,7 @@ fn run(
     peer_table: &mut [u64],
     snapshots: &mut [u64],
     contested: &mut [u64],
+    kept: &mut [u8],
     list: &mut [u64],
 ) {
     let session = session::nothing();
@@ -298,6 +503,7 @@ fn run(
     let mut turns = u64::MAX;
     while 0 < turns && !t.ended {
         t = turn_of(
+            show,
             input,
             out,
             t,
@@ -308,6 +514,7 @@ fn run(
             peer_table,
             snapshots,
             contested,
+            kept,
             list,
         );
         turns -= 1;
@@ -315,8 +522,15 @@ fn run(
     text::flush(out, t.at, out.len());
 }
 
-fn main() {
-    let mut input = io::large_buffer();
+// Whether the program is to show images.
+fn shows_images() -> bool {
+    let mut word = io::buffer();
+    let n = os::arg(1, &mut word);
+    fields::same(&word[..n], b"--images")
+}
+
+// Makes the tables, and answers the script.
+fn start(input: &mut [u8], kept: &mut [u8]) {
     let mut out = io::large_buffer();
     let mut hot = [0u64; 384];
     let mut keys = [0u64; 90112];
@@ -327,7 +541,8 @@ fn main() {
     let mut contested = [0u64; 49152];
     let mut list = [0u64; 1024];
     run(
-        &mut input,
+        shows_images(),
+        input,
         &mut out,
         &mut hot,
         &mut keys,
@@ -336,6 +551,13 @@ fn main() {
         &mut peer_table,
         &mut snapshots,
         &mut contested,
+        kept,
         &mut list,
     );
+}
+
+fn main() {
+    let mut input = [0u8; 3_145_729];
+    let mut kept = [0u8; 1_372_566];
+    start(&mut input, &mut kept);
 }

@@ -18,11 +18,13 @@ use demand::peer_demand::PeersAnswer;
 use limiter::Limiter;
 use limiter::LimiterAnswer;
 
+// `kept` is how many bytes the image has that is kept for a load.
 pub(crate) struct Session {
     pub(crate) hot: Hot,
     pub(crate) node: Node,
     pub(crate) peers: Peers,
     pub(crate) lent: Lent,
+    pub(crate) kept: usize,
 }
 
 // An answer, and what there is after the call.
@@ -38,6 +40,7 @@ pub(crate) fn nothing() -> Session {
         node: limiter_calls::nothing(),
         peers: peers::nothing(),
         lent: lent::whole(),
+        kept: 0,
     }
 }
 
@@ -57,6 +60,7 @@ pub(crate) fn change_hot(place: usize, args: Args, s: Session, table: &mut [u64]
             node,
             peers,
             lent,
+            kept: s.kept,
         },
     }
 }
@@ -97,6 +101,7 @@ pub(crate) fn change_peers(
             node: node_after(place, value, node),
             peers,
             lent,
+            kept: s.kept,
         },
     }
 }
@@ -126,6 +131,7 @@ pub(crate) fn change_node(
             node,
             peers,
             lent,
+            kept: s.kept,
         },
     }
 }
@@ -142,39 +148,69 @@ pub(crate) fn lend(args: Args, s: Session) -> Done {
             node,
             peers,
             lent: lent::lent_of(args),
+            kept: s.kept,
         },
     }
 }
 
-fn refused(n: u8, s: Session) -> Done {
+// The same with so many bytes of an image kept.
+pub(crate) fn keeping(s: Session, kept: usize) -> Session {
+    let hot = s.hot;
+    let node = s.node;
+    let peers = s.peers;
+    let lent = s.lent;
+    Session {
+        hot,
+        node,
+        peers,
+        lent,
+        kept,
+    }
+}
+
+// Whether there are limiter and peers.
+pub(crate) fn has_both(s: Session) -> bool {
+    s.node.made && s.peers.made
+}
+
+pub(crate) fn refused(n: u8, s: Session) -> Done {
     Done {
         answer: answers::refused(n),
         session: s,
     }
 }
 
-// Limiter and peers, where both are made.
-fn of_new(limiter: LimiterAnswer, peers: PeersAnswer, s: Session) -> Done {
+// These two in the place of what was there.
+pub(crate) fn made(limiter: Limiter, peers: PeerDemand, s: Session) -> Done {
     let hot = s.hot;
     let lent = s.lent;
-    let LimiterAnswer::Is(node) = limiter else {
-        return refused(limiter_no(limiter), s);
-    };
-    let PeersAnswer::Is(value) = peers else {
-        return refused(peers_no(peers), s);
-    };
     Done {
         answer: answers::one(Value::Done),
         session: Session {
             hot,
             node: Node {
                 made: true,
-                value: node,
+                value: limiter,
             },
-            peers: Peers { made: true, value },
+            peers: Peers {
+                made: true,
+                value: peers,
+            },
             lent,
+            kept: s.kept,
         },
     }
+}
+
+// Limiter and peers, where both are made.
+fn of_new(limiter: LimiterAnswer, peers: PeersAnswer, s: Session) -> Done {
+    let LimiterAnswer::Is(node) = limiter else {
+        return refused(limiter_no(limiter), s);
+    };
+    let PeersAnswer::Is(value) = peers else {
+        return refused(peers_no(peers), s);
+    };
+    made(node, value, s)
 }
 
 fn limiter_no(answer: LimiterAnswer) -> u8 {
@@ -243,6 +279,7 @@ pub(crate) fn tick_with_shares(
             node,
             peers,
             lent,
+            kept: s.kept,
         },
     }
 }

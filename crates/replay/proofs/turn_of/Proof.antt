@@ -5,9 +5,11 @@ use Rattle.replay.proofs.turn_of.Tie as tie
 
 same-length : tie.Need-same-length
 same-length c =
-    let after-respond = c .before .before .before .before .before .before .before .before .before .before .before .before .before in
-    let at-respond = after-respond .before .before .before .before .before .before .before .before .before .before .before .before .before in
-    let n = at-respond .before .before .before .before .before .before .before .before .before .before .before .before .next-line in
+    let after = c .before .before .before .before .before .before .before .before .before .before .before .before
+    .before .before .before .before .before .before .before .before .before .before in
+    let answered = after .before .before in
+    let n = answered .before .before .before .before .before .before .before .before .before .before .before .before
+    .before .before .before .next-line in
     search (needs, n)
 
 pub turn-of-spec : {M : Type 1} → statement M
@@ -20,8 +22,8 @@ turn-of-spec =
     (λ c. search needs)
     (λ c κs. search needs)
     (λ c κs. search needs)
-    (λ c κs. search needs)
     same-length
+    (λ c. search needs)
     (λ c. search needs)
     (λ c. search needs)
     (λ c. search needs)

@@ -34,7 +34,7 @@ fn compared(layer: &str, script: &str, port: &str, rust: &str) -> io::Result<boo
             if differing <= SHOWN {
                 show(layer, call, got, want);
             }
-        } else if want == Some(b"?\n") {
+        } else if want.is_some_and(|want| want.starts_with(b"?")) {
             others += 1;
         } else {
             agreeing += 1;

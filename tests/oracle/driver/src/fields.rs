@@ -74,6 +74,13 @@ impl<'a> Fields<'a> {
     pub fn f32(&mut self) -> Option<f32> {
         hexadecimal(self.word()?, 8).map(|bits| f32::from_bits(bits as u32))
     }
+
+    /// Two hexadecimal digits for each byte, possibly for none.
+    pub fn bytes(&mut self) -> Option<Vec<u8>> {
+        let (pairs, odd) = self.word()?.as_chunks::<2>();
+        let bytes = pairs.iter().map(|pair| hexadecimal(pair, 2).map(|byte| byte as u8));
+        odd.is_empty().then(|| bytes.collect())?
+    }
 }
 
 /// 1 to 20 decimal digits whose value is below 2^64.

@@ -108,7 +108,7 @@ pub fn limit(fields: &mut Fields) -> Option<Limit> {
 }
 
 /// 6: each size is within the next.
-fn sizes_fit(config: &Config, table_size: u64) -> bool {
+pub fn sizes_fit(config: &Config, table_size: u64) -> bool {
     let (hot, keys) = (config.hot_set_size as u64, config.max_tracked_keys as u64);
     (1..=MOST_HOT).contains(&hot) && hot <= keys && keys <= table_size && table_size <= MOST_KEYS
 }

@@ -1,6 +1,6 @@
 //! The Rust oracle: answers scripts with rateguard's own functions, makes scripts, and compares two lists of answers.
 //!
-//! - `oracle answer` reads a script and writes a line for each call
+//! - `oracle answer [--images]` reads a script and writes a line for each call, with the image after it where wanted
 //! - `oracle gen LAYER SEED COUNT` writes a script of COUNT calls
 //! - `oracle diff LAYER SCRIPT PORT RUST` compares the answers in two files
 
@@ -10,6 +10,8 @@ mod fields;
 mod generator;
 mod helpers;
 mod hot_set;
+mod image;
+mod images;
 mod lent;
 mod limiter;
 mod limiter_readers;
@@ -26,10 +28,13 @@ fn main() -> ExitCode {
     let arguments: Vec<String> = std::env::args().skip(1).collect();
     let words: Vec<&str> = arguments.iter().map(String::as_str).collect();
     let done = match words[..] {
-        ["answer"] => answer(),
+        ["answer"] => answer(false),
+        ["answer", "--images"] => answer(true),
         ["gen", layer, seed, count] => generate(layer, seed, count),
         ["diff", layer, script, port, rust] => return diff::run(layer, script, port, rust),
-        _ => Err(io::Error::other("usage: oracle answer | gen LAYER SEED COUNT | diff LAYER SCRIPT PORT RUST")),
+        _ => Err(io::Error::other(
+            "usage: oracle answer [--images] | gen LAYER SEED COUNT | diff LAYER SCRIPT PORT RUST",
+        )),
     };
     match done {
         Ok(()) => ExitCode::SUCCESS,
@@ -40,10 +45,10 @@ fn main() -> ExitCode {
     }
 }
 
-fn answer() -> io::Result<()> {
+fn answer(with_images: bool) -> io::Result<()> {
     let mut script = BufReader::with_capacity(1 << 20, io::stdin().lock());
     let mut out = BufWriter::with_capacity(1 << 20, io::stdout().lock());
-    script::answer_all(&mut script, &mut out)?;
+    script::answer_all(&mut script, &mut out, with_images)?;
     out.flush()
 }
 

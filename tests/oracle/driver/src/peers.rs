@@ -26,8 +26,10 @@ pub const CALLS: &[(&str, Call)] = &[
 
 /// The most keys that a line may list; a report may hold fewer.
 const MOST_LISTED: u64 = 256;
-/// The most peers that may be known.
-const MOST_PEERS: usize = 32;
+/// The most peers that may be known, and keys of each: in its snapshot, and contested.
+pub const MOST_PEERS: usize = 32;
+pub const MOST_SNAPSHOT_KEYS: usize = MAX_DEMAND_KEYS;
+pub const MOST_CONTESTED: usize = 4 * MAX_DEMAND_KEYS;
 
 /// Makes the peers alone: a limiter that stood beside the old ones is gone.
 fn new(state: &mut State, fields: &mut Fields) -> Option<String> {

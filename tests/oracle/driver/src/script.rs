@@ -9,10 +9,10 @@ use rateguard_core::peer_demand::PeerDemand;
 use crate::fields::Fields;
 use crate::lent::Lent;
 use crate::limiter::Held;
-use crate::{demand, helpers, hot_set, lent, limiter, limiter_readers, meter, peers};
+use crate::{demand, helpers, hot_set, images, lent, limiter, limiter_readers, meter, peers};
 
 /// The longest line that can be a call.
-const LONGEST_LINE: usize = 3 << 20;
+pub const LONGEST_LINE: usize = 3 << 20;
 
 /// What calls leave for later ones; `None` before the call that makes it. A limiter never stands without its peers.
 #[derive(Default)]
@@ -21,6 +21,8 @@ pub struct State {
     pub limiter: Option<Held>,
     pub peers: Option<PeerDemand>,
     pub lent: Lent,
+    /// The image that the last save wrote.
+    pub kept: Vec<u8>,
 }
 
 /// A call reads its fields and answers; `None` says that the line is no call, and then nothing has changed.
@@ -36,6 +38,7 @@ const LAYERS: &[&[(&str, Call)]] = &[
     lent::CALLS,
     limiter::CALLS,
     limiter_readers::CALLS,
+    images::CALLS,
 ];
 
 /// What a call answers on a state that nothing has made yet.
@@ -43,9 +46,9 @@ pub fn no_state() -> Option<String> {
     Some("nostate".into())
 }
 
-/// Whether a line of a script gets an answer.
+/// Whether a line of a script gets an answer. One that is too long does, whatever it begins with.
 fn is_call(line: &[u8]) -> bool {
-    !line.is_empty() && line[0] != b'#'
+    !line.is_empty() && (line[0] != b'#' || line.len() > LONGEST_LINE)
 }
 
 /// The lines of a script that get an answer.
@@ -53,8 +56,8 @@ pub fn calls(script: &[u8]) -> impl Iterator<Item = &[u8]> {
     script.split(|&byte| byte == b'\n').filter(|line| is_call(line))
 }
 
-/// Answers a script line by line as it is read.
-pub fn answer_all(script: &mut impl BufRead, out: &mut impl Write) -> io::Result<()> {
+/// Answers a script line by line as it is read, and shows the image after each answer where that is wanted.
+pub fn answer_all(script: &mut impl BufRead, out: &mut impl Write, with_images: bool) -> io::Result<()> {
     let mut session = Session::default();
     let mut line = Vec::new();
     while script.read_until(b'\n', &mut line)? > 0 {
@@ -62,6 +65,9 @@ pub fn answer_all(script: &mut impl BufRead, out: &mut impl Write) -> io::Result
         if is_call(call) {
             let answer = session.answer(call);
             out.write_all(answer.as_deref().unwrap_or("?").as_bytes())?;
+            if with_images {
+                out.write_all(images::shown(&session.state).as_bytes())?;
+            }
             out.write_all(b"\n")?;
         }
         line.clear();

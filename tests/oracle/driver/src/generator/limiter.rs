@@ -6,7 +6,7 @@ use std::collections::VecDeque;
 use super::Source;
 use super::limiter_calls::{Scene, Size};
 use super::rng::Rng;
-use crate::script::Session;
+use crate::script::{Session, State};
 
 /// How many pairs a line may list.
 const LISTED: u64 = 256;
@@ -34,6 +34,15 @@ impl Source for Limiters {
 }
 
 impl Limiters {
+    /// A call that comes from elsewhere changes the state too.
+    pub fn hear(&mut self, call: &str) {
+        self.session.answer(call.as_bytes());
+    }
+
+    pub fn state(&self) -> &State {
+        &self.session.state
+    }
+
     fn plan(&mut self, rng: &mut Rng) {
         match &mut self.scene {
             Some(scene) if self.ticked && scene.is_small() && rng.chance(30) => {

@@ -363,7 +363,7 @@ fn earliest(gcra: &Gcra, tat: u64) -> u64 {
 }
 
 /// The bits of a rate that passes 3.
-fn rate(rng: &mut Rng) -> u64 {
+pub fn rate(rng: &mut Rng) -> u64 {
     match rng.below(12) {
         0 => rng.pick(&[1, 0x000f_ffff_ffff_ffff, INFINITE - 1, 1e300f64.to_bits()]),
         1 => rng.between(1, INFINITE - 1),
@@ -373,7 +373,7 @@ fn rate(rng: &mut Rng) -> u64 {
     }
 }
 
-fn burst(rng: &mut Rng) -> u32 {
+pub fn burst(rng: &mut Rng) -> u32 {
     match rng.below(10) {
         0 => MAX_BURST - rng.below(2) as u32,
         1 => rng.between(1, MAX_BURST as u64) as u32,
@@ -382,7 +382,7 @@ fn burst(rng: &mut Rng) -> u32 {
 }
 
 /// The bits of a float in [0, 1].
-fn part(rng: &mut Rng) -> u64 {
+pub fn part(rng: &mut Rng) -> u64 {
     match rng.below(8) {
         0 => rng.pick(&[1, 0x0010_0000_0000_0000, 0x3fef_ffff_ffff_ffff]),
         1 => rng.below(0x3ff0_0000_0000_0001),
@@ -398,14 +398,17 @@ fn no_part(rng: &mut Rng) -> u64 {
 
 /// A cap of any kind, or none.
 fn cap(rng: &mut Rng) -> String {
-    let bits = match rng.below(8) {
-        0 | 1 => return "none".into(),
+    cap_bits(rng).map_or_else(|| "none".into(), |bits| format!("{bits:016x}"))
+}
+
+pub fn cap_bits(rng: &mut Rng) -> Option<u64> {
+    Some(match rng.below(8) {
+        0 | 1 => return None,
         2 => float(rng),
         3 => rng.pick(&[0, 1 << 63, 1, INFINITE, INFINITE | 1 << 63, INFINITE | 1, 0x7ff8_0000_0000_0000]),
         4 => (-1.0 / rng.between(1, 9) as f64).to_bits(),
         _ => (1.0 / rng.between(1, 200) as f64).to_bits(),
-    };
-    format!("{bits:016x}")
+    })
 }
 
 /// A number of entries about the one given.
