@@ -101,7 +101,7 @@ last-tick-again last-tick.Unset = refl
 last-tick-again (last-tick.At t) = refl
 
 -- a burst that a limit may have is of 32 bits
-small-burst : (n : ℕ) → validBurst n ≡ true → ltb n (2 ^ 32) ≡ true
+pub small-burst : (n : ℕ) → validBurst n ≡ true → ltb n (2 ^ 32) ≡ true
 small-burst n v = lt-ltb n (2 ^ 32) (omega (arith, leb-true n 4194303 (both (leb 1 n) _ v .1)))
 
 -- the bytes of a slice are bytes

@@ -66,7 +66,7 @@ fn burst_of(word: u64) -> u32
 }
 
 // The cap of its flag and its value.
-fn cap_of(flag: u64, word: u64) -> Cap
+pub fn cap_of(flag: u64, word: u64) -> Cap
     ensures { λ r. ⌜ capOf r ≡ capFrom flag word ⌝ }
 {
     if flag == 0 {
@@ -76,7 +76,7 @@ fn cap_of(flag: u64, word: u64) -> Cap
 }
 
 // The last tick of its flag and its time.
-fn last_tick_of(flag: u64, time: u64) -> LastTick
+pub fn last_tick_of(flag: u64, time: u64) -> LastTick
     ensures { λ r. ⌜ lastTickOf r ≡ timeOf flag time ⌝ }
 {
     if flag == 0 {
@@ -86,7 +86,7 @@ fn last_tick_of(flag: u64, time: u64) -> LastTick
 }
 
 // The configuration in the words of kind 1.
-fn config_of(w: [u64; 13]) -> Config
+pub fn config_of(w: [u64; 13]) -> Config
     ensures { λ r. ⌜ r ≡ configFrom w ⌝ }
 {
     let limit = Limit {

@@ -1,11 +1,11 @@
 // The saved image of a limiter and its peers: `save` writes it, `load` takes nothing else.
-mod judge;
+pub mod judge;
 mod room;
 mod rows;
 mod scan;
 mod store;
-mod words;
-mod writer;
+pub mod words;
+pub mod writer;
 
 use demand::peer_demand::LenAnswer;
 use demand::peer_demand::PeerDemand;

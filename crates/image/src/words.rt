@@ -68,7 +68,7 @@ pub(crate) fn read_words(from: &[u8], at: usize, ws: &mut [u64])
 }
 
 // Whether two slices hold the same words.
-pub(crate) fn are_same(a: &[u64], b: &[u64]) -> bool
+pub fn are_same(a: &[u64], b: &[u64]) -> bool
     ensures { λ r. ⌜ r ≡ same (now (a .entry)) (now (b .entry)) ⌝ }
 {
     if a.len() != b.len() {

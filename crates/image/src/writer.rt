@@ -41,7 +41,7 @@ fn last_tick_words(last_tick: LastTick) -> [u64; 2]
 }
 
 // The words of kind 1.
-pub(crate) fn settings_words(limiter: Limiter) -> [u64; 13]
+pub fn settings_words(limiter: Limiter) -> [u64; 13]
     ensures { λ r. ⌜ r ≡ settingsWords (settingsOf limiter) ⌝ }
 {
     let config = limiter.config;

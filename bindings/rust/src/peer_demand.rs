@@ -1,0 +1,278 @@
+//! What the peers told of their demand.
+
+use crate::boundary::PeerId;
+use crate::gcra::Nanos;
+use crate::proto::DemandReport;
+use crate::refused::{answered, or_panic, Refused};
+use crate::sizes::{CONTESTED_SIZE, MAX_DEMAND_KEYS, PEERS_WORDS, PEER_TABLE_SIZE, SNAPSHOT_KEYS_SIZE};
+use crate::words;
+
+/// What a peer said about one key: the most of what still counts.
+#[derive(Debug, Clone, Copy, PartialEq)]
+pub struct Heard {
+    /// Attempts a second at the peer.
+    pub demand: f32,
+    /// Whether the key is hot at the peer by its own demand.
+    pub primary: bool,
+    /// The peer's round of the report that the demand comes from.
+    pub round: u16,
+    /// When that report came in.
+    pub heard_at: Nanos,
+}
+
+/// The words that the peers lend to each call.
+#[derive(Debug, Clone, Default)]
+pub struct Tables {
+    /// The records of peers.
+    pub peers: Vec<u64>,
+    /// Those of the keys of their latest reports.
+    pub snapshot_keys: Vec<u64>,
+    /// Those of keys of reports that were not taken.
+    pub contested: Vec<u64>,
+}
+
+impl Tables {
+    /// Tables as long as the peers need them.
+    pub fn whole() -> Self {
+        Self {
+            peers: vec![0; PEER_TABLE_SIZE],
+            snapshot_keys: vec![0; SNAPSHOT_KEYS_SIZE],
+            contested: vec![0; CONTESTED_SIZE],
+        }
+    }
+}
+
+/// The latest report of each peer, and of those not taken what still counts; it owns its tables.
+#[derive(Debug, Clone)]
+pub struct PeerDemand {
+    pub(crate) words: [u64; PEERS_WORDS],
+    pub(crate) tables: Tables,
+}
+
+impl Default for PeerDemand {
+    fn default() -> Self {
+        Self::new()
+    }
+}
+
+/// A call that tells something in the answer's words.
+type Reader = fn(&[u64], &[u64], &[u64], &[u64], u64, &mut [u64]) -> u8;
+
+impl PeerDemand {
+    /// No peer heard from yet.
+    pub fn try_new() -> Result<Self, Refused> {
+        Self::try_with_tables(Tables::whole())
+    }
+
+    /// The same, or a panic where it is refused.
+    #[track_caller]
+    pub fn new() -> Self {
+        or_panic(Self::try_new())
+    }
+
+    /// The same in tables of the caller's, which may hold anything.
+    pub fn try_with_tables(tables: Tables) -> Result<Self, Refused> {
+        let mut words = [0; PEERS_WORDS];
+        answered(words::peers_new(&mut words, &tables.peers, &tables.snapshot_keys, &tables.contested))?;
+        Ok(Self { words, tables })
+    }
+
+    /// Its words: how many records of each table are in use.
+    pub fn words(&self) -> &[u64; PEERS_WORDS] {
+        &self.words
+    }
+
+    /// The words that it lends.
+    pub fn tables(&self) -> &Tables {
+        &self.tables
+    }
+
+    /// The same, to change: calls on tables that are too short or hold no valid state are refused, by 1 and 2.
+    pub fn tables_mut(&mut self) -> &mut Tables {
+        &mut self.tables
+    }
+
+    /// Whether its tables are long enough and hold a valid state.
+    pub fn try_ask(&self) -> Result<(), Refused> {
+        let Tables { peers, snapshot_keys, contested } = &self.tables;
+        answered(words::peers_ask(&self.words, peers, snapshot_keys, contested))
+    }
+
+    /// Applies a report that came from a peer; one that the peer made about someone else changes nothing.
+    pub fn try_apply(&mut self, from: PeerId, report: &DemandReport, now: Nanos) -> Result<(), Refused> {
+        // One key more than a report may have tells as much as all of them.
+        let listed = report.keys.iter().take(MAX_DEMAND_KEYS + 1);
+        let keys: Vec<u64> =
+            listed.flat_map(|key| [key.key_hash, key.demand.to_bits().into(), key.primary.into()]).collect();
+        let Self { words, tables: Tables { peers, snapshot_keys, contested } } = self;
+        let DemandReport { origin, epoch, round, .. } = *report;
+        let count = report.keys.len() as u64;
+        answered(words::peers_apply(
+            words,
+            peers,
+            snapshot_keys,
+            contested,
+            from.get(),
+            origin,
+            epoch,
+            round,
+            &keys,
+            count,
+            now,
+        ))
+    }
+
+    /// The same, or a panic where it is refused.
+    #[track_caller]
+    pub fn apply(&mut self, from: PeerId, report: &DemandReport, now: Nanos) {
+        or_panic(self.try_apply(from, report, now))
+    }
+
+    /// Drops everything heard from `peer`.
+    pub fn try_forget(&mut self, peer: PeerId) -> Result<(), Refused> {
+        let Self { words, tables: Tables { peers, snapshot_keys, contested } } = self;
+        answered(words::peers_forget(words, peers, snapshot_keys, contested, peer.get()))
+    }
+
+    /// The same, or a panic where it is refused.
+    #[track_caller]
+    pub fn forget(&mut self, peer: PeerId) {
+        or_panic(self.try_forget(peer))
+    }
+
+    /// The peer left: with a `hold` of 0 it is forgotten, otherwise all it said counts for so long.
+    pub fn try_leave(&mut self, peer: PeerId, now: Nanos, hold: Nanos) -> Result<(), Refused> {
+        let Self { words, tables: Tables { peers, snapshot_keys, contested } } = self;
+        answered(words::peers_leave(words, peers, snapshot_keys, contested, peer.get(), now, hold))
+    }
+
+    /// The same, or a panic where it is refused.
+    #[track_caller]
+    pub fn leave(&mut self, peer: PeerId, now: Nanos, hold: Nanos) {
+        or_panic(self.try_leave(peer, now, hold))
+    }
+
+    /// Drops what was last heard `max_age` ago or earlier, and the peers whose hold has ended.
+    pub fn try_expire(&mut self, now: Nanos, max_age: Nanos) -> Result<(), Refused> {
+        let Self { words, tables: Tables { peers, snapshot_keys, contested } } = self;
+        answered(words::peers_expire(words, peers, snapshot_keys, contested, now, max_age))
+    }
+
+    /// The same, or a panic where it is refused.
+    #[track_caller]
+    pub fn expire(&mut self, now: Nanos, max_age: Nanos) {
+        or_panic(self.try_expire(now, max_age))
+    }
+
+    /// The most that `peer` said about `key`, if anything.
+    pub fn try_get(&self, peer: PeerId, key: u64) -> Result<Option<Heard>, Refused> {
+        let Tables { peers, snapshot_keys, contested } = &self.tables;
+        let mut answer = [0; 5];
+        answered(words::peers_get(&self.words, peers, snapshot_keys, contested, peer.get(), key, &mut answer))?;
+        let [there, demand, primary, round, heard_at] = answer;
+        let demand = f32::from_bits(demand as u32);
+        Ok((there != 0).then_some(Heard { demand, primary: primary != 0, round: round as u16, heard_at }))
+    }
+
+    /// The same, or a panic where it is refused.
+    #[track_caller]
+    pub fn get(&self, peer: PeerId, key: u64) -> Option<Heard> {
+        or_panic(self.try_get(peer, key))
+    }
+
+    /// The one word that a call tells.
+    fn told(&self, read: Reader, key: u64) -> Result<u64, Refused> {
+        let Tables { peers, snapshot_keys, contested } = &self.tables;
+        let mut answer = [0];
+        answered(read(&self.words, peers, snapshot_keys, contested, key, &mut answer))?;
+        Ok(answer[0])
+    }
+
+    /// The demand that all peers reported for `key`, summed.
+    pub fn try_total(&self, key: u64) -> Result<f64, Refused> {
+        self.told(words::peers_total, key).map(f64::from_bits)
+    }
+
+    /// The same, or a panic where it is refused.
+    #[track_caller]
+    pub fn total(&self, key: u64) -> f64 {
+        or_panic(self.try_total(key))
+    }
+
+    /// Whether some peer holds `key` hot by its own demand.
+    pub fn try_hot_elsewhere(&self, key: u64) -> Result<bool, Refused> {
+        self.told(words::peers_hot_elsewhere, key).map(|flag| flag != 0)
+    }
+
+    /// The same, or a panic where it is refused.
+    #[track_caller]
+    pub fn hot_elsewhere(&self, key: u64) -> bool {
+        or_panic(self.try_hot_elsewhere(key))
+    }
+
+    /// `total` of each of many keys.
+    pub fn try_total_of_each(&self, keys: &[u64]) -> Result<Vec<f64>, Refused> {
+        let Tables { peers, snapshot_keys, contested } = &self.tables;
+        let mut out = vec![0.0; keys.len()];
+        let count = keys.len() as u64;
+        answered(words::peers_total_of_each(&self.words, peers, snapshot_keys, contested, keys, 1, count, &mut out))?;
+        Ok(out)
+    }
+
+    /// The same, or a panic where it is refused.
+    #[track_caller]
+    pub fn total_of_each(&self, keys: &[u64]) -> Vec<f64> {
+        or_panic(self.try_total_of_each(keys))
+    }
+
+    /// `hot_elsewhere` of each of many keys.
+    pub fn try_hot_elsewhere_of_each(&self, keys: &[u64]) -> Result<Vec<bool>, Refused> {
+        let Tables { peers, snapshot_keys, contested } = &self.tables;
+        let mut out = vec![false; keys.len()];
+        let (words, count) = (&self.words, keys.len() as u64);
+        answered(words::peers_hot_elsewhere_of_each(words, peers, snapshot_keys, contested, keys, 1, count, &mut out))?;
+        Ok(out)
+    }
+
+    /// The same, or a panic where it is refused.
+    #[track_caller]
+    pub fn hot_elsewhere_of_each(&self, keys: &[u64]) -> Vec<bool> {
+        or_panic(self.try_hot_elsewhere_of_each(keys))
+    }
+
+    /// How many keys are known over all peers.
+    pub fn try_len(&self) -> Result<usize, Refused> {
+        let len: Reader =
+            |words, peers, keys, contested, _, answer| words::peers_len(words, peers, keys, contested, answer);
+        self.told(len, 0).map(|count| count as usize)
+    }
+
+    /// The same, or a panic where it is refused.
+    #[track_caller]
+    pub fn len(&self) -> usize {
+        or_panic(self.try_len())
+    }
+
+    /// Whether no peer reported any key.
+    pub fn try_is_empty(&self) -> Result<bool, Refused> {
+        let none: Reader =
+            |words, peers, keys, contested, _, answer| words::peers_is_empty(words, peers, keys, contested, answer);
+        self.told(none, 0).map(|flag| flag != 0)
+    }
+
+    /// The same, or a panic where it is refused.
+    #[track_caller]
+    pub fn is_empty(&self) -> bool {
+        or_panic(self.try_is_empty())
+    }
+}
+
+/// Whether round `a` comes after round `b`, in serial numbers of 16 bits.
+pub fn round_is_newer(a: u16, b: u16) -> bool {
+    (1..1 << 15).contains(&a.wrapping_sub(b))
+}
+
+/// How many periods a peer's report outlives the last message from it.
+pub fn stale_after_rounds(cluster_size: usize) -> u64 {
+    10.max(3 * cluster_size as u64)
+}

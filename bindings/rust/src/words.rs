@@ -1,0 +1,570 @@
+//! The functions of libnultiway.a, each over slices that the caller lends: all unsafe code is here.
+//!
+//! Made by tests/library/interface from the sources of the crate nultiway. Changes belong there.
+//! A function that answers `u8` answers 0, or the number of the first question that the call fails. include/nultiway.h
+//! tells what the words are.
+#![allow(clippy::too_many_arguments)]
+
+extern "C" {
+    fn nultiway_gcra_new(gcra: *mut u64, gcra_len: usize, interval: u64, burst: u32) -> u8;
+    fn nultiway_gcra_check(gcra: *mut u64, gcra_len: usize, reading: u64, answer: *mut u64, answer_len: usize) -> u8;
+    fn nultiway_gcra_set_quota(gcra: *mut u64, gcra_len: usize, interval: u64, burst: u32, reading: u64) -> u8;
+    fn nultiway_gcra_has_debt(gcra: *const u64, gcra_len: usize, reading: u64,
+        answer: *mut u64, answer_len: usize) -> u8;
+    fn nultiway_gcra_retry_after(gcra: *const u64, gcra_len: usize, reading: u64,
+        answer: *mut u64, answer_len: usize) -> u8;
+    fn nultiway_u64_to_f64(n: u64) -> f64;
+    fn nultiway_f64_to_u64(x: f64) -> u64;
+    fn nultiway_high_product(a: u64, b: u64) -> u64;
+    fn nultiway_decay_weight(elapsed: u64, time_constant: u64) -> u64;
+    fn nultiway_save(limiter: *const u64, limiter_len: usize, keys: *const u64, keys_len: usize,
+        hot: *const u64, hot_len: usize, shadows: *const u64, shadows_len: usize, peers: *const u64, peers_len: usize,
+        peer_table: *const u64, peer_table_len: usize, snapshot_keys: *const u64, snapshot_keys_len: usize,
+        contested: *const u64, contested_len: usize, out: *mut u8, out_len: usize,
+        answer: *mut u64, answer_len: usize) -> u8;
+    fn nultiway_load(image: *const u8, image_len: usize, limiter: *mut u64, limiter_len: usize,
+        keys: *mut u64, keys_len: usize, hot: *mut u64, hot_len: usize, shadows: *mut u64, shadows_len: usize,
+        peers: *mut u64, peers_len: usize, peer_table: *mut u64, peer_table_len: usize,
+        snapshot_keys: *mut u64, snapshot_keys_len: usize, contested: *mut u64, contested_len: usize) -> u8;
+    fn nultiway_limiter_new(limiter: *mut u64, limiter_len: usize, keys: *const u64, keys_len: usize,
+        hot: *const u64, hot_len: usize, shadows: *const u64, shadows_len: usize, rate: f64, burst: u32, alpha: f64,
+        floor_factor: f64, cooldown: u64, hot_set_size: u64, max_tracked_keys: u64, demand_time_constant: u64,
+        table_size: u64) -> u8;
+    fn nultiway_limiter_ask(limiter: *const u64, limiter_len: usize, keys: *const u64, keys_len: usize,
+        hot: *const u64, hot_len: usize, shadows: *const u64, shadows_len: usize) -> u8;
+    fn nultiway_set_cap(limiter: *mut u64, limiter_len: usize, keys: *const u64, keys_len: usize,
+        hot: *const u64, hot_len: usize, shadows: *const u64, shadows_len: usize, has_cap: u8, cap: f64) -> u8;
+    fn nultiway_record(limiter: *mut u64, limiter_len: usize, keys: *mut u64, keys_len: usize,
+        hot: *const u64, hot_len: usize, shadows: *const u64, shadows_len: usize, key: u64, attempts: u64, denials: u64,
+        shadow_denials: u64, rate: f64, burst: u32, reading: u64, cluster_size: u64) -> u8;
+    fn nultiway_tick(limiter: *mut u64, limiter_len: usize, keys: *mut u64, keys_len: usize,
+        hot: *mut u64, hot_len: usize, shadows: *mut u64, shadows_len: usize, reading: u64, cluster_size: u64) -> u8;
+    fn nultiway_tick_with_shares(limiter: *mut u64, limiter_len: usize, keys: *mut u64, keys_len: usize,
+        hot: *mut u64, hot_len: usize, shadows: *mut u64, shadows_len: usize, peers: *const u64, peers_len: usize,
+        peer_table: *const u64, peer_table_len: usize, snapshot_keys: *const u64, snapshot_keys_len: usize,
+        contested: *const u64, contested_len: usize, reading: u64, cluster_size: u64) -> u8;
+    fn nultiway_check(limiter: *mut u64, limiter_len: usize, keys: *mut u64, keys_len: usize,
+        hot: *const u64, hot_len: usize, shadows: *const u64, shadows_len: usize, key: u64, reading: u64,
+        cluster_size: u64, answer: *mut u64, answer_len: usize) -> u8;
+    fn nultiway_check_in(limiter: *mut u64, limiter_len: usize, keys: *mut u64, keys_len: usize,
+        hot: *const u64, hot_len: usize, shadows: *const u64, shadows_len: usize, key: u64, rate: f64, burst: u32,
+        reading: u64, cluster_size: u64, answer: *mut u64, answer_len: usize) -> u8;
+    fn nultiway_check_in_traced(limiter: *mut u64, limiter_len: usize, keys: *mut u64, keys_len: usize,
+        hot: *const u64, hot_len: usize, shadows: *mut u64, shadows_len: usize, key: u64, rate: f64, burst: u32,
+        has_shadow: u8, shadow_rate: f64, shadow_burst: u32, reading: u64, cluster_size: u64,
+        answer: *mut u64, answer_len: usize) -> u8;
+    fn nultiway_check_each(limiter: *mut u64, limiter_len: usize, keys: *mut u64, keys_len: usize,
+        hot: *const u64, hot_len: usize, shadows: *const u64, shadows_len: usize, list: *const u64, list_len: usize,
+        count: u64, cluster_size: u64, out: *mut u64, out_len: usize) -> u8;
+    fn nultiway_hot_demand(limiter: *const u64, limiter_len: usize, keys: *const u64, keys_len: usize,
+        hot: *const u64, hot_len: usize, shadows: *const u64, shadows_len: usize, out: *mut u64, out_len: usize,
+        answer: *mut u64, answer_len: usize) -> u8;
+    fn nultiway_most_denied(limiter: *const u64, limiter_len: usize, keys: *const u64, keys_len: usize,
+        hot: *const u64, hot_len: usize, shadows: *const u64, shadows_len: usize, k: u64, out: *mut u64, out_len: usize,
+        answer: *mut u64, answer_len: usize) -> u8;
+    fn nultiway_most_shadow_denied(limiter: *const u64, limiter_len: usize, keys: *const u64, keys_len: usize,
+        hot: *const u64, hot_len: usize, shadows: *const u64, shadows_len: usize, k: u64, out: *mut u64, out_len: usize,
+        answer: *mut u64, answer_len: usize) -> u8;
+    fn nultiway_new_key_quota(limiter: *const u64, limiter_len: usize, keys: *const u64, keys_len: usize,
+        hot: *const u64, hot_len: usize, shadows: *const u64, shadows_len: usize, rate: f64, burst: u32,
+        cluster_size: u64, answer: *mut u64, answer_len: usize) -> u8;
+    fn nultiway_new_key_factor(limiter: *const u64, limiter_len: usize, keys: *const u64, keys_len: usize,
+        hot: *const u64, hot_len: usize, shadows: *const u64, shadows_len: usize, cluster_size: u64,
+        answer: *mut u64, answer_len: usize) -> u8;
+    fn nultiway_key_rates(limiter: *const u64, limiter_len: usize, keys: *const u64, keys_len: usize,
+        hot: *const u64, hot_len: usize, shadows: *const u64, shadows_len: usize, key: u64,
+        answer: *mut u64, answer_len: usize) -> u8;
+    fn nultiway_quota(limiter: *const u64, limiter_len: usize, keys: *const u64, keys_len: usize,
+        hot: *const u64, hot_len: usize, shadows: *const u64, shadows_len: usize, key: u64,
+        answer: *mut u64, answer_len: usize) -> u8;
+    fn nultiway_limit(limiter: *const u64, limiter_len: usize, keys: *const u64, keys_len: usize,
+        hot: *const u64, hot_len: usize, shadows: *const u64, shadows_len: usize, key: u64,
+        answer: *mut u64, answer_len: usize) -> u8;
+    fn nultiway_config(limiter: *const u64, limiter_len: usize, keys: *const u64, keys_len: usize,
+        hot: *const u64, hot_len: usize, shadows: *const u64, shadows_len: usize,
+        answer: *mut u64, answer_len: usize) -> u8;
+    fn nultiway_hot_since(limiter: *const u64, limiter_len: usize, keys: *const u64, keys_len: usize,
+        hot: *const u64, hot_len: usize, shadows: *const u64, shadows_len: usize, key: u64,
+        answer: *mut u64, answer_len: usize) -> u8;
+    fn nultiway_is_hot(limiter: *const u64, limiter_len: usize, keys: *const u64, keys_len: usize,
+        hot: *const u64, hot_len: usize, shadows: *const u64, shadows_len: usize, key: u64,
+        answer: *mut u64, answer_len: usize) -> u8;
+    fn nultiway_tracked(limiter: *const u64, limiter_len: usize, keys: *const u64, keys_len: usize,
+        hot: *const u64, hot_len: usize, shadows: *const u64, shadows_len: usize, key: u64,
+        answer: *mut u64, answer_len: usize) -> u8;
+    fn nultiway_hot_keys(limiter: *const u64, limiter_len: usize, keys: *const u64, keys_len: usize,
+        hot: *const u64, hot_len: usize, shadows: *const u64, shadows_len: usize,
+        answer: *mut u64, answer_len: usize) -> u8;
+    fn nultiway_tracked_keys(limiter: *const u64, limiter_len: usize, keys: *const u64, keys_len: usize,
+        hot: *const u64, hot_len: usize, shadows: *const u64, shadows_len: usize,
+        answer: *mut u64, answer_len: usize) -> u8;
+    fn nultiway_quota_new(rate: u32, burst: u32, answer: *mut u64, answer_len: usize) -> u8;
+    fn nultiway_quota_per_second(rate: f64, burst: u32, answer: *mut u64, answer_len: usize) -> u8;
+    fn nultiway_quota_unpack(word: u64, answer: *mut u64, answer_len: usize) -> u8;
+    fn nultiway_quota_pack(interval: u64, burst: u32, answer: *mut u64, answer_len: usize) -> u8;
+    fn nultiway_quota_rate_per_sec(interval: u64, burst: u32, answer: *mut u64, answer_len: usize) -> u8;
+    fn nultiway_quota_ceiling(interval: u64, burst: u32, window: u64, answer: *mut u64, answer_len: usize) -> u8;
+    fn nultiway_step(tat: u64, packed: u64, reading: u64, answer: *mut u64, answer_len: usize) -> u8;
+    fn nultiway_peers_ask(peers: *const u64, peers_len: usize, peer_table: *const u64, peer_table_len: usize,
+        snapshot_keys: *const u64, snapshot_keys_len: usize, contested: *const u64, contested_len: usize) -> u8;
+    fn nultiway_peers_get(peers: *const u64, peers_len: usize, peer_table: *const u64, peer_table_len: usize,
+        snapshot_keys: *const u64, snapshot_keys_len: usize, contested: *const u64, contested_len: usize, peer: u64,
+        key: u64, answer: *mut u64, answer_len: usize) -> u8;
+    fn nultiway_peers_total(peers: *const u64, peers_len: usize, peer_table: *const u64, peer_table_len: usize,
+        snapshot_keys: *const u64, snapshot_keys_len: usize, contested: *const u64, contested_len: usize, key: u64,
+        answer: *mut u64, answer_len: usize) -> u8;
+    fn nultiway_peers_hot_elsewhere(peers: *const u64, peers_len: usize, peer_table: *const u64, peer_table_len: usize,
+        snapshot_keys: *const u64, snapshot_keys_len: usize, contested: *const u64, contested_len: usize, key: u64,
+        answer: *mut u64, answer_len: usize) -> u8;
+    fn nultiway_peers_len(peers: *const u64, peers_len: usize, peer_table: *const u64, peer_table_len: usize,
+        snapshot_keys: *const u64, snapshot_keys_len: usize, contested: *const u64, contested_len: usize,
+        answer: *mut u64, answer_len: usize) -> u8;
+    fn nultiway_peers_is_empty(peers: *const u64, peers_len: usize, peer_table: *const u64, peer_table_len: usize,
+        snapshot_keys: *const u64, snapshot_keys_len: usize, contested: *const u64, contested_len: usize,
+        answer: *mut u64, answer_len: usize) -> u8;
+    fn nultiway_peers_total_of_each(peers: *const u64, peers_len: usize, peer_table: *const u64, peer_table_len: usize,
+        snapshot_keys: *const u64, snapshot_keys_len: usize, contested: *const u64, contested_len: usize,
+        keys: *const u64, keys_len: usize, width: u64, count: u64, out: *mut f64, out_len: usize) -> u8;
+    fn nultiway_peers_hot_elsewhere_of_each(peers: *const u64, peers_len: usize,
+        peer_table: *const u64, peer_table_len: usize, snapshot_keys: *const u64, snapshot_keys_len: usize,
+        contested: *const u64, contested_len: usize, keys: *const u64, keys_len: usize, width: u64, count: u64,
+        out: *mut bool, out_len: usize) -> u8;
+    fn nultiway_peers_new(peers: *mut u64, peers_len: usize, peer_table: *const u64, peer_table_len: usize,
+        snapshot_keys: *const u64, snapshot_keys_len: usize, contested: *const u64, contested_len: usize) -> u8;
+    fn nultiway_peers_forget(peers: *mut u64, peers_len: usize, peer_table: *mut u64, peer_table_len: usize,
+        snapshot_keys: *mut u64, snapshot_keys_len: usize, contested: *mut u64, contested_len: usize, peer: u64) -> u8;
+    fn nultiway_peers_leave(peers: *mut u64, peers_len: usize, peer_table: *mut u64, peer_table_len: usize,
+        snapshot_keys: *mut u64, snapshot_keys_len: usize, contested: *mut u64, contested_len: usize, peer: u64,
+        reading: u64, hold: u64) -> u8;
+    fn nultiway_peers_expire(peers: *mut u64, peers_len: usize, peer_table: *mut u64, peer_table_len: usize,
+        snapshot_keys: *mut u64, snapshot_keys_len: usize, contested: *mut u64, contested_len: usize, reading: u64,
+        max_age: u64) -> u8;
+    fn nultiway_peers_apply(peers: *mut u64, peers_len: usize, peer_table: *mut u64, peer_table_len: usize,
+        snapshot_keys: *mut u64, snapshot_keys_len: usize, contested: *mut u64, contested_len: usize, from: u64,
+        origin: u64, epoch: u32, round: u16, report: *const u64, report_len: usize, count: u64, reading: u64) -> u8;
+}
+
+/// Makes a meter that has allowed nothing yet.
+pub fn gcra_new(gcra: &mut [u64], interval: u64, burst: u32) -> u8 {
+    // SAFETY: each pointer goes with its slice's length, and is borrowed for the call.
+    unsafe { nultiway_gcra_new(gcra.as_mut_ptr(), gcra.len(), interval, burst) }
+}
+
+/// Allows or denies one request by a meter: a decision.
+pub fn gcra_check(gcra: &mut [u64], reading: u64, answer: &mut [u64]) -> u8 {
+    // SAFETY: each pointer goes with its slice's length, and is borrowed for the call.
+    unsafe { nultiway_gcra_check(gcra.as_mut_ptr(), gcra.len(), reading, answer.as_mut_ptr(), answer.len()) }
+}
+
+/// Switches a meter to another quota and carries its debt over in requests.
+pub fn gcra_set_quota(gcra: &mut [u64], interval: u64, burst: u32, reading: u64) -> u8 {
+    // SAFETY: each pointer goes with its slice's length, and is borrowed for the call.
+    unsafe { nultiway_gcra_set_quota(gcra.as_mut_ptr(), gcra.len(), interval, burst, reading) }
+}
+
+/// Tells whether a meter has allowed requests ahead of their time.
+pub fn gcra_has_debt(gcra: &[u64], reading: u64, answer: &mut [u64]) -> u8 {
+    // SAFETY: each pointer goes with its slice's length, and is borrowed for the call.
+    unsafe { nultiway_gcra_has_debt(gcra.as_ptr(), gcra.len(), reading, answer.as_mut_ptr(), answer.len()) }
+}
+
+/// Tells whether a meter would deny a request, and how long until it would allow one.
+pub fn gcra_retry_after(gcra: &[u64], reading: u64, answer: &mut [u64]) -> u8 {
+    // SAFETY: each pointer goes with its slice's length, and is borrowed for the call.
+    unsafe { nultiway_gcra_retry_after(gcra.as_ptr(), gcra.len(), reading, answer.as_mut_ptr(), answer.len()) }
+}
+
+/// Tells the double nearest to a whole number, ties to even.
+pub fn u64_to_f64(n: u64) -> f64 {
+    // SAFETY: it takes numbers only.
+    unsafe { nultiway_u64_to_f64(n) }
+}
+
+/// Tells the whole part of a double, held within 64 bits, and 0 of a NaN.
+pub fn f64_to_u64(x: f64) -> u64 {
+    // SAFETY: it takes numbers only.
+    unsafe { nultiway_f64_to_u64(x) }
+}
+
+/// Tells the high half of a product of 128 bits.
+pub fn high_product(a: u64, b: u64) -> u64 {
+    // SAFETY: it takes numbers only.
+    unsafe { nultiway_high_product(a, b) }
+}
+
+/// Tells the weight that a rate keeps after some time, in parts of 2^52.
+pub fn decay_weight(elapsed: u64, time_constant: u64) -> u64 {
+    // SAFETY: it takes numbers only.
+    unsafe { nultiway_decay_weight(elapsed, time_constant) }
+}
+
+/// Writes the image of a limiter and its peers to `out`, and tells how many bytes it has.
+pub fn save(limiter: &[u64], keys: &[u64], hot: &[u64], shadows: &[u64], peers: &[u64], peer_table: &[u64],
+    snapshot_keys: &[u64], contested: &[u64], out: &mut [u8], answer: &mut [u64]) -> u8 {
+    // SAFETY: each pointer goes with its slice's length, and is borrowed for the call.
+    unsafe { nultiway_save(limiter.as_ptr(), limiter.len(), keys.as_ptr(), keys.len(), hot.as_ptr(), hot.len(),
+        shadows.as_ptr(), shadows.len(), peers.as_ptr(), peers.len(), peer_table.as_ptr(), peer_table.len(),
+        snapshot_keys.as_ptr(), snapshot_keys.len(), contested.as_ptr(), contested.len(), out.as_mut_ptr(), out.len(),
+        answer.as_mut_ptr(), answer.len()) }
+}
+
+/// Makes the limiter and the peers that an image was saved of, in tables that may hold anything.
+pub fn load(image: &[u8], limiter: &mut [u64], keys: &mut [u64], hot: &mut [u64], shadows: &mut [u64],
+    peers: &mut [u64], peer_table: &mut [u64], snapshot_keys: &mut [u64], contested: &mut [u64]) -> u8 {
+    // SAFETY: each pointer goes with its slice's length, and is borrowed for the call.
+    unsafe { nultiway_load(image.as_ptr(), image.len(), limiter.as_mut_ptr(), limiter.len(),
+        keys.as_mut_ptr(), keys.len(), hot.as_mut_ptr(), hot.len(), shadows.as_mut_ptr(), shadows.len(),
+        peers.as_mut_ptr(), peers.len(), peer_table.as_mut_ptr(), peer_table.len(),
+        snapshot_keys.as_mut_ptr(), snapshot_keys.len(), contested.as_mut_ptr(), contested.len()) }
+}
+
+/// Makes a limiter with no key yet.
+pub fn limiter_new(limiter: &mut [u64], keys: &[u64], hot: &[u64], shadows: &[u64], rate: f64, burst: u32, alpha: f64,
+    floor_factor: f64, cooldown: u64, hot_set_size: u64, max_tracked_keys: u64, demand_time_constant: u64,
+    table_size: u64) -> u8 {
+    // SAFETY: each pointer goes with its slice's length, and is borrowed for the call.
+    unsafe { nultiway_limiter_new(limiter.as_mut_ptr(), limiter.len(), keys.as_ptr(), keys.len(),
+        hot.as_ptr(), hot.len(), shadows.as_ptr(), shadows.len(), rate, burst, alpha, floor_factor, cooldown,
+        hot_set_size, max_tracked_keys, demand_time_constant, table_size) }
+}
+
+/// Asks questions 1 and 2 of a limiter and its tables.
+pub fn limiter_ask(limiter: &[u64], keys: &[u64], hot: &[u64], shadows: &[u64]) -> u8 {
+    // SAFETY: each pointer goes with its slice's length, and is borrowed for the call.
+    unsafe { nultiway_limiter_ask(limiter.as_ptr(), limiter.len(), keys.as_ptr(), keys.len(), hot.as_ptr(), hot.len(),
+        shadows.as_ptr(), shadows.len()) }
+}
+
+/// Holds every key at no more than `cap` times its rate, or lifts the cap where `has_cap` is 0.
+pub fn set_cap(limiter: &mut [u64], keys: &[u64], hot: &[u64], shadows: &[u64], has_cap: u8, cap: f64) -> u8 {
+    // SAFETY: each pointer goes with its slice's length, and is borrowed for the call.
+    unsafe { nultiway_set_cap(limiter.as_mut_ptr(), limiter.len(), keys.as_ptr(), keys.len(), hot.as_ptr(), hot.len(),
+        shadows.as_ptr(), shadows.len(), has_cap, cap) }
+}
+
+/// Counts the attempts and denials that a runtime with a table of its own collected for a key.
+pub fn record(limiter: &mut [u64], keys: &mut [u64], hot: &[u64], shadows: &[u64], key: u64, attempts: u64,
+    denials: u64, shadow_denials: u64, rate: f64, burst: u32, reading: u64, cluster_size: u64) -> u8 {
+    // SAFETY: each pointer goes with its slice's length, and is borrowed for the call.
+    unsafe { nultiway_record(limiter.as_mut_ptr(), limiter.len(), keys.as_mut_ptr(), keys.len(),
+        hot.as_ptr(), hot.len(), shadows.as_ptr(), shadows.len(), key, attempts, denials, shadow_denials, rate, burst,
+        reading, cluster_size) }
+}
+
+/// Folds demand, moves keys between hot and cold, sets quotas and drops idle keys, once a period.
+pub fn tick(limiter: &mut [u64], keys: &mut [u64], hot: &mut [u64], shadows: &mut [u64], reading: u64,
+    cluster_size: u64) -> u8 {
+    // SAFETY: each pointer goes with its slice's length, and is borrowed for the call.
+    unsafe { nultiway_tick(limiter.as_mut_ptr(), limiter.len(), keys.as_mut_ptr(), keys.len(),
+        hot.as_mut_ptr(), hot.len(), shadows.as_mut_ptr(), shadows.len(), reading, cluster_size) }
+}
+
+/// Does the same, where a hot key gets the share of its limit that its demand has in the cluster's, by what the peers
+/// reported.
+pub fn tick_with_shares(limiter: &mut [u64], keys: &mut [u64], hot: &mut [u64], shadows: &mut [u64], peers: &[u64],
+    peer_table: &[u64], snapshot_keys: &[u64], contested: &[u64], reading: u64, cluster_size: u64) -> u8 {
+    // SAFETY: each pointer goes with its slice's length, and is borrowed for the call.
+    unsafe { nultiway_tick_with_shares(limiter.as_mut_ptr(), limiter.len(), keys.as_mut_ptr(), keys.len(),
+        hot.as_mut_ptr(), hot.len(), shadows.as_mut_ptr(), shadows.len(), peers.as_ptr(), peers.len(),
+        peer_table.as_ptr(), peer_table.len(), snapshot_keys.as_ptr(), snapshot_keys.len(),
+        contested.as_ptr(), contested.len(), reading, cluster_size) }
+}
+
+/// Allows or denies one request for a key at the limiter's own limit: a decision.
+pub fn check(limiter: &mut [u64], keys: &mut [u64], hot: &[u64], shadows: &[u64], key: u64, reading: u64,
+    cluster_size: u64, answer: &mut [u64]) -> u8 {
+    // SAFETY: each pointer goes with its slice's length, and is borrowed for the call.
+    unsafe { nultiway_check(limiter.as_mut_ptr(), limiter.len(), keys.as_mut_ptr(), keys.len(), hot.as_ptr(), hot.len(),
+        shadows.as_ptr(), shadows.len(), key, reading, cluster_size, answer.as_mut_ptr(), answer.len()) }
+}
+
+/// Allows or denies one request for a key with a limit of its own: a decision.
+pub fn check_in(limiter: &mut [u64], keys: &mut [u64], hot: &[u64], shadows: &[u64], key: u64, rate: f64, burst: u32,
+    reading: u64, cluster_size: u64, answer: &mut [u64]) -> u8 {
+    // SAFETY: each pointer goes with its slice's length, and is borrowed for the call.
+    unsafe { nultiway_check_in(limiter.as_mut_ptr(), limiter.len(), keys.as_mut_ptr(), keys.len(),
+        hot.as_ptr(), hot.len(), shadows.as_ptr(), shadows.len(), key, rate, burst, reading, cluster_size,
+        answer.as_mut_ptr(), answer.len()) }
+}
+
+/// Does the same and tells what a shadow limit would have decided, none where `has_shadow` is 0: a decision, whether
+/// there is a shadow, and its decision.
+pub fn check_in_traced(limiter: &mut [u64], keys: &mut [u64], hot: &[u64], shadows: &mut [u64], key: u64, rate: f64,
+    burst: u32, has_shadow: u8, shadow_rate: f64, shadow_burst: u32, reading: u64, cluster_size: u64,
+    answer: &mut [u64]) -> u8 {
+    // SAFETY: each pointer goes with its slice's length, and is borrowed for the call.
+    unsafe { nultiway_check_in_traced(limiter.as_mut_ptr(), limiter.len(), keys.as_mut_ptr(), keys.len(),
+        hot.as_ptr(), hot.len(), shadows.as_mut_ptr(), shadows.len(), key, rate, burst, has_shadow, shadow_rate,
+        shadow_burst, reading, cluster_size, answer.as_mut_ptr(), answer.len()) }
+}
+
+/// Checks `count` pairs of a key and a reading, one after the other: three words for each, the number of the question
+/// that it fails or 0, whether it is denied, and the retry time.
+pub fn check_each(limiter: &mut [u64], keys: &mut [u64], hot: &[u64], shadows: &[u64], list: &[u64], count: u64,
+    cluster_size: u64, out: &mut [u64]) -> u8 {
+    // SAFETY: each pointer goes with its slice's length, and is borrowed for the call.
+    unsafe { nultiway_check_each(limiter.as_mut_ptr(), limiter.len(), keys.as_mut_ptr(), keys.len(),
+        hot.as_ptr(), hot.len(), shadows.as_ptr(), shadows.len(), list.as_ptr(), list.len(), count, cluster_size,
+        out.as_mut_ptr(), out.len()) }
+}
+
+/// Lists the hot keys, busiest first, and tells how many: three words for each, the key, its demand's bits, and whether
+/// it is hot by that demand.
+pub fn hot_demand(limiter: &[u64], keys: &[u64], hot: &[u64], shadows: &[u64], out: &mut [u64],
+    answer: &mut [u64]) -> u8 {
+    // SAFETY: each pointer goes with its slice's length, and is borrowed for the call.
+    unsafe { nultiway_hot_demand(limiter.as_ptr(), limiter.len(), keys.as_ptr(), keys.len(), hot.as_ptr(), hot.len(),
+        shadows.as_ptr(), shadows.len(), out.as_mut_ptr(), out.len(), answer.as_mut_ptr(), answer.len()) }
+}
+
+/// Lists up to `k` keys with the most denials a second, most first, and tells how many: four words for each, the key
+/// and the bits of its three rates.
+pub fn most_denied(limiter: &[u64], keys: &[u64], hot: &[u64], shadows: &[u64], k: u64, out: &mut [u64],
+    answer: &mut [u64]) -> u8 {
+    // SAFETY: each pointer goes with its slice's length, and is borrowed for the call.
+    unsafe { nultiway_most_denied(limiter.as_ptr(), limiter.len(), keys.as_ptr(), keys.len(), hot.as_ptr(), hot.len(),
+        shadows.as_ptr(), shadows.len(), k, out.as_mut_ptr(), out.len(), answer.as_mut_ptr(), answer.len()) }
+}
+
+/// Lists up to `k` keys with the most shadow denials a second likewise.
+pub fn most_shadow_denied(limiter: &[u64], keys: &[u64], hot: &[u64], shadows: &[u64], k: u64, out: &mut [u64],
+    answer: &mut [u64]) -> u8 {
+    // SAFETY: each pointer goes with its slice's length, and is borrowed for the call.
+    unsafe { nultiway_most_shadow_denied(limiter.as_ptr(), limiter.len(), keys.as_ptr(), keys.len(),
+        hot.as_ptr(), hot.len(), shadows.as_ptr(), shadows.len(), k, out.as_mut_ptr(), out.len(),
+        answer.as_mut_ptr(), answer.len()) }
+}
+
+/// Tells the quota that a key not seen before starts with in a limit: interval and burst.
+pub fn new_key_quota(limiter: &[u64], keys: &[u64], hot: &[u64], shadows: &[u64], rate: f64, burst: u32,
+    cluster_size: u64, answer: &mut [u64]) -> u8 {
+    // SAFETY: each pointer goes with its slice's length, and is borrowed for the call.
+    unsafe { nultiway_new_key_quota(limiter.as_ptr(), limiter.len(), keys.as_ptr(), keys.len(), hot.as_ptr(), hot.len(),
+        shadows.as_ptr(), shadows.len(), rate, burst, cluster_size, answer.as_mut_ptr(), answer.len()) }
+}
+
+/// Tells the rate that a key not seen before starts with, as a part of its limit: the bits of a double.
+pub fn new_key_factor(limiter: &[u64], keys: &[u64], hot: &[u64], shadows: &[u64], cluster_size: u64,
+    answer: &mut [u64]) -> u8 {
+    // SAFETY: each pointer goes with its slice's length, and is borrowed for the call.
+    unsafe { nultiway_new_key_factor(limiter.as_ptr(), limiter.len(), keys.as_ptr(), keys.len(),
+        hot.as_ptr(), hot.len(), shadows.as_ptr(), shadows.len(), cluster_size, answer.as_mut_ptr(), answer.len()) }
+}
+
+/// Tells whether a key is tracked, and the bits of its requests, denials and shadow denials a second.
+pub fn key_rates(limiter: &[u64], keys: &[u64], hot: &[u64], shadows: &[u64], key: u64, answer: &mut [u64]) -> u8 {
+    // SAFETY: each pointer goes with its slice's length, and is borrowed for the call.
+    unsafe { nultiway_key_rates(limiter.as_ptr(), limiter.len(), keys.as_ptr(), keys.len(), hot.as_ptr(), hot.len(),
+        shadows.as_ptr(), shadows.len(), key, answer.as_mut_ptr(), answer.len()) }
+}
+
+/// Tells whether a key is tracked, and the interval and burst that it is held to.
+pub fn quota(limiter: &[u64], keys: &[u64], hot: &[u64], shadows: &[u64], key: u64, answer: &mut [u64]) -> u8 {
+    // SAFETY: each pointer goes with its slice's length, and is borrowed for the call.
+    unsafe { nultiway_quota(limiter.as_ptr(), limiter.len(), keys.as_ptr(), keys.len(), hot.as_ptr(), hot.len(),
+        shadows.as_ptr(), shadows.len(), key, answer.as_mut_ptr(), answer.len()) }
+}
+
+/// Tells whether a key is tracked, and the limit that it was last given: the rate's bits and the burst.
+pub fn limit(limiter: &[u64], keys: &[u64], hot: &[u64], shadows: &[u64], key: u64, answer: &mut [u64]) -> u8 {
+    // SAFETY: each pointer goes with its slice's length, and is borrowed for the call.
+    unsafe { nultiway_limit(limiter.as_ptr(), limiter.len(), keys.as_ptr(), keys.len(), hot.as_ptr(), hot.len(),
+        shadows.as_ptr(), shadows.len(), key, answer.as_mut_ptr(), answer.len()) }
+}
+
+/// Tells the settings: the first nine words of the limiter.
+pub fn config(limiter: &[u64], keys: &[u64], hot: &[u64], shadows: &[u64], answer: &mut [u64]) -> u8 {
+    // SAFETY: each pointer goes with its slice's length, and is borrowed for the call.
+    unsafe { nultiway_config(limiter.as_ptr(), limiter.len(), keys.as_ptr(), keys.len(), hot.as_ptr(), hot.len(),
+        shadows.as_ptr(), shadows.len(), answer.as_mut_ptr(), answer.len()) }
+}
+
+/// Tells whether a key is hot, and since when without a break.
+pub fn hot_since(limiter: &[u64], keys: &[u64], hot: &[u64], shadows: &[u64], key: u64, answer: &mut [u64]) -> u8 {
+    // SAFETY: each pointer goes with its slice's length, and is borrowed for the call.
+    unsafe { nultiway_hot_since(limiter.as_ptr(), limiter.len(), keys.as_ptr(), keys.len(), hot.as_ptr(), hot.len(),
+        shadows.as_ptr(), shadows.len(), key, answer.as_mut_ptr(), answer.len()) }
+}
+
+/// Tells whether a key is hot.
+pub fn is_hot(limiter: &[u64], keys: &[u64], hot: &[u64], shadows: &[u64], key: u64, answer: &mut [u64]) -> u8 {
+    // SAFETY: each pointer goes with its slice's length, and is borrowed for the call.
+    unsafe { nultiway_is_hot(limiter.as_ptr(), limiter.len(), keys.as_ptr(), keys.len(), hot.as_ptr(), hot.len(),
+        shadows.as_ptr(), shadows.len(), key, answer.as_mut_ptr(), answer.len()) }
+}
+
+/// Tells whether a key is tracked, hot or cold.
+pub fn tracked(limiter: &[u64], keys: &[u64], hot: &[u64], shadows: &[u64], key: u64, answer: &mut [u64]) -> u8 {
+    // SAFETY: each pointer goes with its slice's length, and is borrowed for the call.
+    unsafe { nultiway_tracked(limiter.as_ptr(), limiter.len(), keys.as_ptr(), keys.len(), hot.as_ptr(), hot.len(),
+        shadows.as_ptr(), shadows.len(), key, answer.as_mut_ptr(), answer.len()) }
+}
+
+/// Tells how many keys are hot.
+pub fn hot_keys(limiter: &[u64], keys: &[u64], hot: &[u64], shadows: &[u64], answer: &mut [u64]) -> u8 {
+    // SAFETY: each pointer goes with its slice's length, and is borrowed for the call.
+    unsafe { nultiway_hot_keys(limiter.as_ptr(), limiter.len(), keys.as_ptr(), keys.len(), hot.as_ptr(), hot.len(),
+        shadows.as_ptr(), shadows.len(), answer.as_mut_ptr(), answer.len()) }
+}
+
+/// Tells how many keys are tracked.
+pub fn tracked_keys(limiter: &[u64], keys: &[u64], hot: &[u64], shadows: &[u64], answer: &mut [u64]) -> u8 {
+    // SAFETY: each pointer goes with its slice's length, and is borrowed for the call.
+    unsafe { nultiway_tracked_keys(limiter.as_ptr(), limiter.len(), keys.as_ptr(), keys.len(), hot.as_ptr(), hot.len(),
+        shadows.as_ptr(), shadows.len(), answer.as_mut_ptr(), answer.len()) }
+}
+
+/// Makes the quota of a whole number of requests a second: interval and burst.
+pub fn quota_new(rate: u32, burst: u32, answer: &mut [u64]) -> u8 {
+    // SAFETY: each pointer goes with its slice's length, and is borrowed for the call.
+    unsafe { nultiway_quota_new(rate, burst, answer.as_mut_ptr(), answer.len()) }
+}
+
+/// Makes the quota of any rate, the longest interval where it is too slow or no rate: interval and burst.
+pub fn quota_per_second(rate: f64, burst: u32, answer: &mut [u64]) -> u8 {
+    // SAFETY: each pointer goes with its slice's length, and is borrowed for the call.
+    unsafe { nultiway_quota_per_second(rate, burst, answer.as_mut_ptr(), answer.len()) }
+}
+
+/// Reads the quota that a packed word holds: interval and burst.
+pub fn quota_unpack(word: u64, answer: &mut [u64]) -> u8 {
+    // SAFETY: each pointer goes with its slice's length, and is borrowed for the call.
+    unsafe { nultiway_quota_unpack(word, answer.as_mut_ptr(), answer.len()) }
+}
+
+/// Packs a quota into one word.
+pub fn quota_pack(interval: u64, burst: u32, answer: &mut [u64]) -> u8 {
+    // SAFETY: each pointer goes with its slice's length, and is borrowed for the call.
+    unsafe { nultiway_quota_pack(interval, burst, answer.as_mut_ptr(), answer.len()) }
+}
+
+/// Tells the requests a second of a quota: the bits of a double.
+pub fn quota_rate_per_sec(interval: u64, burst: u32, answer: &mut [u64]) -> u8 {
+    // SAFETY: each pointer goes with its slice's length, and is borrowed for the call.
+    unsafe { nultiway_quota_rate_per_sec(interval, burst, answer.as_mut_ptr(), answer.len()) }
+}
+
+/// Tells the quoted ceiling: the most checks that a quota allows at readings from s to s + `window`.
+pub fn quota_ceiling(interval: u64, burst: u32, window: u64, answer: &mut [u64]) -> u8 {
+    // SAFETY: each pointer goes with its slice's length, and is borrowed for the call.
+    unsafe { nultiway_quota_ceiling(interval, burst, window, answer.as_mut_ptr(), answer.len()) }
+}
+
+/// Makes one attempt on a TAT, 0 for none, and a packed quota: a decision, and the TAT after it.
+pub fn step(tat: u64, packed: u64, reading: u64, answer: &mut [u64]) -> u8 {
+    // SAFETY: each pointer goes with its slice's length, and is borrowed for the call.
+    unsafe { nultiway_step(tat, packed, reading, answer.as_mut_ptr(), answer.len()) }
+}
+
+/// Asks questions 1 and 2 of the peers and their tables.
+pub fn peers_ask(peers: &[u64], peer_table: &[u64], snapshot_keys: &[u64], contested: &[u64]) -> u8 {
+    // SAFETY: each pointer goes with its slice's length, and is borrowed for the call.
+    unsafe { nultiway_peers_ask(peers.as_ptr(), peers.len(), peer_table.as_ptr(), peer_table.len(),
+        snapshot_keys.as_ptr(), snapshot_keys.len(), contested.as_ptr(), contested.len()) }
+}
+
+/// Tells whether a peer said something of a key, the bits of the demand (a float), whether the key is hot there by its
+/// own demand, the round, and when it was heard.
+pub fn peers_get(peers: &[u64], peer_table: &[u64], snapshot_keys: &[u64], contested: &[u64], peer: u64, key: u64,
+    answer: &mut [u64]) -> u8 {
+    // SAFETY: each pointer goes with its slice's length, and is borrowed for the call.
+    unsafe { nultiway_peers_get(peers.as_ptr(), peers.len(), peer_table.as_ptr(), peer_table.len(),
+        snapshot_keys.as_ptr(), snapshot_keys.len(), contested.as_ptr(), contested.len(), peer, key,
+        answer.as_mut_ptr(), answer.len()) }
+}
+
+/// Tells the demand that all peers reported for a key, summed: the bits of a double.
+pub fn peers_total(peers: &[u64], peer_table: &[u64], snapshot_keys: &[u64], contested: &[u64], key: u64,
+    answer: &mut [u64]) -> u8 {
+    // SAFETY: each pointer goes with its slice's length, and is borrowed for the call.
+    unsafe { nultiway_peers_total(peers.as_ptr(), peers.len(), peer_table.as_ptr(), peer_table.len(),
+        snapshot_keys.as_ptr(), snapshot_keys.len(), contested.as_ptr(), contested.len(), key,
+        answer.as_mut_ptr(), answer.len()) }
+}
+
+/// Tells whether some peer holds a key hot by its own demand.
+pub fn peers_hot_elsewhere(peers: &[u64], peer_table: &[u64], snapshot_keys: &[u64], contested: &[u64], key: u64,
+    answer: &mut [u64]) -> u8 {
+    // SAFETY: each pointer goes with its slice's length, and is borrowed for the call.
+    unsafe { nultiway_peers_hot_elsewhere(peers.as_ptr(), peers.len(), peer_table.as_ptr(), peer_table.len(),
+        snapshot_keys.as_ptr(), snapshot_keys.len(), contested.as_ptr(), contested.len(), key,
+        answer.as_mut_ptr(), answer.len()) }
+}
+
+/// Tells how many keys are known over all peers.
+pub fn peers_len(peers: &[u64], peer_table: &[u64], snapshot_keys: &[u64], contested: &[u64],
+    answer: &mut [u64]) -> u8 {
+    // SAFETY: each pointer goes with its slice's length, and is borrowed for the call.
+    unsafe { nultiway_peers_len(peers.as_ptr(), peers.len(), peer_table.as_ptr(), peer_table.len(),
+        snapshot_keys.as_ptr(), snapshot_keys.len(), contested.as_ptr(), contested.len(),
+        answer.as_mut_ptr(), answer.len()) }
+}
+
+/// Tells whether no peer reported any key.
+pub fn peers_is_empty(peers: &[u64], peer_table: &[u64], snapshot_keys: &[u64], contested: &[u64],
+    answer: &mut [u64]) -> u8 {
+    // SAFETY: each pointer goes with its slice's length, and is borrowed for the call.
+    unsafe { nultiway_peers_is_empty(peers.as_ptr(), peers.len(), peer_table.as_ptr(), peer_table.len(),
+        snapshot_keys.as_ptr(), snapshot_keys.len(), contested.as_ptr(), contested.len(),
+        answer.as_mut_ptr(), answer.len()) }
+}
+
+/// Tells the demand that all peers reported for each of `count` keys, the first words of records of `width` words.
+pub fn peers_total_of_each(peers: &[u64], peer_table: &[u64], snapshot_keys: &[u64], contested: &[u64], keys: &[u64],
+    width: u64, count: u64, out: &mut [f64]) -> u8 {
+    // SAFETY: each pointer goes with its slice's length, and is borrowed for the call.
+    unsafe { nultiway_peers_total_of_each(peers.as_ptr(), peers.len(), peer_table.as_ptr(), peer_table.len(),
+        snapshot_keys.as_ptr(), snapshot_keys.len(), contested.as_ptr(), contested.len(), keys.as_ptr(), keys.len(),
+        width, count, out.as_mut_ptr(), out.len()) }
+}
+
+/// Tells of each of `count` keys, the first words of records of `width` words, whether some peer holds it hot by its
+/// own demand.
+pub fn peers_hot_elsewhere_of_each(peers: &[u64], peer_table: &[u64], snapshot_keys: &[u64], contested: &[u64],
+    keys: &[u64], width: u64, count: u64, out: &mut [bool]) -> u8 {
+    // SAFETY: each pointer goes with its slice's length, and is borrowed for the call.
+    unsafe { nultiway_peers_hot_elsewhere_of_each(peers.as_ptr(), peers.len(), peer_table.as_ptr(), peer_table.len(),
+        snapshot_keys.as_ptr(), snapshot_keys.len(), contested.as_ptr(), contested.len(), keys.as_ptr(), keys.len(),
+        width, count, out.as_mut_ptr(), out.len()) }
+}
+
+/// Makes the peers' state, none heard from yet.
+pub fn peers_new(peers: &mut [u64], peer_table: &[u64], snapshot_keys: &[u64], contested: &[u64]) -> u8 {
+    // SAFETY: each pointer goes with its slice's length, and is borrowed for the call.
+    unsafe { nultiway_peers_new(peers.as_mut_ptr(), peers.len(), peer_table.as_ptr(), peer_table.len(),
+        snapshot_keys.as_ptr(), snapshot_keys.len(), contested.as_ptr(), contested.len()) }
+}
+
+/// Drops everything heard from a peer.
+pub fn peers_forget(peers: &mut [u64], peer_table: &mut [u64], snapshot_keys: &mut [u64], contested: &mut [u64],
+    peer: u64) -> u8 {
+    // SAFETY: each pointer goes with its slice's length, and is borrowed for the call.
+    unsafe { nultiway_peers_forget(peers.as_mut_ptr(), peers.len(), peer_table.as_mut_ptr(), peer_table.len(),
+        snapshot_keys.as_mut_ptr(), snapshot_keys.len(), contested.as_mut_ptr(), contested.len(), peer) }
+}
+
+/// Lets a peer leave: it is forgotten where `hold` is 0, and otherwise all that it said counts for so long.
+pub fn peers_leave(peers: &mut [u64], peer_table: &mut [u64], snapshot_keys: &mut [u64], contested: &mut [u64],
+    peer: u64, reading: u64, hold: u64) -> u8 {
+    // SAFETY: each pointer goes with its slice's length, and is borrowed for the call.
+    unsafe { nultiway_peers_leave(peers.as_mut_ptr(), peers.len(), peer_table.as_mut_ptr(), peer_table.len(),
+        snapshot_keys.as_mut_ptr(), snapshot_keys.len(), contested.as_mut_ptr(), contested.len(), peer, reading, hold) }
+}
+
+/// Drops what was last heard `max_age` ago or earlier, and the peers whose hold has ended.
+pub fn peers_expire(peers: &mut [u64], peer_table: &mut [u64], snapshot_keys: &mut [u64], contested: &mut [u64],
+    reading: u64, max_age: u64) -> u8 {
+    // SAFETY: each pointer goes with its slice's length, and is borrowed for the call.
+    unsafe { nultiway_peers_expire(peers.as_mut_ptr(), peers.len(), peer_table.as_mut_ptr(), peer_table.len(),
+        snapshot_keys.as_mut_ptr(), snapshot_keys.len(), contested.as_mut_ptr(), contested.len(), reading, max_age) }
+}
+
+/// Applies a report of `count` keys that came from a peer: three words for each key, the key, the bits of its demand (a
+/// float), and whether it is hot there by its own demand.
+pub fn peers_apply(peers: &mut [u64], peer_table: &mut [u64], snapshot_keys: &mut [u64], contested: &mut [u64],
+    from: u64, origin: u64, epoch: u32, round: u16, report: &[u64], count: u64, reading: u64) -> u8 {
+    // SAFETY: each pointer goes with its slice's length, and is borrowed for the call.
+    unsafe { nultiway_peers_apply(peers.as_mut_ptr(), peers.len(), peer_table.as_mut_ptr(), peer_table.len(),
+        snapshot_keys.as_mut_ptr(), snapshot_keys.len(), contested.as_mut_ptr(), contested.len(), from, origin, epoch,
+        round, report.as_ptr(), report.len(), count, reading) }
+}

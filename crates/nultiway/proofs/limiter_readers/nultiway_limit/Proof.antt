@@ -1,0 +1,45 @@
+-- `nultiway_limit` meets its contract.
+use mathlib.Core.Path.{refl}
+use borrow.Author.Needs.{needs}
+use borrow.Author.Tests.{leb-true}
+use lib.Dec.{leb}
+use lib.ListN.{length}
+use Rattle.nultiway.proofs.CallLaws.{refused-call, passed-call, Open, opened, tells}
+use Rattle.nultiway.proofs.limiter_readers.nultiway_limit.Statement.{statement}
+use Rattle.nultiway.proofs.limiter_readers.nultiway_limit.Tie as tie
+
+abbrev start : tie.After-ask-limiter → tie.Start
+start a = a .before .before .before .before .before .before
+
+-- the questions of the lent words are passed
+passed : (e : tie.Else1) → let s = start (e .before) in Open (s .args .limiter .now) (leb 3 (length (s .args .answer .now)))
+passed e = opened _ _ _ (e .before .ask-limiter .ensures) (e .if1 .left)
+
+returns : tie.Need-returns
+returns c = refused-call _ _ (c .before .ask-limiter .ensures) (c .if1 .taken) refl
+
+limiter-of-requires : tie.Need-limiter-of-requires
+limiter-of-requires c κs = passed c .long
+
+put-limit-requires : tie.Need-put-limit-requires
+put-limit-requires c κs = leb-true _ _ (passed (c .before .before .before) .others)
+
+returns-2 : tie.Need-returns-2
+returns-2 c =
+    let n = c .before .before in
+    let k = n .before in
+    let l = k .before .before in
+    passed-call _ _ (passed (l .before) .passed)
+    (tells (l .limiter-of .ensures) (k .limit .result) (k .limit .ensures) (n .put-limit .ensures .0) (n .put-limit .ensures .1))
+
+pub nultiway-limit-spec : {M : Type 1} → statement M
+nultiway-limit-spec =
+    tie.close
+    (tie.spec
+    (λ c κs. search needs)
+    returns
+    limiter-of-requires
+    (λ c κs. search needs)
+    put-limit-requires
+    (λ c. search needs)
+    returns-2)

@@ -1,0 +1,46 @@
+-- `nultiway_new_key_factor` meets its contract.
+use mathlib.Core.Path.{refl}
+use borrow.Author.Needs.{needs}
+use borrow.Author.Tests.{leb-true}
+use lib.Dec.{leb}
+use lib.ListN.{length}
+use Rattle.nultiway.proofs.CallLaws.{refused-call, passed-call, Open, opened, tells}
+use Rattle.nultiway.proofs.limiter_readers.nultiway_new_key_factor.Statement.{statement}
+use Rattle.nultiway.proofs.limiter_readers.nultiway_new_key_factor.Tie as tie
+
+abbrev start : tie.After-ask-limiter → tie.Start
+start a = a .before .before .before .before .before .before
+
+-- the questions of the lent words are passed
+passed : (e : tie.Else1) → let s = start (e .before) in Open (s .args .limiter .now) (leb 1 (length (s .args .answer .now)))
+passed e = opened _ _ _ (e .before .ask-limiter .ensures) (e .if1 .left)
+
+returns : tie.Need-returns
+returns c = refused-call _ _ (c .before .ask-limiter .ensures) (c .if1 .taken) refl
+
+limiter-of-requires : tie.Need-limiter-of-requires
+limiter-of-requires c κs = passed c .long
+
+put-rate-requires : tie.Need-put-rate-requires
+put-rate-requires c κs = leb-true _ _ (passed (c .before .before .before) .others)
+
+returns-2 : tie.Need-returns-2
+returns-2 c =
+    let n = c .before .before in
+    let k = n .before in
+    let l = k .before .before in
+    passed-call _ _ (passed (l .before) .passed)
+    (tells (l .limiter-of .ensures) (k .new-key-factor .result) (k .new-key-factor .ensures)
+    (n .put-rate .ensures .0) (n .put-rate .ensures .1))
+
+pub nultiway-new-key-factor-spec : {M : Type 1} → statement M
+nultiway-new-key-factor-spec =
+    tie.close
+    (tie.spec
+    (λ c κs. search needs)
+    returns
+    limiter-of-requires
+    (λ c κs. search needs)
+    put-rate-requires
+    (λ c. search needs)
+    returns-2)

@@ -1,0 +1,28 @@
+-- `limiter_words` meets its contract, word for word.
+use borrow.Author.Needs.{needs}
+use Rattle.nultiway.proofs.ValueLaws.{limiter-written}
+use Rattle.nultiway.proofs.values.limiter_words.Statement.{statement}
+use Rattle.nultiway.proofs.values.limiter_words.Tie as tie
+
+returns : tie.Need-returns
+returns c = limiter-written (c .before .args .limiter) _ (c .settings-words .ensures)
+
+pub limiter-words-spec : {M : Type 1} → statement M
+limiter-words-spec =
+    tie.close
+    (tie.spec
+    (λ c κs. search needs)
+    (λ c. search needs)
+    (λ c. search needs)
+    (λ c. search needs)
+    (λ c. search needs)
+    (λ c. search needs)
+    (λ c. search needs)
+    (λ c. search needs)
+    (λ c. search needs)
+    (λ c. search needs)
+    (λ c. search needs)
+    (λ c. search needs)
+    (λ c. search needs)
+    (λ c. search needs)
+    returns)

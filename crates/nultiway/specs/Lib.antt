@@ -1,0 +1,6 @@
+pub mod Values
+pub mod Calls
+pub mod LimiterCalls
+pub mod LoneCalls
+pub mod ImageCalls
+pub mod PeerCalls

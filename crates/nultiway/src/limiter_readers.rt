@@ -1,0 +1,276 @@
+// What a limiter tells.
+use crate::answers::put_config;
+use crate::answers::put_flag;
+use crate::answers::put_key_quota;
+use crate::answers::put_len;
+use crate::answers::put_limit;
+use crate::answers::put_quota;
+use crate::answers::put_rate;
+use crate::answers::put_rates;
+use crate::answers::put_since;
+use crate::values::ask_limiter;
+use crate::values::limiter_of;
+use limiter::Limit;
+ghost use Rattle.limiter.specs.State.{atEntry};
+ghost use Rattle.nultiway.specs.LimiterCalls as Calls;
+
+// Tells the quota that a key not seen before starts with in a limit: interval and burst.
+#[no_mangle]
+pub extern "C" fn nultiway_new_key_quota(
+    limiter: &[u64],
+    keys: &[u64],
+    hot: &[u64],
+    shadows: &[u64],
+    rate: f64,
+    burst: u32,
+    cluster_size: u64,
+    answer: &mut [u64],
+) -> u8
+    ensures { λ r. ⌜
+        Calls.NewKeyQuota (now (limiter .entry)) (atEntry keys hot shadows)
+        (now (answer .entry)) (Calls.limit rate burst) «cluster_size» r (now (answer .exit))
+        ⌝ }
+{
+    let no = ask_limiter(limiter, 2 <= answer.len());
+    if no != 0 {
+        return no;
+    }
+    let limit = Limit { rate, burst };
+    let nodes = cluster_size as usize;
+    let limiter = limiter_of(limiter);
+    put_quota(
+        answer,
+        limiter.new_key_quota(keys, hot, shadows, limit, nodes),
+    )
+}
+
+// Tells the rate that a key not seen before starts with, as a part of its limit: the bits of a
+// double.
+#[no_mangle]
+pub extern "C" fn nultiway_new_key_factor(
+    limiter: &[u64],
+    keys: &[u64],
+    hot: &[u64],
+    shadows: &[u64],
+    cluster_size: u64,
+    answer: &mut [u64],
+) -> u8
+    ensures { λ r. ⌜
+        Calls.NewKeyFactor (now (limiter .entry)) (atEntry keys hot shadows)
+        (now (answer .entry)) «cluster_size» r (now (answer .exit))
+        ⌝ }
+{
+    let no = ask_limiter(limiter, 1 <= answer.len());
+    if no != 0 {
+        return no;
+    }
+    let nodes = cluster_size as usize;
+    let limiter = limiter_of(limiter);
+    put_rate(answer, limiter.new_key_factor(keys, hot, shadows, nodes))
+}
+
+// Tells whether a key is tracked, and the bits of its requests, denials and shadow denials a
+// second.
+#[no_mangle]
+pub extern "C" fn nultiway_key_rates(
+    limiter: &[u64],
+    keys: &[u64],
+    hot: &[u64],
+    shadows: &[u64],
+    key: u64,
+    answer: &mut [u64],
+) -> u8
+    ensures { λ r. ⌜
+        Calls.Rates (now (limiter .entry)) (atEntry keys hot shadows) (now (answer .entry)) key
+        r (now (answer .exit))
+        ⌝ }
+{
+    let no = ask_limiter(limiter, 4 <= answer.len());
+    if no != 0 {
+        return no;
+    }
+    let limiter = limiter_of(limiter);
+    put_rates(answer, limiter.key_rates(keys, hot, shadows, key))
+}
+
+// Tells whether a key is tracked, and the interval and burst that it is held to.
+#[no_mangle]
+pub extern "C" fn nultiway_quota(
+    limiter: &[u64],
+    keys: &[u64],
+    hot: &[u64],
+    shadows: &[u64],
+    key: u64,
+    answer: &mut [u64],
+) -> u8
+    ensures { λ r. ⌜
+        Calls.KeyQuota (now (limiter .entry)) (atEntry keys hot shadows) (now (answer .entry))
+        key r (now (answer .exit))
+        ⌝ }
+{
+    let no = ask_limiter(limiter, 3 <= answer.len());
+    if no != 0 {
+        return no;
+    }
+    let limiter = limiter_of(limiter);
+    put_key_quota(answer, limiter.quota(keys, hot, shadows, key))
+}
+
+// Tells whether a key is tracked, and the limit that it was last given: the rate's bits and the
+// burst.
+#[no_mangle]
+pub extern "C" fn nultiway_limit(
+    limiter: &[u64],
+    keys: &[u64],
+    hot: &[u64],
+    shadows: &[u64],
+    key: u64,
+    answer: &mut [u64],
+) -> u8
+    ensures { λ r. ⌜
+        Calls.KeyLimit (now (limiter .entry)) (atEntry keys hot shadows) (now (answer .entry))
+        key r (now (answer .exit))
+        ⌝ }
+{
+    let no = ask_limiter(limiter, 3 <= answer.len());
+    if no != 0 {
+        return no;
+    }
+    let limiter = limiter_of(limiter);
+    put_limit(answer, limiter.limit(keys, hot, shadows, key))
+}
+
+// Tells the settings: the first nine words of the limiter.
+#[no_mangle]
+pub extern "C" fn nultiway_config(
+    limiter: &[u64],
+    keys: &[u64],
+    hot: &[u64],
+    shadows: &[u64],
+    answer: &mut [u64],
+) -> u8
+    ensures { λ r. ⌜
+        Calls.Settings (now (limiter .entry)) (atEntry keys hot shadows) (now (answer .entry))
+        r (now (answer .exit))
+        ⌝ }
+{
+    let no = ask_limiter(limiter, 9 <= answer.len());
+    if no != 0 {
+        return no;
+    }
+    let limiter = limiter_of(limiter);
+    put_config(answer, limiter.config(keys, hot, shadows))
+}
+
+// Tells whether a key is hot, and since when without a break.
+#[no_mangle]
+pub extern "C" fn nultiway_hot_since(
+    limiter: &[u64],
+    keys: &[u64],
+    hot: &[u64],
+    shadows: &[u64],
+    key: u64,
+    answer: &mut [u64],
+) -> u8
+    ensures { λ r. ⌜
+        Calls.HotSince (now (limiter .entry)) (atEntry keys hot shadows) (now (answer .entry))
+        key r (now (answer .exit))
+        ⌝ }
+{
+    let no = ask_limiter(limiter, 2 <= answer.len());
+    if no != 0 {
+        return no;
+    }
+    let limiter = limiter_of(limiter);
+    put_since(answer, limiter.hot_since(keys, hot, shadows, key))
+}
+
+// Tells whether a key is hot.
+#[no_mangle]
+pub extern "C" fn nultiway_is_hot(
+    limiter: &[u64],
+    keys: &[u64],
+    hot: &[u64],
+    shadows: &[u64],
+    key: u64,
+    answer: &mut [u64],
+) -> u8
+    ensures { λ r. ⌜
+        Calls.IsHot (now (limiter .entry)) (atEntry keys hot shadows) (now (answer .entry)) key
+        r (now (answer .exit))
+        ⌝ }
+{
+    let no = ask_limiter(limiter, 1 <= answer.len());
+    if no != 0 {
+        return no;
+    }
+    let limiter = limiter_of(limiter);
+    put_flag(answer, limiter.is_hot(keys, hot, shadows, key))
+}
+
+// Tells whether a key is tracked, hot or cold.
+#[no_mangle]
+pub extern "C" fn nultiway_tracked(
+    limiter: &[u64],
+    keys: &[u64],
+    hot: &[u64],
+    shadows: &[u64],
+    key: u64,
+    answer: &mut [u64],
+) -> u8
+    ensures { λ r. ⌜
+        Calls.IsTracked (now (limiter .entry)) (atEntry keys hot shadows) (now (answer .entry))
+        key r (now (answer .exit))
+        ⌝ }
+{
+    let no = ask_limiter(limiter, 1 <= answer.len());
+    if no != 0 {
+        return no;
+    }
+    let limiter = limiter_of(limiter);
+    put_flag(answer, limiter.tracked(keys, hot, shadows, key))
+}
+
+// Tells how many keys are hot.
+#[no_mangle]
+pub extern "C" fn nultiway_hot_keys(
+    limiter: &[u64],
+    keys: &[u64],
+    hot: &[u64],
+    shadows: &[u64],
+    answer: &mut [u64],
+) -> u8
+    ensures { λ r. ⌜
+        Calls.CountHot (now (limiter .entry)) (atEntry keys hot shadows) (now (answer .entry))
+        r (now (answer .exit))
+        ⌝ }
+{
+    let no = ask_limiter(limiter, 1 <= answer.len());
+    if no != 0 {
+        return no;
+    }
+    let limiter = limiter_of(limiter);
+    put_len(answer, limiter.hot_keys(keys, hot, shadows))
+}
+
+// Tells how many keys are tracked.
+#[no_mangle]
+pub extern "C" fn nultiway_tracked_keys(
+    limiter: &[u64],
+    keys: &[u64],
+    hot: &[u64],
+    shadows: &[u64],
+    answer: &mut [u64],
+) -> u8
+    ensures { λ r. ⌜
+        Calls.CountKeys (now (limiter .entry)) (atEntry keys hot shadows) (now (answer .entry))
+        r (now (answer .exit))
+        ⌝ }
+{
+    let no = ask_limiter(limiter, 1 <= answer.len());
+    if no != 0 {
+        return no;
+    }
+    let limiter = limiter_of(limiter);
+    put_len(answer, limiter.tracked_keys(keys, hot, shadows))
+}

@@ -1,0 +1,199 @@
+// What the peers tell.
+use crate::answers::change_number;
+use crate::answers::put_flag;
+use crate::answers::put_len;
+use crate::image_calls::are_long;
+use crate::peer_answers::put_heard;
+use crate::peer_answers::put_total;
+use crate::values::PEERS_WORDS;
+use crate::values::peers_of;
+use demand::boundary::PeerId;
+ghost use Rattle.demand.specs.PeerState.{atEntry};
+ghost use Rattle.nultiway.specs.PeerCalls as Calls;
+
+// Asks questions 1 and 2 of the peers and their tables.
+#[no_mangle]
+pub extern "C" fn nultiway_peers_ask(
+    peers: &[u64],
+    peer_table: &[u64],
+    snapshot_keys: &[u64],
+    contested: &[u64],
+) -> u8
+    ensures { λ r. ⌜
+        Calls.Ask (now (peers .entry)) (atEntry «peer_table» «snapshot_keys» contested) r
+        ⌝ }
+{
+    if peers.len() < PEERS_WORDS {
+        return 1;
+    }
+    let p = peers_of(peers);
+    p.ask(peer_table, snapshot_keys, contested)
+}
+
+// Tells whether a peer said something of a key, the bits of the demand (a float), whether the key
+// is hot there by its own demand, the round, and when it was heard.
+#[no_mangle]
+pub extern "C" fn nultiway_peers_get(
+    peers: &[u64],
+    peer_table: &[u64],
+    snapshot_keys: &[u64],
+    contested: &[u64],
+    peer: u64,
+    key: u64,
+    answer: &mut [u64],
+) -> u8
+    ensures { λ r. ⌜
+        Calls.Get (atEntry «peer_table» «snapshot_keys» contested) peer key (now (peers .entry))
+        (now (answer .entry)) r (now (answer .exit))
+        ⌝ }
+{
+    if !are_long(peers.len(), PEERS_WORDS, answer.len(), 5) {
+        return 1;
+    }
+    let p = peers_of(peers);
+    let id = PeerId::new(peer);
+    put_heard(answer, p.get(peer_table, snapshot_keys, contested, id, key))
+}
+
+// Tells the demand that all peers reported for a key, summed: the bits of a double.
+#[no_mangle]
+pub extern "C" fn nultiway_peers_total(
+    peers: &[u64],
+    peer_table: &[u64],
+    snapshot_keys: &[u64],
+    contested: &[u64],
+    key: u64,
+    answer: &mut [u64],
+) -> u8
+    ensures { λ r. ⌜
+        Calls.Total (atEntry «peer_table» «snapshot_keys» contested) key (now (peers .entry))
+        (now (answer .entry)) r (now (answer .exit))
+        ⌝ }
+{
+    if !are_long(peers.len(), PEERS_WORDS, answer.len(), 1) {
+        return 1;
+    }
+    let p = peers_of(peers);
+    put_total(answer, p.total(peer_table, snapshot_keys, contested, key))
+}
+
+// Tells whether some peer holds a key hot by its own demand.
+#[no_mangle]
+pub extern "C" fn nultiway_peers_hot_elsewhere(
+    peers: &[u64],
+    peer_table: &[u64],
+    snapshot_keys: &[u64],
+    contested: &[u64],
+    key: u64,
+    answer: &mut [u64],
+) -> u8
+    ensures { λ r. ⌜
+        Calls.HotElsewhere (atEntry «peer_table» «snapshot_keys» contested) key (now (peers .entry))
+        (now (answer .entry)) r (now (answer .exit))
+        ⌝ }
+{
+    if !are_long(peers.len(), PEERS_WORDS, answer.len(), 1) {
+        return 1;
+    }
+    let p = peers_of(peers);
+    put_flag(
+        answer,
+        p.hot_elsewhere(peer_table, snapshot_keys, contested, key),
+    )
+}
+
+// Tells how many keys are known over all peers.
+#[no_mangle]
+pub extern "C" fn nultiway_peers_len(
+    peers: &[u64],
+    peer_table: &[u64],
+    snapshot_keys: &[u64],
+    contested: &[u64],
+    answer: &mut [u64],
+) -> u8
+    ensures { λ r. ⌜
+        Calls.Len (atEntry «peer_table» «snapshot_keys» contested) (now (peers .entry))
+        (now (answer .entry)) r (now (answer .exit))
+        ⌝ }
+{
+    if !are_long(peers.len(), PEERS_WORDS, answer.len(), 1) {
+        return 1;
+    }
+    let p = peers_of(peers);
+    put_len(answer, p.len(peer_table, snapshot_keys, contested))
+}
+
+// Tells whether no peer reported any key.
+#[no_mangle]
+pub extern "C" fn nultiway_peers_is_empty(
+    peers: &[u64],
+    peer_table: &[u64],
+    snapshot_keys: &[u64],
+    contested: &[u64],
+    answer: &mut [u64],
+) -> u8
+    ensures { λ r. ⌜
+        Calls.IsEmpty (atEntry «peer_table» «snapshot_keys» contested) (now (peers .entry))
+        (now (answer .entry)) r (now (answer .exit))
+        ⌝ }
+{
+    if !are_long(peers.len(), PEERS_WORDS, answer.len(), 1) {
+        return 1;
+    }
+    let p = peers_of(peers);
+    put_flag(answer, p.is_empty(peer_table, snapshot_keys, contested))
+}
+
+// Tells the demand that all peers reported for each of `count` keys, the first words of records of
+// `width` words.
+#[no_mangle]
+pub extern "C" fn nultiway_peers_total_of_each(
+    peers: &[u64],
+    peer_table: &[u64],
+    snapshot_keys: &[u64],
+    contested: &[u64],
+    keys: &[u64],
+    width: u64,
+    count: u64,
+    out: &mut [f64],
+) -> u8
+    ensures { λ r. ⌜
+        Calls.TotalOfEach (atEntry «peer_table» «snapshot_keys» contested) (now (peers .entry))
+        (now (keys .entry)) width count (now (out .entry)) r (now (out .exit))
+        ⌝ }
+{
+    if peers.len() < PEERS_WORDS {
+        return 1;
+    }
+    let p = peers_of(peers);
+    let w = width as usize;
+    let n = count as usize;
+    change_number(p.total_of_each(peer_table, snapshot_keys, contested, keys, w, n, out))
+}
+
+// Tells of each of `count` keys, the first words of records of `width` words, whether some peer
+// holds it hot by its own demand.
+#[no_mangle]
+pub extern "C" fn nultiway_peers_hot_elsewhere_of_each(
+    peers: &[u64],
+    peer_table: &[u64],
+    snapshot_keys: &[u64],
+    contested: &[u64],
+    keys: &[u64],
+    width: u64,
+    count: u64,
+    out: &mut [bool],
+) -> u8
+    ensures { λ r. ⌜
+        Calls.HotElsewhereOfEach (atEntry «peer_table» «snapshot_keys» contested)
+        (now (peers .entry)) (now (keys .entry)) width count (now (out .entry)) r (now (out .exit))
+        ⌝ }
+{
+    if peers.len() < PEERS_WORDS {
+        return 1;
+    }
+    let p = peers_of(peers);
+    let w = width as usize;
+    let n = count as usize;
+    change_number(p.hot_elsewhere_of_each(peer_table, snapshot_keys, contested, keys, w, n, out))
+}

@@ -1,0 +1,476 @@
+/* The C interface of Nultiway, a rate limiter: link libnultiway.a (x86-64 Linux).
+ *
+ * Made by tests/library/interface from the sources of the crate nultiway. Changes belong there.
+ *
+ * A function that answers uint8_t answers 0, or the number of the first question that the call
+ * fails (enum nultiway_question); then no lent word or byte has changed. No pointer may be NULL,
+ * even with a length of 0, and no buffer that is written may overlap another of the same call.
+ * Lengths count words (bytes of an image). Longer buffers may be lent.
+ *
+ * Values stand in words that the caller keeps and lends:
+ * - a limiter: rate (bits of a double), burst, alpha (bits), floor factor (bits), cooldown, hot set
+ *   size, max_tracked_keys, demand time constant, table size, whether there is a cap, the cap
+ *   (bits), whether there was a tick, the last tick's time; then how many records of its tables
+ *   keys, hot and shadows are in use;
+ * - the peers: how many records of their tables peer_table, snapshot_keys and contested are in use;
+ * - a meter (GCRA): interval, burst, whether it has a TAT, the TAT.
+ * A missing part is 0. What a function tells stands at the front of `answer`, which has as many
+ * words as the macro above the function says: a decision is two words, 1 where denied and the retry
+ * time, both 0 where allowed; a value that may be missing has a flag before it, and both are 0 where
+ * it is. Times are nanoseconds, rates a second.
+ *
+ * A load takes up to 1 MiB of stack, a tick or a list of a limiter's keys up to 128 KiB, any other
+ * call up to 64 KiB. */
+
+#ifndef NULTIWAY_H
+#define NULTIWAY_H
+
+#include <stdbool.h>
+#include <stddef.h>
+#include <stdint.h>
+
+#ifdef __cplusplus
+extern "C" {
+#endif
+
+/* The numbers of the questions, and what is so where one is answered. */
+enum nultiway_question {
+    /* the call is answered */
+    NULTIWAY_ANSWERED = 0,
+    /* a lent buffer is too short for the configured sizes */
+    NULTIWAY_SHORT_BUFFER = 1,
+    /* the lent state, or the quota or meter handed in alone, could not stand in a valid image */
+    NULTIWAY_INVALID = 2,
+    /* a rate is not finite or not above 0 */
+    NULTIWAY_RATE = 3,
+    /* a burst is not 1 to 4,194,303 */
+    NULTIWAY_BURST = 4,
+    /* alpha is not in (0, 1], or the floor factor not in [0, 1] */
+    NULTIWAY_FACTOR = 5,
+    /* the hot set size is not 1 to 64 and at most max_tracked_keys, or that is above the table
+     * size, or that above 4,096 */
+    NULTIWAY_SIZES = 6,
+    /* the cluster size is not 1 to 65,535 */
+    NULTIWAY_CLUSTER_SIZE = 7,
+    /* the key is not tracked and the table is full */
+    NULTIWAY_TABLE_FULL = 8,
+    /* a counter that the call raises would not stay within 64 bits */
+    NULTIWAY_COUNTER = 9,
+    /* the report has more than 64 keys */
+    NULTIWAY_LONG_REPORT = 10,
+    /* a demand is not finite with a clear sign bit */
+    NULTIWAY_DEMAND = 11,
+    /* the peer is not known and 32 are */
+    NULTIWAY_PEERS_FULL = 12,
+    /* the image is not valid */
+    NULTIWAY_IMAGE = 13,
+    /* the word to unpack has a unit code of 3 or a burst of 0 */
+    NULTIWAY_WORD = 14,
+    /* the window is longer than 2^62 ns */
+    NULTIWAY_WINDOW = 15,
+    /* the output does not fit */
+    NULTIWAY_SHORT_OUTPUT = 16,
+};
+
+/* Words of a limiter. */
+#define NULTIWAY_LIMITER_WORDS 16
+/* Words of the peers. */
+#define NULTIWAY_PEERS_WORDS 3
+/* Words of a meter. */
+#define NULTIWAY_GCRA_WORDS 4
+/* Words of a record in the table of keys. */
+#define NULTIWAY_KEY_WORDS 22
+/* Words of a record in the table of hot keys. */
+#define NULTIWAY_HOT_WORDS 6
+/* Words of a record in the table of shadows. */
+#define NULTIWAY_SHADOW_WORDS 4
+/* The largest size of the table of keys. */
+#define NULTIWAY_MAX_KEYS 4096
+/* The largest size of the hot set. */
+#define NULTIWAY_MAX_HOT 64
+/* Words of the table of peers. */
+#define NULTIWAY_PEER_TABLE_SIZE 384
+/* Words of the table of snapshot keys. */
+#define NULTIWAY_SNAPSHOT_KEYS_SIZE 8192
+/* Words of the table of contested keys. */
+#define NULTIWAY_CONTESTED_SIZE 49152
+/* The most keys of a report. */
+#define NULTIWAY_MAX_DEMAND_KEYS 64
+/* The most bytes of an image. */
+#define NULTIWAY_LARGEST_IMAGE 1372566
+
+/* Words that a limiter's tables need; a size above its bound counts as that bound. */
+#define NULTIWAY_KEYS_SIZE(table_size) \
+    (NULTIWAY_KEY_WORDS * \
+     ((size_t)(table_size) < NULTIWAY_MAX_KEYS ? (size_t)(table_size) : NULTIWAY_MAX_KEYS))
+#define NULTIWAY_HOT_SIZE(hot_set_size) \
+    (NULTIWAY_HOT_WORDS * \
+     ((size_t)(hot_set_size) < NULTIWAY_MAX_HOT ? (size_t)(hot_set_size) : NULTIWAY_MAX_HOT))
+#define NULTIWAY_SHADOWS_SIZE(table_size) \
+    (NULTIWAY_SHADOW_WORDS * \
+     ((size_t)(table_size) < NULTIWAY_MAX_KEYS ? (size_t)(table_size) : NULTIWAY_MAX_KEYS))
+
+/* Bytes of the image of a limiter and peers, by their words. */
+#define NULTIWAY_IMAGE_SIZE(limiter, peers) \
+    (118 + 179 * (limiter)[13] + 51 * (limiter)[14] + 35 * (limiter)[15] + \
+     99 * (peers)[0] + 35 * (peers)[1] + 51 * (peers)[2])
+
+/* ---- Calls on a Gcra that stands in lent words. */
+
+/* Makes a meter that has allowed nothing yet. */
+uint8_t nultiway_gcra_new(uint64_t *gcra, size_t gcra_len, uint64_t interval, uint32_t burst);
+
+/* Allows or denies one request by a meter: a decision. */
+#define NULTIWAY_GCRA_CHECK_ANSWER 2
+uint8_t nultiway_gcra_check(uint64_t *gcra, size_t gcra_len, uint64_t reading,
+    uint64_t *answer, size_t answer_len);
+
+/* Switches a meter to another quota and carries its debt over in requests. */
+uint8_t nultiway_gcra_set_quota(uint64_t *gcra, size_t gcra_len, uint64_t interval, uint32_t burst,
+    uint64_t reading);
+
+/* Tells whether a meter has allowed requests ahead of their time. */
+#define NULTIWAY_GCRA_HAS_DEBT_ANSWER 1
+uint8_t nultiway_gcra_has_debt(const uint64_t *gcra, size_t gcra_len, uint64_t reading,
+    uint64_t *answer, size_t answer_len);
+
+/* Tells whether a meter would deny a request, and how long until it would allow one. */
+#define NULTIWAY_GCRA_RETRY_AFTER_ANSWER 2
+uint8_t nultiway_gcra_retry_after(const uint64_t *gcra, size_t gcra_len, uint64_t reading,
+    uint64_t *answer, size_t answer_len);
+
+/* ---- Functions on numbers, for the benchmarks. */
+
+/* Tells the double nearest to a whole number, ties to even. */
+double nultiway_u64_to_f64(uint64_t n);
+
+/* Tells the whole part of a double, held within 64 bits, and 0 of a NaN. */
+uint64_t nultiway_f64_to_u64(double x);
+
+/* Tells the high half of a product of 128 bits. */
+uint64_t nultiway_high_product(uint64_t a, uint64_t b);
+
+/* Tells the weight that a rate keeps after some time, in parts of 2^52. */
+uint64_t nultiway_decay_weight(uint64_t elapsed, uint64_t time_constant);
+
+/* ---- The saved image. */
+
+/* Writes the image of a limiter and its peers to `out`, and tells how many bytes it has. */
+#define NULTIWAY_SAVE_ANSWER 1
+uint8_t nultiway_save(const uint64_t *limiter, size_t limiter_len,
+    const uint64_t *keys, size_t keys_len, const uint64_t *hot, size_t hot_len,
+    const uint64_t *shadows, size_t shadows_len, const uint64_t *peers, size_t peers_len,
+    const uint64_t *peer_table, size_t peer_table_len,
+    const uint64_t *snapshot_keys, size_t snapshot_keys_len,
+    const uint64_t *contested, size_t contested_len, uint8_t *out, size_t out_len,
+    uint64_t *answer, size_t answer_len);
+
+/* Makes the limiter and the peers that an image was saved of, in tables that may hold anything. */
+uint8_t nultiway_load(const uint8_t *image, size_t image_len, uint64_t *limiter, size_t limiter_len,
+    uint64_t *keys, size_t keys_len, uint64_t *hot, size_t hot_len,
+    uint64_t *shadows, size_t shadows_len, uint64_t *peers, size_t peers_len,
+    uint64_t *peer_table, size_t peer_table_len, uint64_t *snapshot_keys, size_t snapshot_keys_len,
+    uint64_t *contested, size_t contested_len);
+
+/* ---- A limiter made, its cap set, its counts and ticks. */
+
+/* Makes a limiter with no key yet. */
+uint8_t nultiway_limiter_new(uint64_t *limiter, size_t limiter_len,
+    const uint64_t *keys, size_t keys_len, const uint64_t *hot, size_t hot_len,
+    const uint64_t *shadows, size_t shadows_len, double rate, uint32_t burst, double alpha,
+    double floor_factor, uint64_t cooldown, uint64_t hot_set_size, uint64_t max_tracked_keys,
+    uint64_t demand_time_constant, uint64_t table_size);
+
+/* Asks questions 1 and 2 of a limiter and its tables. */
+uint8_t nultiway_limiter_ask(const uint64_t *limiter, size_t limiter_len,
+    const uint64_t *keys, size_t keys_len, const uint64_t *hot, size_t hot_len,
+    const uint64_t *shadows, size_t shadows_len);
+
+/* Holds every key at no more than `cap` times its rate, or lifts the cap where `has_cap` is 0. */
+uint8_t nultiway_set_cap(uint64_t *limiter, size_t limiter_len,
+    const uint64_t *keys, size_t keys_len, const uint64_t *hot, size_t hot_len,
+    const uint64_t *shadows, size_t shadows_len, uint8_t has_cap, double cap);
+
+/* Counts the attempts and denials that a runtime with a table of its own collected for a key. */
+uint8_t nultiway_record(uint64_t *limiter, size_t limiter_len, uint64_t *keys, size_t keys_len,
+    const uint64_t *hot, size_t hot_len, const uint64_t *shadows, size_t shadows_len, uint64_t key,
+    uint64_t attempts, uint64_t denials, uint64_t shadow_denials, double rate, uint32_t burst,
+    uint64_t reading, uint64_t cluster_size);
+
+/* Folds demand, moves keys between hot and cold, sets quotas and drops idle keys, once a period. */
+uint8_t nultiway_tick(uint64_t *limiter, size_t limiter_len, uint64_t *keys, size_t keys_len,
+    uint64_t *hot, size_t hot_len, uint64_t *shadows, size_t shadows_len, uint64_t reading,
+    uint64_t cluster_size);
+
+/* Does the same, where a hot key gets the share of its limit that its demand has in the cluster's,
+ * by what the peers reported. */
+uint8_t nultiway_tick_with_shares(uint64_t *limiter, size_t limiter_len,
+    uint64_t *keys, size_t keys_len, uint64_t *hot, size_t hot_len,
+    uint64_t *shadows, size_t shadows_len, const uint64_t *peers, size_t peers_len,
+    const uint64_t *peer_table, size_t peer_table_len,
+    const uint64_t *snapshot_keys, size_t snapshot_keys_len,
+    const uint64_t *contested, size_t contested_len, uint64_t reading, uint64_t cluster_size);
+
+/* ---- Checks of keys. */
+
+/* Allows or denies one request for a key at the limiter's own limit: a decision. */
+#define NULTIWAY_CHECK_ANSWER 2
+uint8_t nultiway_check(uint64_t *limiter, size_t limiter_len, uint64_t *keys, size_t keys_len,
+    const uint64_t *hot, size_t hot_len, const uint64_t *shadows, size_t shadows_len, uint64_t key,
+    uint64_t reading, uint64_t cluster_size, uint64_t *answer, size_t answer_len);
+
+/* Allows or denies one request for a key with a limit of its own: a decision. */
+#define NULTIWAY_CHECK_IN_ANSWER 2
+uint8_t nultiway_check_in(uint64_t *limiter, size_t limiter_len, uint64_t *keys, size_t keys_len,
+    const uint64_t *hot, size_t hot_len, const uint64_t *shadows, size_t shadows_len, uint64_t key,
+    double rate, uint32_t burst, uint64_t reading, uint64_t cluster_size,
+    uint64_t *answer, size_t answer_len);
+
+/* Does the same and tells what a shadow limit would have decided, none where `has_shadow` is 0: a
+ * decision, whether there is a shadow, and its decision. */
+#define NULTIWAY_CHECK_IN_TRACED_ANSWER 5
+uint8_t nultiway_check_in_traced(uint64_t *limiter, size_t limiter_len,
+    uint64_t *keys, size_t keys_len, const uint64_t *hot, size_t hot_len,
+    uint64_t *shadows, size_t shadows_len, uint64_t key, double rate, uint32_t burst,
+    uint8_t has_shadow, double shadow_rate, uint32_t shadow_burst, uint64_t reading,
+    uint64_t cluster_size, uint64_t *answer, size_t answer_len);
+
+/* Checks `count` pairs of a key and a reading, one after the other: three words for each, the
+ * number of the question that it fails or 0, whether it is denied, and the retry time. */
+uint8_t nultiway_check_each(uint64_t *limiter, size_t limiter_len, uint64_t *keys, size_t keys_len,
+    const uint64_t *hot, size_t hot_len, const uint64_t *shadows, size_t shadows_len,
+    const uint64_t *list, size_t list_len, uint64_t count, uint64_t cluster_size,
+    uint64_t *out, size_t out_len);
+
+/* ---- Lists of keys, in words that the caller lends for them. */
+
+/* Lists the hot keys, busiest first, and tells how many: three words for each, the key, its
+ * demand's bits, and whether it is hot by that demand. */
+#define NULTIWAY_HOT_DEMAND_ANSWER 1
+uint8_t nultiway_hot_demand(const uint64_t *limiter, size_t limiter_len,
+    const uint64_t *keys, size_t keys_len, const uint64_t *hot, size_t hot_len,
+    const uint64_t *shadows, size_t shadows_len, uint64_t *out, size_t out_len,
+    uint64_t *answer, size_t answer_len);
+
+/* Lists up to `k` keys with the most denials a second, most first, and tells how many: four words
+ * for each, the key and the bits of its three rates. */
+#define NULTIWAY_MOST_DENIED_ANSWER 1
+uint8_t nultiway_most_denied(const uint64_t *limiter, size_t limiter_len,
+    const uint64_t *keys, size_t keys_len, const uint64_t *hot, size_t hot_len,
+    const uint64_t *shadows, size_t shadows_len, uint64_t k, uint64_t *out, size_t out_len,
+    uint64_t *answer, size_t answer_len);
+
+/* Lists up to `k` keys with the most shadow denials a second likewise. */
+#define NULTIWAY_MOST_SHADOW_DENIED_ANSWER 1
+uint8_t nultiway_most_shadow_denied(const uint64_t *limiter, size_t limiter_len,
+    const uint64_t *keys, size_t keys_len, const uint64_t *hot, size_t hot_len,
+    const uint64_t *shadows, size_t shadows_len, uint64_t k, uint64_t *out, size_t out_len,
+    uint64_t *answer, size_t answer_len);
+
+/* ---- What a limiter tells. */
+
+/* Tells the quota that a key not seen before starts with in a limit: interval and burst. */
+#define NULTIWAY_NEW_KEY_QUOTA_ANSWER 2
+uint8_t nultiway_new_key_quota(const uint64_t *limiter, size_t limiter_len,
+    const uint64_t *keys, size_t keys_len, const uint64_t *hot, size_t hot_len,
+    const uint64_t *shadows, size_t shadows_len, double rate, uint32_t burst, uint64_t cluster_size,
+    uint64_t *answer, size_t answer_len);
+
+/* Tells the rate that a key not seen before starts with, as a part of its limit: the bits of a
+ * double. */
+#define NULTIWAY_NEW_KEY_FACTOR_ANSWER 1
+uint8_t nultiway_new_key_factor(const uint64_t *limiter, size_t limiter_len,
+    const uint64_t *keys, size_t keys_len, const uint64_t *hot, size_t hot_len,
+    const uint64_t *shadows, size_t shadows_len, uint64_t cluster_size,
+    uint64_t *answer, size_t answer_len);
+
+/* Tells whether a key is tracked, and the bits of its requests, denials and shadow denials a
+ * second. */
+#define NULTIWAY_KEY_RATES_ANSWER 4
+uint8_t nultiway_key_rates(const uint64_t *limiter, size_t limiter_len,
+    const uint64_t *keys, size_t keys_len, const uint64_t *hot, size_t hot_len,
+    const uint64_t *shadows, size_t shadows_len, uint64_t key, uint64_t *answer, size_t answer_len);
+
+/* Tells whether a key is tracked, and the interval and burst that it is held to. */
+#define NULTIWAY_QUOTA_ANSWER 3
+uint8_t nultiway_quota(const uint64_t *limiter, size_t limiter_len,
+    const uint64_t *keys, size_t keys_len, const uint64_t *hot, size_t hot_len,
+    const uint64_t *shadows, size_t shadows_len, uint64_t key, uint64_t *answer, size_t answer_len);
+
+/* Tells whether a key is tracked, and the limit that it was last given: the rate's bits and the
+ * burst. */
+#define NULTIWAY_LIMIT_ANSWER 3
+uint8_t nultiway_limit(const uint64_t *limiter, size_t limiter_len,
+    const uint64_t *keys, size_t keys_len, const uint64_t *hot, size_t hot_len,
+    const uint64_t *shadows, size_t shadows_len, uint64_t key, uint64_t *answer, size_t answer_len);
+
+/* Tells the settings: the first nine words of the limiter. */
+#define NULTIWAY_CONFIG_ANSWER 9
+uint8_t nultiway_config(const uint64_t *limiter, size_t limiter_len,
+    const uint64_t *keys, size_t keys_len, const uint64_t *hot, size_t hot_len,
+    const uint64_t *shadows, size_t shadows_len, uint64_t *answer, size_t answer_len);
+
+/* Tells whether a key is hot, and since when without a break. */
+#define NULTIWAY_HOT_SINCE_ANSWER 2
+uint8_t nultiway_hot_since(const uint64_t *limiter, size_t limiter_len,
+    const uint64_t *keys, size_t keys_len, const uint64_t *hot, size_t hot_len,
+    const uint64_t *shadows, size_t shadows_len, uint64_t key, uint64_t *answer, size_t answer_len);
+
+/* Tells whether a key is hot. */
+#define NULTIWAY_IS_HOT_ANSWER 1
+uint8_t nultiway_is_hot(const uint64_t *limiter, size_t limiter_len,
+    const uint64_t *keys, size_t keys_len, const uint64_t *hot, size_t hot_len,
+    const uint64_t *shadows, size_t shadows_len, uint64_t key, uint64_t *answer, size_t answer_len);
+
+/* Tells whether a key is tracked, hot or cold. */
+#define NULTIWAY_TRACKED_ANSWER 1
+uint8_t nultiway_tracked(const uint64_t *limiter, size_t limiter_len,
+    const uint64_t *keys, size_t keys_len, const uint64_t *hot, size_t hot_len,
+    const uint64_t *shadows, size_t shadows_len, uint64_t key, uint64_t *answer, size_t answer_len);
+
+/* Tells how many keys are hot. */
+#define NULTIWAY_HOT_KEYS_ANSWER 1
+uint8_t nultiway_hot_keys(const uint64_t *limiter, size_t limiter_len,
+    const uint64_t *keys, size_t keys_len, const uint64_t *hot, size_t hot_len,
+    const uint64_t *shadows, size_t shadows_len, uint64_t *answer, size_t answer_len);
+
+/* Tells how many keys are tracked. */
+#define NULTIWAY_TRACKED_KEYS_ANSWER 1
+uint8_t nultiway_tracked_keys(const uint64_t *limiter, size_t limiter_len,
+    const uint64_t *keys, size_t keys_len, const uint64_t *hot, size_t hot_len,
+    const uint64_t *shadows, size_t shadows_len, uint64_t *answer, size_t answer_len);
+
+/* ---- Calls on a quota or on `step` alone. */
+
+/* Makes the quota of a whole number of requests a second: interval and burst. */
+#define NULTIWAY_QUOTA_NEW_ANSWER 2
+uint8_t nultiway_quota_new(uint32_t rate, uint32_t burst, uint64_t *answer, size_t answer_len);
+
+/* Makes the quota of any rate, the longest interval where it is too slow or no rate: interval and
+ * burst. */
+#define NULTIWAY_QUOTA_PER_SECOND_ANSWER 2
+uint8_t nultiway_quota_per_second(double rate, uint32_t burst, uint64_t *answer, size_t answer_len);
+
+/* Reads the quota that a packed word holds: interval and burst. */
+#define NULTIWAY_QUOTA_UNPACK_ANSWER 2
+uint8_t nultiway_quota_unpack(uint64_t word, uint64_t *answer, size_t answer_len);
+
+/* Packs a quota into one word. */
+#define NULTIWAY_QUOTA_PACK_ANSWER 1
+uint8_t nultiway_quota_pack(uint64_t interval, uint32_t burst, uint64_t *answer, size_t answer_len);
+
+/* Tells the requests a second of a quota: the bits of a double. */
+#define NULTIWAY_QUOTA_RATE_PER_SEC_ANSWER 1
+uint8_t nultiway_quota_rate_per_sec(uint64_t interval, uint32_t burst,
+    uint64_t *answer, size_t answer_len);
+
+/* Tells the quoted ceiling: the most checks that a quota allows at readings from s to s +
+ * `window`. */
+#define NULTIWAY_QUOTA_CEILING_ANSWER 1
+uint8_t nultiway_quota_ceiling(uint64_t interval, uint32_t burst, uint64_t window,
+    uint64_t *answer, size_t answer_len);
+
+/* Makes one attempt on a TAT, 0 for none, and a packed quota: a decision, and the TAT after it. */
+#define NULTIWAY_STEP_ANSWER 3
+uint8_t nultiway_step(uint64_t tat, uint64_t packed, uint64_t reading,
+    uint64_t *answer, size_t answer_len);
+
+/* ---- What the peers tell. */
+
+/* Asks questions 1 and 2 of the peers and their tables. */
+uint8_t nultiway_peers_ask(const uint64_t *peers, size_t peers_len,
+    const uint64_t *peer_table, size_t peer_table_len,
+    const uint64_t *snapshot_keys, size_t snapshot_keys_len,
+    const uint64_t *contested, size_t contested_len);
+
+/* Tells whether a peer said something of a key, the bits of the demand (a float), whether the key
+ * is hot there by its own demand, the round, and when it was heard. */
+#define NULTIWAY_PEERS_GET_ANSWER 5
+uint8_t nultiway_peers_get(const uint64_t *peers, size_t peers_len,
+    const uint64_t *peer_table, size_t peer_table_len,
+    const uint64_t *snapshot_keys, size_t snapshot_keys_len,
+    const uint64_t *contested, size_t contested_len, uint64_t peer, uint64_t key,
+    uint64_t *answer, size_t answer_len);
+
+/* Tells the demand that all peers reported for a key, summed: the bits of a double. */
+#define NULTIWAY_PEERS_TOTAL_ANSWER 1
+uint8_t nultiway_peers_total(const uint64_t *peers, size_t peers_len,
+    const uint64_t *peer_table, size_t peer_table_len,
+    const uint64_t *snapshot_keys, size_t snapshot_keys_len,
+    const uint64_t *contested, size_t contested_len, uint64_t key,
+    uint64_t *answer, size_t answer_len);
+
+/* Tells whether some peer holds a key hot by its own demand. */
+#define NULTIWAY_PEERS_HOT_ELSEWHERE_ANSWER 1
+uint8_t nultiway_peers_hot_elsewhere(const uint64_t *peers, size_t peers_len,
+    const uint64_t *peer_table, size_t peer_table_len,
+    const uint64_t *snapshot_keys, size_t snapshot_keys_len,
+    const uint64_t *contested, size_t contested_len, uint64_t key,
+    uint64_t *answer, size_t answer_len);
+
+/* Tells how many keys are known over all peers. */
+#define NULTIWAY_PEERS_LEN_ANSWER 1
+uint8_t nultiway_peers_len(const uint64_t *peers, size_t peers_len,
+    const uint64_t *peer_table, size_t peer_table_len,
+    const uint64_t *snapshot_keys, size_t snapshot_keys_len,
+    const uint64_t *contested, size_t contested_len, uint64_t *answer, size_t answer_len);
+
+/* Tells whether no peer reported any key. */
+#define NULTIWAY_PEERS_IS_EMPTY_ANSWER 1
+uint8_t nultiway_peers_is_empty(const uint64_t *peers, size_t peers_len,
+    const uint64_t *peer_table, size_t peer_table_len,
+    const uint64_t *snapshot_keys, size_t snapshot_keys_len,
+    const uint64_t *contested, size_t contested_len, uint64_t *answer, size_t answer_len);
+
+/* Tells the demand that all peers reported for each of `count` keys, the first words of records of
+ * `width` words. */
+uint8_t nultiway_peers_total_of_each(const uint64_t *peers, size_t peers_len,
+    const uint64_t *peer_table, size_t peer_table_len,
+    const uint64_t *snapshot_keys, size_t snapshot_keys_len,
+    const uint64_t *contested, size_t contested_len, const uint64_t *keys, size_t keys_len,
+    uint64_t width, uint64_t count, double *out, size_t out_len);
+
+/* Tells of each of `count` keys, the first words of records of `width` words, whether some peer
+ * holds it hot by its own demand. */
+uint8_t nultiway_peers_hot_elsewhere_of_each(const uint64_t *peers, size_t peers_len,
+    const uint64_t *peer_table, size_t peer_table_len,
+    const uint64_t *snapshot_keys, size_t snapshot_keys_len,
+    const uint64_t *contested, size_t contested_len, const uint64_t *keys, size_t keys_len,
+    uint64_t width, uint64_t count, bool *out, size_t out_len);
+
+/* ---- Calls that make and change the peers. */
+
+/* Makes the peers' state, none heard from yet. */
+uint8_t nultiway_peers_new(uint64_t *peers, size_t peers_len,
+    const uint64_t *peer_table, size_t peer_table_len,
+    const uint64_t *snapshot_keys, size_t snapshot_keys_len,
+    const uint64_t *contested, size_t contested_len);
+
+/* Drops everything heard from a peer. */
+uint8_t nultiway_peers_forget(uint64_t *peers, size_t peers_len,
+    uint64_t *peer_table, size_t peer_table_len, uint64_t *snapshot_keys, size_t snapshot_keys_len,
+    uint64_t *contested, size_t contested_len, uint64_t peer);
+
+/* Lets a peer leave: it is forgotten where `hold` is 0, and otherwise all that it said counts for
+ * so long. */
+uint8_t nultiway_peers_leave(uint64_t *peers, size_t peers_len,
+    uint64_t *peer_table, size_t peer_table_len, uint64_t *snapshot_keys, size_t snapshot_keys_len,
+    uint64_t *contested, size_t contested_len, uint64_t peer, uint64_t reading, uint64_t hold);
+
+/* Drops what was last heard `max_age` ago or earlier, and the peers whose hold has ended. */
+uint8_t nultiway_peers_expire(uint64_t *peers, size_t peers_len,
+    uint64_t *peer_table, size_t peer_table_len, uint64_t *snapshot_keys, size_t snapshot_keys_len,
+    uint64_t *contested, size_t contested_len, uint64_t reading, uint64_t max_age);
+
+/* Applies a report of `count` keys that came from a peer: three words for each key, the key, the
+ * bits of its demand (a float), and whether it is hot there by its own demand. */
+uint8_t nultiway_peers_apply(uint64_t *peers, size_t peers_len,
+    uint64_t *peer_table, size_t peer_table_len, uint64_t *snapshot_keys, size_t snapshot_keys_len,
+    uint64_t *contested, size_t contested_len, uint64_t from, uint64_t origin, uint32_t epoch,
+    uint16_t round, const uint64_t *report, size_t report_len, uint64_t count, uint64_t reading);
+
+#ifdef __cplusplus
+}
+#endif
+
+#endif
