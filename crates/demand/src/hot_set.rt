@@ -1,6 +1,7 @@
 // The hot keys of a node. A key comes in with a demand above the threshold, as primary, or by the
 // word of a peer that has it so, as secondary. Below the threshold a primary key stays for the
 // cooldown; a full set takes a key in only by evicting its weakest.
+// The entries stand in lent words; the crate `hot_lent` has the same calls over a lent slice of them.
 use crate::words;
 use float::whole;
 ghost use mathlib.Core.Path.{_≡_};
@@ -136,7 +137,7 @@ impl HotEntry {
     }
 
     // The words of its record.
-    fn words(self) -> [u64; 6]
+    pub fn words(self) -> [u64; 6]
         ensures { λ r. ⌜ r ≡ Set.words self ⌝ }
     {
         let cooling = self.cooling_since;
@@ -182,6 +183,13 @@ impl HotEntry {
             cooling_since,
             since: hot[at + 5],
         }
+    }
+
+    // The entry of a record's words.
+    pub fn of_record(r: [u64; 6]) -> Self
+        ensures { λ e. ⌜ e ≡ Set.entry r ⌝ }
+    {
+        HotEntry::of_words(&r, 0)
     }
 
     // With new demand, and not cooling.
