@@ -3,6 +3,7 @@
 mod answers;
 mod calls;
 mod digits;
+mod entries;
 mod estimator;
 mod fields;
 mod helpers;
