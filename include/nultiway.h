@@ -120,21 +120,21 @@ enum nultiway_question {
 /* Makes a meter that has allowed nothing yet. */
 uint8_t nultiway_gcra_new(uint64_t *gcra, size_t gcra_len, uint64_t interval, uint32_t burst);
 
-/* Allows or denies one request by a meter: a decision. */
+/* Decides on a request by a meter. */
 #define NULTIWAY_GCRA_CHECK_ANSWER 2
 uint8_t nultiway_gcra_check(uint64_t *gcra, size_t gcra_len, uint64_t reading,
     uint64_t *answer, size_t answer_len);
 
-/* Switches a meter to another quota and carries its debt over in requests. */
+/* Changes a meter's quota: a debt of so many slots of the old one is as many of the new one. */
 uint8_t nultiway_gcra_set_quota(uint64_t *gcra, size_t gcra_len, uint64_t interval, uint32_t burst,
     uint64_t reading);
 
-/* Tells whether a meter has allowed requests ahead of their time. */
+/* Tells whether a meter's TAT is later than the reading. */
 #define NULTIWAY_GCRA_HAS_DEBT_ANSWER 1
 uint8_t nultiway_gcra_has_debt(const uint64_t *gcra, size_t gcra_len, uint64_t reading,
     uint64_t *answer, size_t answer_len);
 
-/* Tells whether a meter would deny a request, and how long until it would allow one. */
+/* Tells whether a meter would deny a check, and the nanoseconds to wait then. */
 #define NULTIWAY_GCRA_RETRY_AFTER_ANSWER 2
 uint8_t nultiway_gcra_retry_after(const uint64_t *gcra, size_t gcra_len, uint64_t reading,
     uint64_t *answer, size_t answer_len);
@@ -186,24 +186,25 @@ uint8_t nultiway_limiter_ask(const uint64_t *limiter, size_t limiter_len,
     const uint64_t *keys, size_t keys_len, const uint64_t *hot, size_t hot_len,
     const uint64_t *shadows, size_t shadows_len);
 
-/* Holds every key at no more than `cap` times its rate, or lifts the cap where `has_cap` is 0. */
+/* Sets the cap, the greatest part of its limit that a key gets, or lifts it where `has_cap` is
+ * 0. */
 uint8_t nultiway_set_cap(uint64_t *limiter, size_t limiter_len,
     const uint64_t *keys, size_t keys_len, const uint64_t *hot, size_t hot_len,
     const uint64_t *shadows, size_t shadows_len, uint8_t has_cap, double cap);
 
-/* Counts the attempts and denials that a runtime with a table of its own collected for a key. */
+/* Adds attempts and denials of a key that were counted elsewhere. */
 uint8_t nultiway_record(uint64_t *limiter, size_t limiter_len, uint64_t *keys, size_t keys_len,
     const uint64_t *hot, size_t hot_len, const uint64_t *shadows, size_t shadows_len, uint64_t key,
     uint64_t attempts, uint64_t denials, uint64_t shadow_denials, double rate, uint32_t burst,
     uint64_t reading, uint64_t cluster_size);
 
-/* Folds demand, moves keys between hot and cold, sets quotas and drops idle keys, once a period. */
+/* Does the work of a period: estimators, hot set, quotas, and the keys that go. */
 uint8_t nultiway_tick(uint64_t *limiter, size_t limiter_len, uint64_t *keys, size_t keys_len,
     uint64_t *hot, size_t hot_len, uint64_t *shadows, size_t shadows_len, uint64_t reading,
     uint64_t cluster_size);
 
-/* Does the same, where a hot key gets the share of its limit that its demand has in the cluster's,
- * by what the peers reported. */
+/* Does the same with what the peers told: they decide a hot key's share, and which keys are hot
+ * elsewhere. */
 uint8_t nultiway_tick_with_shares(uint64_t *limiter, size_t limiter_len,
     uint64_t *keys, size_t keys_len, uint64_t *hot, size_t hot_len,
     uint64_t *shadows, size_t shadows_len, const uint64_t *peers, size_t peers_len,
@@ -213,21 +214,21 @@ uint8_t nultiway_tick_with_shares(uint64_t *limiter, size_t limiter_len,
 
 /* ---- Checks of keys. */
 
-/* Allows or denies one request for a key at the limiter's own limit: a decision. */
+/* Decides on a request for a key under the settings' limit. */
 #define NULTIWAY_CHECK_ANSWER 2
 uint8_t nultiway_check(uint64_t *limiter, size_t limiter_len, uint64_t *keys, size_t keys_len,
     const uint64_t *hot, size_t hot_len, const uint64_t *shadows, size_t shadows_len, uint64_t key,
     uint64_t reading, uint64_t cluster_size, uint64_t *answer, size_t answer_len);
 
-/* Allows or denies one request for a key with a limit of its own: a decision. */
+/* Decides on a request for a key under the limit given. */
 #define NULTIWAY_CHECK_IN_ANSWER 2
 uint8_t nultiway_check_in(uint64_t *limiter, size_t limiter_len, uint64_t *keys, size_t keys_len,
     const uint64_t *hot, size_t hot_len, const uint64_t *shadows, size_t shadows_len, uint64_t key,
     double rate, uint32_t burst, uint64_t reading, uint64_t cluster_size,
     uint64_t *answer, size_t answer_len);
 
-/* Does the same and tells what a shadow limit would have decided, none where `has_shadow` is 0: a
- * decision, whether there is a shadow, and its decision. */
+/* Does the same and tells a shadow limit's decision, none where `has_shadow` is 0: a decision,
+ * whether there is a shadow, and its decision. */
 #define NULTIWAY_CHECK_IN_TRACED_ANSWER 5
 uint8_t nultiway_check_in_traced(uint64_t *limiter, size_t limiter_len,
     uint64_t *keys, size_t keys_len, const uint64_t *hot, size_t hot_len,
@@ -244,23 +245,23 @@ uint8_t nultiway_check_each(uint64_t *limiter, size_t limiter_len, uint64_t *key
 
 /* ---- Lists of keys, in words that the caller lends for them. */
 
-/* Lists the hot keys, busiest first, and tells how many: three words for each, the key, its
- * demand's bits, and whether it is hot by that demand. */
+/* Lists the hot keys, greatest demand first, and tells how many: three words for each, the key, its
+ * demand's bits, and whether it is primary. */
 #define NULTIWAY_HOT_DEMAND_ANSWER 1
 uint8_t nultiway_hot_demand(const uint64_t *limiter, size_t limiter_len,
     const uint64_t *keys, size_t keys_len, const uint64_t *hot, size_t hot_len,
     const uint64_t *shadows, size_t shadows_len, uint64_t *out, size_t out_len,
     uint64_t *answer, size_t answer_len);
 
-/* Lists up to `k` keys with the most denials a second, most first, and tells how many: four words
- * for each, the key and the bits of its three rates. */
+/* Lists the first `k` keys by denials a second, and tells how many: four words for each, the key
+ * and the bits of its three rates. */
 #define NULTIWAY_MOST_DENIED_ANSWER 1
 uint8_t nultiway_most_denied(const uint64_t *limiter, size_t limiter_len,
     const uint64_t *keys, size_t keys_len, const uint64_t *hot, size_t hot_len,
     const uint64_t *shadows, size_t shadows_len, uint64_t k, uint64_t *out, size_t out_len,
     uint64_t *answer, size_t answer_len);
 
-/* Lists up to `k` keys with the most shadow denials a second likewise. */
+/* Lists the first `k` keys by shadow denials a second likewise. */
 #define NULTIWAY_MOST_SHADOW_DENIED_ANSWER 1
 uint8_t nultiway_most_shadow_denied(const uint64_t *limiter, size_t limiter_len,
     const uint64_t *keys, size_t keys_len, const uint64_t *hot, size_t hot_len,
@@ -269,36 +270,34 @@ uint8_t nultiway_most_shadow_denied(const uint64_t *limiter, size_t limiter_len,
 
 /* ---- What a limiter tells. */
 
-/* Tells the quota that a key not seen before starts with in a limit: interval and burst. */
+/* Tells a new key's quota under a limit: interval and burst. */
 #define NULTIWAY_NEW_KEY_QUOTA_ANSWER 2
 uint8_t nultiway_new_key_quota(const uint64_t *limiter, size_t limiter_len,
     const uint64_t *keys, size_t keys_len, const uint64_t *hot, size_t hot_len,
     const uint64_t *shadows, size_t shadows_len, double rate, uint32_t burst, uint64_t cluster_size,
     uint64_t *answer, size_t answer_len);
 
-/* Tells the rate that a key not seen before starts with, as a part of its limit: the bits of a
- * double. */
+/* Tells a new key's part of its limit: the bits of a double. */
 #define NULTIWAY_NEW_KEY_FACTOR_ANSWER 1
 uint8_t nultiway_new_key_factor(const uint64_t *limiter, size_t limiter_len,
     const uint64_t *keys, size_t keys_len, const uint64_t *hot, size_t hot_len,
     const uint64_t *shadows, size_t shadows_len, uint64_t cluster_size,
     uint64_t *answer, size_t answer_len);
 
-/* Tells whether a key is tracked, and the bits of its requests, denials and shadow denials a
- * second. */
+/* Tells whether a key is tracked, and the bits of three rates a second: requests, denials, and
+ * shadow denials. */
 #define NULTIWAY_KEY_RATES_ANSWER 4
 uint8_t nultiway_key_rates(const uint64_t *limiter, size_t limiter_len,
     const uint64_t *keys, size_t keys_len, const uint64_t *hot, size_t hot_len,
     const uint64_t *shadows, size_t shadows_len, uint64_t key, uint64_t *answer, size_t answer_len);
 
-/* Tells whether a key is tracked, and the interval and burst that it is held to. */
+/* Tells whether a key is tracked, and the interval and burst of its quota. */
 #define NULTIWAY_QUOTA_ANSWER 3
 uint8_t nultiway_quota(const uint64_t *limiter, size_t limiter_len,
     const uint64_t *keys, size_t keys_len, const uint64_t *hot, size_t hot_len,
     const uint64_t *shadows, size_t shadows_len, uint64_t key, uint64_t *answer, size_t answer_len);
 
-/* Tells whether a key is tracked, and the limit that it was last given: the rate's bits and the
- * burst. */
+/* Tells whether a key is tracked, and its limit: the rate's bits and the burst. */
 #define NULTIWAY_LIMIT_ANSWER 3
 uint8_t nultiway_limit(const uint64_t *limiter, size_t limiter_len,
     const uint64_t *keys, size_t keys_len, const uint64_t *hot, size_t hot_len,
@@ -310,7 +309,7 @@ uint8_t nultiway_config(const uint64_t *limiter, size_t limiter_len,
     const uint64_t *keys, size_t keys_len, const uint64_t *hot, size_t hot_len,
     const uint64_t *shadows, size_t shadows_len, uint64_t *answer, size_t answer_len);
 
-/* Tells whether a key is hot, and since when without a break. */
+/* Tells whether a key is hot, and when it came into the hot set. */
 #define NULTIWAY_HOT_SINCE_ANSWER 2
 uint8_t nultiway_hot_since(const uint64_t *limiter, size_t limiter_len,
     const uint64_t *keys, size_t keys_len, const uint64_t *hot, size_t hot_len,
@@ -322,7 +321,7 @@ uint8_t nultiway_is_hot(const uint64_t *limiter, size_t limiter_len,
     const uint64_t *keys, size_t keys_len, const uint64_t *hot, size_t hot_len,
     const uint64_t *shadows, size_t shadows_len, uint64_t key, uint64_t *answer, size_t answer_len);
 
-/* Tells whether a key is tracked, hot or cold. */
+/* Tells whether a key is tracked. */
 #define NULTIWAY_TRACKED_ANSWER 1
 uint8_t nultiway_tracked(const uint64_t *limiter, size_t limiter_len,
     const uint64_t *keys, size_t keys_len, const uint64_t *hot, size_t hot_len,
@@ -384,7 +383,7 @@ uint8_t nultiway_peers_ask(const uint64_t *peers, size_t peers_len,
     const uint64_t *contested, size_t contested_len);
 
 /* Tells whether a peer said something of a key, the bits of the demand (a float), whether the key
- * is hot there by its own demand, the round, and when it was heard. */
+ * is primary there, the round, and when it was heard. */
 #define NULTIWAY_PEERS_GET_ANSWER 5
 uint8_t nultiway_peers_get(const uint64_t *peers, size_t peers_len,
     const uint64_t *peer_table, size_t peer_table_len,
@@ -392,7 +391,7 @@ uint8_t nultiway_peers_get(const uint64_t *peers, size_t peers_len,
     const uint64_t *contested, size_t contested_len, uint64_t peer, uint64_t key,
     uint64_t *answer, size_t answer_len);
 
-/* Tells the demand that all peers reported for a key, summed: the bits of a double. */
+/* Tells the peers' demands for a key, added up: the bits of a double. */
 #define NULTIWAY_PEERS_TOTAL_ANSWER 1
 uint8_t nultiway_peers_total(const uint64_t *peers, size_t peers_len,
     const uint64_t *peer_table, size_t peer_table_len,
@@ -400,7 +399,7 @@ uint8_t nultiway_peers_total(const uint64_t *peers, size_t peers_len,
     const uint64_t *contested, size_t contested_len, uint64_t key,
     uint64_t *answer, size_t answer_len);
 
-/* Tells whether some peer holds a key hot by its own demand. */
+/* Tells whether a key is primary at a peer. */
 #define NULTIWAY_PEERS_HOT_ELSEWHERE_ANSWER 1
 uint8_t nultiway_peers_hot_elsewhere(const uint64_t *peers, size_t peers_len,
     const uint64_t *peer_table, size_t peer_table_len,
@@ -408,21 +407,21 @@ uint8_t nultiway_peers_hot_elsewhere(const uint64_t *peers, size_t peers_len,
     const uint64_t *contested, size_t contested_len, uint64_t key,
     uint64_t *answer, size_t answer_len);
 
-/* Tells how many keys are known over all peers. */
+/* Tells the number of keys of all peers. */
 #define NULTIWAY_PEERS_LEN_ANSWER 1
 uint8_t nultiway_peers_len(const uint64_t *peers, size_t peers_len,
     const uint64_t *peer_table, size_t peer_table_len,
     const uint64_t *snapshot_keys, size_t snapshot_keys_len,
     const uint64_t *contested, size_t contested_len, uint64_t *answer, size_t answer_len);
 
-/* Tells whether no peer reported any key. */
+/* Tells whether there is no key of any peer. */
 #define NULTIWAY_PEERS_IS_EMPTY_ANSWER 1
 uint8_t nultiway_peers_is_empty(const uint64_t *peers, size_t peers_len,
     const uint64_t *peer_table, size_t peer_table_len,
     const uint64_t *snapshot_keys, size_t snapshot_keys_len,
     const uint64_t *contested, size_t contested_len, uint64_t *answer, size_t answer_len);
 
-/* Tells the demand that all peers reported for each of `count` keys, the first words of records of
+/* Tells the peers' demands, added up, for each of `count` keys, the first words of records of
  * `width` words. */
 uint8_t nultiway_peers_total_of_each(const uint64_t *peers, size_t peers_len,
     const uint64_t *peer_table, size_t peer_table_len,
@@ -430,8 +429,8 @@ uint8_t nultiway_peers_total_of_each(const uint64_t *peers, size_t peers_len,
     const uint64_t *contested, size_t contested_len, const uint64_t *keys, size_t keys_len,
     uint64_t width, uint64_t count, double *out, size_t out_len);
 
-/* Tells of each of `count` keys, the first words of records of `width` words, whether some peer
- * holds it hot by its own demand. */
+/* Tells of each of `count` keys, the first words of records of `width` words, whether it is primary
+ * at a peer. */
 uint8_t nultiway_peers_hot_elsewhere_of_each(const uint64_t *peers, size_t peers_len,
     const uint64_t *peer_table, size_t peer_table_len,
     const uint64_t *snapshot_keys, size_t snapshot_keys_len,
@@ -440,30 +439,29 @@ uint8_t nultiway_peers_hot_elsewhere_of_each(const uint64_t *peers, size_t peers
 
 /* ---- Calls that make and change the peers. */
 
-/* Makes the peers' state, none heard from yet. */
+/* Makes the state of peers of which none is known. */
 uint8_t nultiway_peers_new(uint64_t *peers, size_t peers_len,
     const uint64_t *peer_table, size_t peer_table_len,
     const uint64_t *snapshot_keys, size_t snapshot_keys_len,
     const uint64_t *contested, size_t contested_len);
 
-/* Drops everything heard from a peer. */
+/* Removes a peer's record and keys. */
 uint8_t nultiway_peers_forget(uint64_t *peers, size_t peers_len,
     uint64_t *peer_table, size_t peer_table_len, uint64_t *snapshot_keys, size_t snapshot_keys_len,
     uint64_t *contested, size_t contested_len, uint64_t peer);
 
-/* Lets a peer leave: it is forgotten where `hold` is 0, and otherwise all that it said counts for
- * so long. */
+/* Lets a peer leave: it is removed at once where `hold` is 0, and else held for that time. */
 uint8_t nultiway_peers_leave(uint64_t *peers, size_t peers_len,
     uint64_t *peer_table, size_t peer_table_len, uint64_t *snapshot_keys, size_t snapshot_keys_len,
     uint64_t *contested, size_t contested_len, uint64_t peer, uint64_t reading, uint64_t hold);
 
-/* Drops what was last heard `max_age` ago or earlier, and the peers whose hold has ended. */
+/* Removes what is `max_age` old, and peers that are held no longer. */
 uint8_t nultiway_peers_expire(uint64_t *peers, size_t peers_len,
     uint64_t *peer_table, size_t peer_table_len, uint64_t *snapshot_keys, size_t snapshot_keys_len,
     uint64_t *contested, size_t contested_len, uint64_t reading, uint64_t max_age);
 
 /* Applies a report of `count` keys that came from a peer: three words for each key, the key, the
- * bits of its demand (a float), and whether it is hot there by its own demand. */
+ * bits of its demand (a float), and whether it is primary there. */
 uint8_t nultiway_peers_apply(uint64_t *peers, size_t peers_len,
     uint64_t *peer_table, size_t peer_table_len, uint64_t *snapshot_keys, size_t snapshot_keys_len,
     uint64_t *contested, size_t contested_len, uint64_t from, uint64_t origin, uint32_t epoch,

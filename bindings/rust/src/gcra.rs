@@ -6,7 +6,7 @@ use crate::refused::{answered, or_panic, Refused};
 use crate::sizes::GCRA_WORDS;
 use crate::words;
 
-/// Time in nanoseconds since an origin that the caller picks.
+/// A reading of the caller's clock, in nanoseconds.
 pub type Nanos = u64;
 
 /// The longest interval of a quota, 2^40 − 1 milliseconds.
@@ -15,7 +15,7 @@ pub const MAX_INTERVAL: Nanos = ((1 << 40) - 1) * 1_000_000;
 /// The largest burst of a quota.
 pub const MAX_BURST: u32 = (1 << 22) - 1;
 
-/// A rate, kept as the interval between requests, and how many requests may arrive back to back.
+/// An interval in nanoseconds, one request each, and a burst.
 #[derive(Debug, Clone, Copy, PartialEq, Eq)]
 pub struct Quota {
     interval: Nanos,
@@ -25,11 +25,11 @@ pub struct Quota {
 /// The answer to a request.
 #[derive(Debug, Clone, Copy, PartialEq, Eq)]
 pub enum Decision {
-    /// Serve the request.
+    /// The request passes.
     Allow,
-    /// Denied: the request would be allowed at `retry_at`, unless others take that slot first.
+    /// The request does not pass.
     Deny {
-        /// The earliest time at which a request could be allowed.
+        /// When a check would pass, with no other one allowed before it.
         retry_at: Nanos,
     },
 }
@@ -137,12 +137,12 @@ impl Quota {
         or_panic(self.try_ceiling(window))
     }
 
-    /// The time between requests.
+    /// The interval, in nanoseconds.
     pub fn interval(&self) -> Nanos {
         self.interval
     }
 
-    /// How many requests may arrive back to back.
+    /// The burst.
     pub fn burst(&self) -> u32 {
         self.burst
     }
@@ -200,7 +200,7 @@ impl Gcra {
         or_panic(self.try_check(now))
     }
 
-    /// Switches to another quota; the debt is carried over in requests.
+    /// Changes the quota; a debt of so many slots of the old one is as many of the new one.
     pub fn try_set_quota(&mut self, quota: Quota, now: Nanos) -> Result<(), Refused> {
         answered(words::gcra_set_quota(&mut self.words, quota.interval, quota.burst, now))
     }
@@ -211,7 +211,7 @@ impl Gcra {
         or_panic(self.try_set_quota(quota, now))
     }
 
-    /// Whether requests were allowed ahead of their time.
+    /// Whether the TAT is later than the reading.
     pub fn try_has_debt(&self, now: Nanos) -> Result<bool, Refused> {
         Quota::told(|answer| words::gcra_has_debt(&self.words, now, answer)).map(|flag| flag != 0)
     }
@@ -222,7 +222,7 @@ impl Gcra {
         or_panic(self.try_has_debt(now))
     }
 
-    /// How long until a request would be allowed; `None` where it would be now.
+    /// The nanoseconds that a denied check has to wait; `None` where a check would pass.
     pub fn try_retry_after(&self, now: Nanos) -> Result<Option<Duration>, Refused> {
         let mut answer = [0; 2];
         answered(words::gcra_retry_after(&self.words, now, &mut answer))?;

@@ -1,4 +1,4 @@
-//! Enforcement on one node: a meter for each key, on a share of the limit.
+//! The limiter of a node: a quota and a meter for every tracked key.
 
 use crate::gcra::{Decision, Nanos};
 use crate::peer_demand::PeerDemand;
@@ -9,50 +9,50 @@ use crate::words;
 /// One key's limit.
 #[derive(Debug, Clone, Copy, PartialEq)]
 pub struct Limit {
-    /// Requests a second, across the whole cluster.
+    /// The rate of all nodes together.
     pub rate: f64,
-    /// How many requests the key may get back to back on one node.
+    /// The burst on each node.
     pub burst: u32,
 }
 
-/// How one node enforces limits.
+/// A limiter's settings.
 #[derive(Debug, Clone, Copy, PartialEq)]
 pub struct Config {
-    /// The limit of a key that is given none of its own.
+    /// What `check` holds a key to.
     pub limit: Limit,
-    /// The part of the per-node rate that a cold key gets, in (0, 1].
+    /// A cold key's part of an even split, above 0 and at most 1.
     pub alpha: f64,
-    /// The part of a hot key's limit that is split evenly as a floor, in [0, 1].
+    /// What every node has of a hot key's limit whatever its demand, from 0 to 1.
     pub floor_factor: f64,
-    /// How long a hot key stays hot after its demand drops below the threshold.
+    /// Nanoseconds below the threshold until a key is no longer hot.
     pub cooldown: Nanos,
     /// The most hot keys, at most 64.
     pub hot_set_size: usize,
     /// The most keys that a tick leaves tracked.
     pub max_tracked_keys: usize,
-    /// How fast the demand average follows a change.
+    /// The time constant of the estimators of demand.
     pub demand_time_constant: Nanos,
 }
 
-/// What a runtime that enforces in its own table counted for one key since it last told.
+/// Counts of one key that were taken elsewhere, for `record`.
 #[derive(Debug, Clone, Copy, Default, PartialEq, Eq)]
 pub struct Tally {
-    /// Requests, allowed or not.
+    /// All checks.
     pub attempts: u64,
-    /// Of those, the ones denied.
+    /// The denied ones.
     pub denials: u64,
-    /// Of the attempts, those that the key's shadow limit would have denied.
+    /// Those that a shadow limit denies.
     pub shadow_denials: u64,
 }
 
-/// A key's requests, denials and shadow denials a second.
+/// Three rates of a key, a second each.
 #[derive(Debug, Clone, Copy, PartialEq)]
 pub struct KeyRates {
-    /// Requests, allowed or not.
+    /// Checks.
     pub requests_per_sec: f64,
-    /// Of those, the ones denied.
+    /// Denied checks.
     pub denied_per_sec: f64,
-    /// Those that the key's shadow limit would have denied.
+    /// Checks that its shadow limit denies.
     pub shadow_denied_per_sec: f64,
 }
 
@@ -171,7 +171,7 @@ impl Limiter {
         answered(words::limiter_ask(&self.words, &self.tables.keys, &self.tables.hot, &self.tables.shadows))
     }
 
-    /// Holds every key at no more than `cap` times its own rate, or lifts the cap; NaN counts as none.
+    /// Sets or lifts the cap, the greatest part of its limit that a key gets; NaN counts as none.
     pub fn try_set_cap(&mut self, cap: Option<f64>) -> Result<(), Refused> {
         let Self { words, tables, .. } = self;
         let (has_cap, cap) = (cap.is_some().into(), cap.unwrap_or_default());
@@ -184,7 +184,7 @@ impl Limiter {
         or_panic(self.try_set_cap(cap))
     }
 
-    /// Allows or denies one request for `key` at the config's limit.
+    /// Decides on a request for `key` under the settings' limit.
     pub fn try_check(&mut self, key: u64, now: Nanos, cluster_size: usize) -> Result<Decision, Refused> {
         let Self { words, tables, .. } = self;
         let (n, mut answer) = (cluster_size as u64, [0; 2]);
@@ -198,7 +198,7 @@ impl Limiter {
         or_panic(self.try_check(key, now, cluster_size))
     }
 
-    /// Like `check`, for a key with a limit of its own; a changed limit applies from the next tick.
+    /// Decides under another limit, which a tracked key takes over at the next tick.
     pub fn try_check_in(
         &mut self,
         key: u64,
@@ -218,7 +218,7 @@ impl Limiter {
         or_panic(self.try_check_in(key, limit, now, cluster_size))
     }
 
-    /// Like `check_in`, with the decision that `shadow`, a limit only tried out, would have taken.
+    /// Decides as `check_in` does, and tells the decision of a shadow limit beside it.
     pub fn try_check_in_traced(
         &mut self,
         key: u64,
@@ -264,7 +264,7 @@ impl Limiter {
         or_panic(self.try_check_in_traced(key, limit, shadow, now, cluster_size))
     }
 
-    /// Counts what a runtime that enforces in its own table collected for `key`.
+    /// Adds counts that were taken elsewhere to those of `key`.
     pub fn try_record(
         &mut self,
         key: u64,
@@ -312,7 +312,7 @@ impl Limiter {
         answered(words::check_each(words, keys, hot, shadows, list, count, n, out))
     }
 
-    /// Folds demand, moves keys between cold and hot, sets their quotas and keeps to `max_tracked_keys`: once a period.
+    /// The work of a period: estimators, hot set, quotas, and the keys that go.
     pub fn try_tick(&mut self, now: Nanos, cluster_size: usize) -> Result<(), Refused> {
         let Self { words, tables: Tables { keys, hot, shadows }, .. } = self;
         answered(words::tick(words, keys, hot, shadows, now, cluster_size as u64))
@@ -324,8 +324,7 @@ impl Limiter {
         or_panic(self.try_tick(now, cluster_size))
     }
 
-    /// Like `tick`, where a hot key gets the share of its limit that its demand has in the cluster's, and a key that a
-    /// peer holds hot is hot here too while it has any demand.
+    /// The same with what the peers told: they decide a hot key's share, and which keys are hot elsewhere.
     pub fn try_tick_with_shares(&mut self, now: Nanos, cluster_size: usize, peers: &PeerDemand) -> Result<(), Refused> {
         let Self { words, tables: Tables { keys, hot, shadows }, .. } = self;
         let (there, n) = (&peers.tables, cluster_size as u64);

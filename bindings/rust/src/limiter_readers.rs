@@ -34,7 +34,7 @@ impl Limiter {
         self.told_of::<N>(read, key).map(|answer| (answer[0] != 0).then_some(answer))
     }
 
-    /// The key's requests, denials and shadow denials a second, if it is tracked.
+    /// The three rates of a tracked key.
     pub fn try_key_rates(&self, key: u64) -> Result<Option<KeyRates>, Refused> {
         Ok(self.maybe_of::<4>(words::key_rates, key)?.map(|answer| rates_of(&answer[1..])))
     }
@@ -45,7 +45,7 @@ impl Limiter {
         or_panic(self.try_key_rates(key))
     }
 
-    /// The quota that `key` is held to, if it is tracked.
+    /// A tracked key's quota.
     pub fn try_quota(&self, key: u64) -> Result<Option<Quota>, Refused> {
         Ok(self.maybe_of::<3>(words::quota, key)?.map(|answer| Quota::of(answer[1], answer[2])))
     }
@@ -56,7 +56,7 @@ impl Limiter {
         or_panic(self.try_quota(key))
     }
 
-    /// The limit that `key` was last given, if it is tracked.
+    /// A tracked key's limit.
     pub fn try_limit(&self, key: u64) -> Result<Option<Limit>, Refused> {
         let limit = |answer: [u64; 3]| Limit { rate: f64::from_bits(answer[1]), burst: answer[2] as u32 };
         Ok(self.maybe_of::<3>(words::limit, key)?.map(limit))
@@ -68,7 +68,7 @@ impl Limiter {
         or_panic(self.try_limit(key))
     }
 
-    /// The quota that a key not seen before starts with in `limit`.
+    /// A new key's quota under `limit`.
     pub fn try_new_key_quota(&self, limit: Limit, cluster_size: usize) -> Result<Quota, Refused> {
         let Tables { keys, hot, shadows } = &self.tables;
         let (n, mut answer) = (cluster_size as u64, [0; 2]);
@@ -83,7 +83,7 @@ impl Limiter {
         or_panic(self.try_new_key_quota(limit, cluster_size))
     }
 
-    /// The rate that a key not seen before starts with, as a part of its limit.
+    /// A new key's part of its limit.
     pub fn try_new_key_factor(&self, cluster_size: usize) -> Result<f64, Refused> {
         self.told_of::<1>(words::new_key_factor, cluster_size as u64).map(|answer| f64::from_bits(answer[0]))
     }
@@ -94,7 +94,7 @@ impl Limiter {
         or_panic(self.try_new_key_factor(cluster_size))
     }
 
-    /// The hot keys with their demand in attempts a second and whether they are hot by that demand, busiest first.
+    /// The hot keys, greatest demand first: demand, and whether the key is primary.
     pub fn try_hot_demand(&self) -> Result<Vec<(u64, f64, bool)>, Refused> {
         let Tables { keys, hot, shadows } = &self.tables;
         let (mut out, mut count) = ([0; 3 * MAX_HOT], [0]);
@@ -119,7 +119,7 @@ impl Limiter {
         Ok(out.chunks_exact(4).take(count[0] as usize).map(entry).collect())
     }
 
-    /// Up to `k` keys with the most denials a second, most denied first, with their rates.
+    /// The first `k` keys by denials a second, with their rates.
     pub fn try_most_denied(&self, k: usize) -> Result<Vec<(u64, KeyRates)>, Refused> {
         self.listed(words::most_denied, k)
     }
@@ -130,7 +130,7 @@ impl Limiter {
         or_panic(self.try_most_denied(k))
     }
 
-    /// Like `most_denied`, by the denials that the keys' shadow limits would have made.
+    /// The first `k` keys by shadow denials a second.
     pub fn try_most_shadow_denied(&self, k: usize) -> Result<Vec<(u64, KeyRates)>, Refused> {
         self.listed(words::most_shadow_denied, k)
     }
@@ -141,7 +141,7 @@ impl Limiter {
         or_panic(self.try_most_shadow_denied(k))
     }
 
-    /// Since when the key has been hot without a break, if it is.
+    /// When a hot key came into the hot set.
     pub fn try_hot_since(&self, key: u64) -> Result<Option<Nanos>, Refused> {
         Ok(self.maybe_of::<2>(words::hot_since, key)?.map(|answer| answer[1]))
     }
@@ -152,7 +152,7 @@ impl Limiter {
         or_panic(self.try_hot_since(key))
     }
 
-    /// Whether the key is hot here.
+    /// Whether the hot set has the key.
     pub fn try_is_hot(&self, key: u64) -> Result<bool, Refused> {
         self.told_of::<1>(words::is_hot, key).map(|answer| answer[0] != 0)
     }
@@ -163,7 +163,7 @@ impl Limiter {
         or_panic(self.try_is_hot(key))
     }
 
-    /// Whether the key has state here, hot or cold.
+    /// Whether the key is tracked.
     pub fn try_tracked(&self, key: u64) -> Result<bool, Refused> {
         self.told_of::<1>(words::tracked, key).map(|answer| answer[0] != 0)
     }
@@ -174,7 +174,7 @@ impl Limiter {
         or_panic(self.try_tracked(key))
     }
 
-    /// How many keys have state here.
+    /// The number of tracked keys.
     pub fn try_tracked_keys(&self) -> Result<usize, Refused> {
         let count: Reader =
             |words, keys, hot, shadows, _, answer| words::tracked_keys(words, keys, hot, shadows, answer);
@@ -187,7 +187,7 @@ impl Limiter {
         or_panic(self.try_tracked_keys())
     }
 
-    /// How many keys are hot here.
+    /// The size of the hot set now.
     pub fn try_hot_keys(&self) -> Result<usize, Refused> {
         let count: Reader = |words, keys, hot, shadows, _, answer| words::hot_keys(words, keys, hot, shadows, answer);
         self.told_of::<1>(count, 0).map(|answer| answer[0] as usize)

@@ -7,16 +7,16 @@ use crate::refused::{answered, or_panic, Refused};
 use crate::sizes::{CONTESTED_SIZE, MAX_DEMAND_KEYS, PEERS_WORDS, PEER_TABLE_SIZE, SNAPSHOT_KEYS_SIZE};
 use crate::words;
 
-/// What a peer said about one key: the most of what still counts.
+/// A peer's word on a key.
 #[derive(Debug, Clone, Copy, PartialEq)]
 pub struct Heard {
-    /// Attempts a second at the peer.
+    /// The demand that it reported.
     pub demand: f32,
-    /// Whether the key is hot at the peer by its own demand.
+    /// Whether it holds the key as primary.
     pub primary: bool,
-    /// The peer's round of the report that the demand comes from.
+    /// The report's round.
     pub round: u16,
-    /// When that report came in.
+    /// The reading at which it came.
     pub heard_at: Nanos,
 }
 
@@ -128,7 +128,7 @@ impl PeerDemand {
         or_panic(self.try_apply(from, report, now))
     }
 
-    /// Drops everything heard from `peer`.
+    /// Removes a peer's record and keys.
     pub fn try_forget(&mut self, peer: PeerId) -> Result<(), Refused> {
         let Self { words, tables: Tables { peers, snapshot_keys, contested } } = self;
         answered(words::peers_forget(words, peers, snapshot_keys, contested, peer.get()))
@@ -140,7 +140,7 @@ impl PeerDemand {
         or_panic(self.try_forget(peer))
     }
 
-    /// The peer left: with a `hold` of 0 it is forgotten, otherwise all it said counts for so long.
+    /// A peer leaves: it is removed at once where `hold` is 0, and else held for that time.
     pub fn try_leave(&mut self, peer: PeerId, now: Nanos, hold: Nanos) -> Result<(), Refused> {
         let Self { words, tables: Tables { peers, snapshot_keys, contested } } = self;
         answered(words::peers_leave(words, peers, snapshot_keys, contested, peer.get(), now, hold))
@@ -152,7 +152,7 @@ impl PeerDemand {
         or_panic(self.try_leave(peer, now, hold))
     }
 
-    /// Drops what was last heard `max_age` ago or earlier, and the peers whose hold has ended.
+    /// Removes what is `max_age` old, and peers that are held no longer.
     pub fn try_expire(&mut self, now: Nanos, max_age: Nanos) -> Result<(), Refused> {
         let Self { words, tables: Tables { peers, snapshot_keys, contested } } = self;
         answered(words::peers_expire(words, peers, snapshot_keys, contested, now, max_age))
@@ -164,7 +164,7 @@ impl PeerDemand {
         or_panic(self.try_expire(now, max_age))
     }
 
-    /// The most that `peer` said about `key`, if anything.
+    /// What counts of the word of `peer` on `key`, if there is one.
     pub fn try_get(&self, peer: PeerId, key: u64) -> Result<Option<Heard>, Refused> {
         let Tables { peers, snapshot_keys, contested } = &self.tables;
         let mut answer = [0; 5];
@@ -188,7 +188,7 @@ impl PeerDemand {
         Ok(answer[0])
     }
 
-    /// The demand that all peers reported for `key`, summed.
+    /// The peers' demands for `key`, added up.
     pub fn try_total(&self, key: u64) -> Result<f64, Refused> {
         self.told(words::peers_total, key).map(f64::from_bits)
     }
@@ -199,7 +199,7 @@ impl PeerDemand {
         or_panic(self.try_total(key))
     }
 
-    /// Whether some peer holds `key` hot by its own demand.
+    /// Whether `key` is primary at a peer.
     pub fn try_hot_elsewhere(&self, key: u64) -> Result<bool, Refused> {
         self.told(words::peers_hot_elsewhere, key).map(|flag| flag != 0)
     }
@@ -240,7 +240,7 @@ impl PeerDemand {
         or_panic(self.try_hot_elsewhere_of_each(keys))
     }
 
-    /// How many keys are known over all peers.
+    /// The number of keys of all peers.
     pub fn try_len(&self) -> Result<usize, Refused> {
         let len: Reader =
             |words, peers, keys, contested, _, answer| words::peers_len(words, peers, keys, contested, answer);
@@ -253,7 +253,7 @@ impl PeerDemand {
         or_panic(self.try_len())
     }
 
-    /// Whether no peer reported any key.
+    /// Whether that is 0.
     pub fn try_is_empty(&self) -> Result<bool, Refused> {
         let none: Reader =
             |words, peers, keys, contested, _, answer| words::peers_is_empty(words, peers, keys, contested, answer);
@@ -267,12 +267,12 @@ impl PeerDemand {
     }
 }
 
-/// Whether round `a` comes after round `b`, in serial numbers of 16 bits.
+/// Whether the difference of the rounds, modulo 65,536, is 1 to 32,767.
 pub fn round_is_newer(a: u16, b: u16) -> bool {
     (1..1 << 15).contains(&a.wrapping_sub(b))
 }
 
-/// How many periods a peer's report outlives the last message from it.
+/// After how many rounds a report is stale.
 pub fn stale_after_rounds(cluster_size: usize) -> u64 {
     10.max(3 * cluster_size as u64)
 }

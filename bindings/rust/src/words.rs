@@ -150,25 +150,25 @@ pub fn gcra_new(gcra: &mut [u64], interval: u64, burst: u32) -> u8 {
     unsafe { nultiway_gcra_new(gcra.as_mut_ptr(), gcra.len(), interval, burst) }
 }
 
-/// Allows or denies one request by a meter: a decision.
+/// Decides on a request by a meter.
 pub fn gcra_check(gcra: &mut [u64], reading: u64, answer: &mut [u64]) -> u8 {
     // SAFETY: each pointer goes with its slice's length, and is borrowed for the call.
     unsafe { nultiway_gcra_check(gcra.as_mut_ptr(), gcra.len(), reading, answer.as_mut_ptr(), answer.len()) }
 }
 
-/// Switches a meter to another quota and carries its debt over in requests.
+/// Changes a meter's quota: a debt of so many slots of the old one is as many of the new one.
 pub fn gcra_set_quota(gcra: &mut [u64], interval: u64, burst: u32, reading: u64) -> u8 {
     // SAFETY: each pointer goes with its slice's length, and is borrowed for the call.
     unsafe { nultiway_gcra_set_quota(gcra.as_mut_ptr(), gcra.len(), interval, burst, reading) }
 }
 
-/// Tells whether a meter has allowed requests ahead of their time.
+/// Tells whether a meter's TAT is later than the reading.
 pub fn gcra_has_debt(gcra: &[u64], reading: u64, answer: &mut [u64]) -> u8 {
     // SAFETY: each pointer goes with its slice's length, and is borrowed for the call.
     unsafe { nultiway_gcra_has_debt(gcra.as_ptr(), gcra.len(), reading, answer.as_mut_ptr(), answer.len()) }
 }
 
-/// Tells whether a meter would deny a request, and how long until it would allow one.
+/// Tells whether a meter would deny a check, and the nanoseconds to wait then.
 pub fn gcra_retry_after(gcra: &[u64], reading: u64, answer: &mut [u64]) -> u8 {
     // SAFETY: each pointer goes with its slice's length, and is borrowed for the call.
     unsafe { nultiway_gcra_retry_after(gcra.as_ptr(), gcra.len(), reading, answer.as_mut_ptr(), answer.len()) }
@@ -235,14 +235,14 @@ pub fn limiter_ask(limiter: &[u64], keys: &[u64], hot: &[u64], shadows: &[u64]) 
         shadows.as_ptr(), shadows.len()) }
 }
 
-/// Holds every key at no more than `cap` times its rate, or lifts the cap where `has_cap` is 0.
+/// Sets the cap, the greatest part of its limit that a key gets, or lifts it where `has_cap` is 0.
 pub fn set_cap(limiter: &mut [u64], keys: &[u64], hot: &[u64], shadows: &[u64], has_cap: u8, cap: f64) -> u8 {
     // SAFETY: each pointer goes with its slice's length, and is borrowed for the call.
     unsafe { nultiway_set_cap(limiter.as_mut_ptr(), limiter.len(), keys.as_ptr(), keys.len(), hot.as_ptr(), hot.len(),
         shadows.as_ptr(), shadows.len(), has_cap, cap) }
 }
 
-/// Counts the attempts and denials that a runtime with a table of its own collected for a key.
+/// Adds attempts and denials of a key that were counted elsewhere.
 pub fn record(limiter: &mut [u64], keys: &mut [u64], hot: &[u64], shadows: &[u64], key: u64, attempts: u64,
     denials: u64, shadow_denials: u64, rate: f64, burst: u32, reading: u64, cluster_size: u64) -> u8 {
     // SAFETY: each pointer goes with its slice's length, and is borrowed for the call.
@@ -251,7 +251,7 @@ pub fn record(limiter: &mut [u64], keys: &mut [u64], hot: &[u64], shadows: &[u64
         reading, cluster_size) }
 }
 
-/// Folds demand, moves keys between hot and cold, sets quotas and drops idle keys, once a period.
+/// Does the work of a period: estimators, hot set, quotas, and the keys that go.
 pub fn tick(limiter: &mut [u64], keys: &mut [u64], hot: &mut [u64], shadows: &mut [u64], reading: u64,
     cluster_size: u64) -> u8 {
     // SAFETY: each pointer goes with its slice's length, and is borrowed for the call.
@@ -259,8 +259,7 @@ pub fn tick(limiter: &mut [u64], keys: &mut [u64], hot: &mut [u64], shadows: &mu
         hot.as_mut_ptr(), hot.len(), shadows.as_mut_ptr(), shadows.len(), reading, cluster_size) }
 }
 
-/// Does the same, where a hot key gets the share of its limit that its demand has in the cluster's, by what the peers
-/// reported.
+/// Does the same with what the peers told: they decide a hot key's share, and which keys are hot elsewhere.
 pub fn tick_with_shares(limiter: &mut [u64], keys: &mut [u64], hot: &mut [u64], shadows: &mut [u64], peers: &[u64],
     peer_table: &[u64], snapshot_keys: &[u64], contested: &[u64], reading: u64, cluster_size: u64) -> u8 {
     // SAFETY: each pointer goes with its slice's length, and is borrowed for the call.
@@ -270,7 +269,7 @@ pub fn tick_with_shares(limiter: &mut [u64], keys: &mut [u64], hot: &mut [u64], 
         contested.as_ptr(), contested.len(), reading, cluster_size) }
 }
 
-/// Allows or denies one request for a key at the limiter's own limit: a decision.
+/// Decides on a request for a key under the settings' limit.
 pub fn check(limiter: &mut [u64], keys: &mut [u64], hot: &[u64], shadows: &[u64], key: u64, reading: u64,
     cluster_size: u64, answer: &mut [u64]) -> u8 {
     // SAFETY: each pointer goes with its slice's length, and is borrowed for the call.
@@ -278,7 +277,7 @@ pub fn check(limiter: &mut [u64], keys: &mut [u64], hot: &[u64], shadows: &[u64]
         shadows.as_ptr(), shadows.len(), key, reading, cluster_size, answer.as_mut_ptr(), answer.len()) }
 }
 
-/// Allows or denies one request for a key with a limit of its own: a decision.
+/// Decides on a request for a key under the limit given.
 pub fn check_in(limiter: &mut [u64], keys: &mut [u64], hot: &[u64], shadows: &[u64], key: u64, rate: f64, burst: u32,
     reading: u64, cluster_size: u64, answer: &mut [u64]) -> u8 {
     // SAFETY: each pointer goes with its slice's length, and is borrowed for the call.
@@ -287,8 +286,8 @@ pub fn check_in(limiter: &mut [u64], keys: &mut [u64], hot: &[u64], shadows: &[u
         answer.as_mut_ptr(), answer.len()) }
 }
 
-/// Does the same and tells what a shadow limit would have decided, none where `has_shadow` is 0: a decision, whether
-/// there is a shadow, and its decision.
+/// Does the same and tells a shadow limit's decision, none where `has_shadow` is 0: a decision, whether there is a
+/// shadow, and its decision.
 pub fn check_in_traced(limiter: &mut [u64], keys: &mut [u64], hot: &[u64], shadows: &mut [u64], key: u64, rate: f64,
     burst: u32, has_shadow: u8, shadow_rate: f64, shadow_burst: u32, reading: u64, cluster_size: u64,
     answer: &mut [u64]) -> u8 {
@@ -308,8 +307,8 @@ pub fn check_each(limiter: &mut [u64], keys: &mut [u64], hot: &[u64], shadows: &
         out.as_mut_ptr(), out.len()) }
 }
 
-/// Lists the hot keys, busiest first, and tells how many: three words for each, the key, its demand's bits, and whether
-/// it is hot by that demand.
+/// Lists the hot keys, greatest demand first, and tells how many: three words for each, the key, its demand's bits, and
+/// whether it is primary.
 pub fn hot_demand(limiter: &[u64], keys: &[u64], hot: &[u64], shadows: &[u64], out: &mut [u64],
     answer: &mut [u64]) -> u8 {
     // SAFETY: each pointer goes with its slice's length, and is borrowed for the call.
@@ -317,8 +316,8 @@ pub fn hot_demand(limiter: &[u64], keys: &[u64], hot: &[u64], shadows: &[u64], o
         shadows.as_ptr(), shadows.len(), out.as_mut_ptr(), out.len(), answer.as_mut_ptr(), answer.len()) }
 }
 
-/// Lists up to `k` keys with the most denials a second, most first, and tells how many: four words for each, the key
-/// and the bits of its three rates.
+/// Lists the first `k` keys by denials a second, and tells how many: four words for each, the key and the bits of its
+/// three rates.
 pub fn most_denied(limiter: &[u64], keys: &[u64], hot: &[u64], shadows: &[u64], k: u64, out: &mut [u64],
     answer: &mut [u64]) -> u8 {
     // SAFETY: each pointer goes with its slice's length, and is borrowed for the call.
@@ -326,7 +325,7 @@ pub fn most_denied(limiter: &[u64], keys: &[u64], hot: &[u64], shadows: &[u64], 
         shadows.as_ptr(), shadows.len(), k, out.as_mut_ptr(), out.len(), answer.as_mut_ptr(), answer.len()) }
 }
 
-/// Lists up to `k` keys with the most shadow denials a second likewise.
+/// Lists the first `k` keys by shadow denials a second likewise.
 pub fn most_shadow_denied(limiter: &[u64], keys: &[u64], hot: &[u64], shadows: &[u64], k: u64, out: &mut [u64],
     answer: &mut [u64]) -> u8 {
     // SAFETY: each pointer goes with its slice's length, and is borrowed for the call.
@@ -335,7 +334,7 @@ pub fn most_shadow_denied(limiter: &[u64], keys: &[u64], hot: &[u64], shadows: &
         answer.as_mut_ptr(), answer.len()) }
 }
 
-/// Tells the quota that a key not seen before starts with in a limit: interval and burst.
+/// Tells a new key's quota under a limit: interval and burst.
 pub fn new_key_quota(limiter: &[u64], keys: &[u64], hot: &[u64], shadows: &[u64], rate: f64, burst: u32,
     cluster_size: u64, answer: &mut [u64]) -> u8 {
     // SAFETY: each pointer goes with its slice's length, and is borrowed for the call.
@@ -343,7 +342,7 @@ pub fn new_key_quota(limiter: &[u64], keys: &[u64], hot: &[u64], shadows: &[u64]
         shadows.as_ptr(), shadows.len(), rate, burst, cluster_size, answer.as_mut_ptr(), answer.len()) }
 }
 
-/// Tells the rate that a key not seen before starts with, as a part of its limit: the bits of a double.
+/// Tells a new key's part of its limit: the bits of a double.
 pub fn new_key_factor(limiter: &[u64], keys: &[u64], hot: &[u64], shadows: &[u64], cluster_size: u64,
     answer: &mut [u64]) -> u8 {
     // SAFETY: each pointer goes with its slice's length, and is borrowed for the call.
@@ -351,21 +350,21 @@ pub fn new_key_factor(limiter: &[u64], keys: &[u64], hot: &[u64], shadows: &[u64
         hot.as_ptr(), hot.len(), shadows.as_ptr(), shadows.len(), cluster_size, answer.as_mut_ptr(), answer.len()) }
 }
 
-/// Tells whether a key is tracked, and the bits of its requests, denials and shadow denials a second.
+/// Tells whether a key is tracked, and the bits of three rates a second: requests, denials, and shadow denials.
 pub fn key_rates(limiter: &[u64], keys: &[u64], hot: &[u64], shadows: &[u64], key: u64, answer: &mut [u64]) -> u8 {
     // SAFETY: each pointer goes with its slice's length, and is borrowed for the call.
     unsafe { nultiway_key_rates(limiter.as_ptr(), limiter.len(), keys.as_ptr(), keys.len(), hot.as_ptr(), hot.len(),
         shadows.as_ptr(), shadows.len(), key, answer.as_mut_ptr(), answer.len()) }
 }
 
-/// Tells whether a key is tracked, and the interval and burst that it is held to.
+/// Tells whether a key is tracked, and the interval and burst of its quota.
 pub fn quota(limiter: &[u64], keys: &[u64], hot: &[u64], shadows: &[u64], key: u64, answer: &mut [u64]) -> u8 {
     // SAFETY: each pointer goes with its slice's length, and is borrowed for the call.
     unsafe { nultiway_quota(limiter.as_ptr(), limiter.len(), keys.as_ptr(), keys.len(), hot.as_ptr(), hot.len(),
         shadows.as_ptr(), shadows.len(), key, answer.as_mut_ptr(), answer.len()) }
 }
 
-/// Tells whether a key is tracked, and the limit that it was last given: the rate's bits and the burst.
+/// Tells whether a key is tracked, and its limit: the rate's bits and the burst.
 pub fn limit(limiter: &[u64], keys: &[u64], hot: &[u64], shadows: &[u64], key: u64, answer: &mut [u64]) -> u8 {
     // SAFETY: each pointer goes with its slice's length, and is borrowed for the call.
     unsafe { nultiway_limit(limiter.as_ptr(), limiter.len(), keys.as_ptr(), keys.len(), hot.as_ptr(), hot.len(),
@@ -379,7 +378,7 @@ pub fn config(limiter: &[u64], keys: &[u64], hot: &[u64], shadows: &[u64], answe
         shadows.as_ptr(), shadows.len(), answer.as_mut_ptr(), answer.len()) }
 }
 
-/// Tells whether a key is hot, and since when without a break.
+/// Tells whether a key is hot, and when it came into the hot set.
 pub fn hot_since(limiter: &[u64], keys: &[u64], hot: &[u64], shadows: &[u64], key: u64, answer: &mut [u64]) -> u8 {
     // SAFETY: each pointer goes with its slice's length, and is borrowed for the call.
     unsafe { nultiway_hot_since(limiter.as_ptr(), limiter.len(), keys.as_ptr(), keys.len(), hot.as_ptr(), hot.len(),
@@ -393,7 +392,7 @@ pub fn is_hot(limiter: &[u64], keys: &[u64], hot: &[u64], shadows: &[u64], key: 
         shadows.as_ptr(), shadows.len(), key, answer.as_mut_ptr(), answer.len()) }
 }
 
-/// Tells whether a key is tracked, hot or cold.
+/// Tells whether a key is tracked.
 pub fn tracked(limiter: &[u64], keys: &[u64], hot: &[u64], shadows: &[u64], key: u64, answer: &mut [u64]) -> u8 {
     // SAFETY: each pointer goes with its slice's length, and is borrowed for the call.
     unsafe { nultiway_tracked(limiter.as_ptr(), limiter.len(), keys.as_ptr(), keys.len(), hot.as_ptr(), hot.len(),
@@ -463,8 +462,8 @@ pub fn peers_ask(peers: &[u64], peer_table: &[u64], snapshot_keys: &[u64], conte
         snapshot_keys.as_ptr(), snapshot_keys.len(), contested.as_ptr(), contested.len()) }
 }
 
-/// Tells whether a peer said something of a key, the bits of the demand (a float), whether the key is hot there by its
-/// own demand, the round, and when it was heard.
+/// Tells whether a peer said something of a key, the bits of the demand (a float), whether the key is primary there,
+/// the round, and when it was heard.
 pub fn peers_get(peers: &[u64], peer_table: &[u64], snapshot_keys: &[u64], contested: &[u64], peer: u64, key: u64,
     answer: &mut [u64]) -> u8 {
     // SAFETY: each pointer goes with its slice's length, and is borrowed for the call.
@@ -473,7 +472,7 @@ pub fn peers_get(peers: &[u64], peer_table: &[u64], snapshot_keys: &[u64], conte
         answer.as_mut_ptr(), answer.len()) }
 }
 
-/// Tells the demand that all peers reported for a key, summed: the bits of a double.
+/// Tells the peers' demands for a key, added up: the bits of a double.
 pub fn peers_total(peers: &[u64], peer_table: &[u64], snapshot_keys: &[u64], contested: &[u64], key: u64,
     answer: &mut [u64]) -> u8 {
     // SAFETY: each pointer goes with its slice's length, and is borrowed for the call.
@@ -482,7 +481,7 @@ pub fn peers_total(peers: &[u64], peer_table: &[u64], snapshot_keys: &[u64], con
         answer.as_mut_ptr(), answer.len()) }
 }
 
-/// Tells whether some peer holds a key hot by its own demand.
+/// Tells whether a key is primary at a peer.
 pub fn peers_hot_elsewhere(peers: &[u64], peer_table: &[u64], snapshot_keys: &[u64], contested: &[u64], key: u64,
     answer: &mut [u64]) -> u8 {
     // SAFETY: each pointer goes with its slice's length, and is borrowed for the call.
@@ -491,7 +490,7 @@ pub fn peers_hot_elsewhere(peers: &[u64], peer_table: &[u64], snapshot_keys: &[u
         answer.as_mut_ptr(), answer.len()) }
 }
 
-/// Tells how many keys are known over all peers.
+/// Tells the number of keys of all peers.
 pub fn peers_len(peers: &[u64], peer_table: &[u64], snapshot_keys: &[u64], contested: &[u64],
     answer: &mut [u64]) -> u8 {
     // SAFETY: each pointer goes with its slice's length, and is borrowed for the call.
@@ -500,7 +499,7 @@ pub fn peers_len(peers: &[u64], peer_table: &[u64], snapshot_keys: &[u64], conte
         answer.as_mut_ptr(), answer.len()) }
 }
 
-/// Tells whether no peer reported any key.
+/// Tells whether there is no key of any peer.
 pub fn peers_is_empty(peers: &[u64], peer_table: &[u64], snapshot_keys: &[u64], contested: &[u64],
     answer: &mut [u64]) -> u8 {
     // SAFETY: each pointer goes with its slice's length, and is borrowed for the call.
@@ -509,7 +508,7 @@ pub fn peers_is_empty(peers: &[u64], peer_table: &[u64], snapshot_keys: &[u64], 
         answer.as_mut_ptr(), answer.len()) }
 }
 
-/// Tells the demand that all peers reported for each of `count` keys, the first words of records of `width` words.
+/// Tells the peers' demands, added up, for each of `count` keys, the first words of records of `width` words.
 pub fn peers_total_of_each(peers: &[u64], peer_table: &[u64], snapshot_keys: &[u64], contested: &[u64], keys: &[u64],
     width: u64, count: u64, out: &mut [f64]) -> u8 {
     // SAFETY: each pointer goes with its slice's length, and is borrowed for the call.
@@ -518,8 +517,7 @@ pub fn peers_total_of_each(peers: &[u64], peer_table: &[u64], snapshot_keys: &[u
         width, count, out.as_mut_ptr(), out.len()) }
 }
 
-/// Tells of each of `count` keys, the first words of records of `width` words, whether some peer holds it hot by its
-/// own demand.
+/// Tells of each of `count` keys, the first words of records of `width` words, whether it is primary at a peer.
 pub fn peers_hot_elsewhere_of_each(peers: &[u64], peer_table: &[u64], snapshot_keys: &[u64], contested: &[u64],
     keys: &[u64], width: u64, count: u64, out: &mut [bool]) -> u8 {
     // SAFETY: each pointer goes with its slice's length, and is borrowed for the call.
@@ -528,14 +526,14 @@ pub fn peers_hot_elsewhere_of_each(peers: &[u64], peer_table: &[u64], snapshot_k
         width, count, out.as_mut_ptr(), out.len()) }
 }
 
-/// Makes the peers' state, none heard from yet.
+/// Makes the state of peers of which none is known.
 pub fn peers_new(peers: &mut [u64], peer_table: &[u64], snapshot_keys: &[u64], contested: &[u64]) -> u8 {
     // SAFETY: each pointer goes with its slice's length, and is borrowed for the call.
     unsafe { nultiway_peers_new(peers.as_mut_ptr(), peers.len(), peer_table.as_ptr(), peer_table.len(),
         snapshot_keys.as_ptr(), snapshot_keys.len(), contested.as_ptr(), contested.len()) }
 }
 
-/// Drops everything heard from a peer.
+/// Removes a peer's record and keys.
 pub fn peers_forget(peers: &mut [u64], peer_table: &mut [u64], snapshot_keys: &mut [u64], contested: &mut [u64],
     peer: u64) -> u8 {
     // SAFETY: each pointer goes with its slice's length, and is borrowed for the call.
@@ -543,7 +541,7 @@ pub fn peers_forget(peers: &mut [u64], peer_table: &mut [u64], snapshot_keys: &m
         snapshot_keys.as_mut_ptr(), snapshot_keys.len(), contested.as_mut_ptr(), contested.len(), peer) }
 }
 
-/// Lets a peer leave: it is forgotten where `hold` is 0, and otherwise all that it said counts for so long.
+/// Lets a peer leave: it is removed at once where `hold` is 0, and else held for that time.
 pub fn peers_leave(peers: &mut [u64], peer_table: &mut [u64], snapshot_keys: &mut [u64], contested: &mut [u64],
     peer: u64, reading: u64, hold: u64) -> u8 {
     // SAFETY: each pointer goes with its slice's length, and is borrowed for the call.
@@ -551,7 +549,7 @@ pub fn peers_leave(peers: &mut [u64], peer_table: &mut [u64], snapshot_keys: &mu
         snapshot_keys.as_mut_ptr(), snapshot_keys.len(), contested.as_mut_ptr(), contested.len(), peer, reading, hold) }
 }
 
-/// Drops what was last heard `max_age` ago or earlier, and the peers whose hold has ended.
+/// Removes what is `max_age` old, and peers that are held no longer.
 pub fn peers_expire(peers: &mut [u64], peer_table: &mut [u64], snapshot_keys: &mut [u64], contested: &mut [u64],
     reading: u64, max_age: u64) -> u8 {
     // SAFETY: each pointer goes with its slice's length, and is borrowed for the call.
@@ -560,7 +558,7 @@ pub fn peers_expire(peers: &mut [u64], peer_table: &mut [u64], snapshot_keys: &m
 }
 
 /// Applies a report of `count` keys that came from a peer: three words for each key, the key, the bits of its demand (a
-/// float), and whether it is hot there by its own demand.
+/// float), and whether it is primary there.
 pub fn peers_apply(peers: &mut [u64], peer_table: &mut [u64], snapshot_keys: &mut [u64], contested: &mut [u64],
     from: u64, origin: u64, epoch: u32, round: u16, report: &[u64], count: u64, reading: u64) -> u8 {
     // SAFETY: each pointer goes with its slice's length, and is borrowed for the call.

@@ -141,7 +141,7 @@ pub extern "C" fn nultiway_gcra_new(gcra: &mut [u64], interval: u64, burst: u32)
     put_new(gcra, Gcra::new(quota))
 }
 
-// Allows or denies one request by a meter: a decision.
+// Decides on a request by a meter.
 #[no_mangle]
 pub extern "C" fn nultiway_gcra_check(gcra: &mut [u64], reading: u64, answer: &mut [u64]) -> u8
     ensures { λ r. ⌜
@@ -161,7 +161,7 @@ pub extern "C" fn nultiway_gcra_check(gcra: &mut [u64], reading: u64, answer: &m
     put_decision(answer, said)
 }
 
-// Switches a meter to another quota and carries its debt over in requests.
+// Changes a meter's quota: a debt of so many slots of the old one is as many of the new one.
 #[no_mangle]
 pub extern "C" fn nultiway_gcra_set_quota(
     gcra: &mut [u64],
@@ -187,7 +187,7 @@ pub extern "C" fn nultiway_gcra_set_quota(
     set_number(said)
 }
 
-// Tells whether a meter has allowed requests ahead of their time.
+// Tells whether a meter's TAT is later than the reading.
 #[no_mangle]
 pub extern "C" fn nultiway_gcra_has_debt(gcra: &[u64], reading: u64, answer: &mut [u64]) -> u8
     ensures { λ r. ⌜
@@ -202,7 +202,7 @@ pub extern "C" fn nultiway_gcra_has_debt(gcra: &[u64], reading: u64, answer: &mu
     put_debt(answer, meter.has_debt(reading))
 }
 
-// Tells whether a meter would deny a request, and how long until it would allow one.
+// Tells whether a meter would deny a check, and the nanoseconds to wait then.
 #[no_mangle]
 pub extern "C" fn nultiway_gcra_retry_after(gcra: &[u64], reading: u64, answer: &mut [u64]) -> u8
     ensures { λ r. ⌜

@@ -87,7 +87,7 @@ pub extern "C" fn nultiway_limiter_ask(
     limiter.ask(keys, hot, shadows)
 }
 
-// Holds every key at no more than `cap` times its rate, or lifts the cap where `has_cap` is 0.
+// Sets the cap, the greatest part of its limit that a key gets, or lifts it where `has_cap` is 0.
 #[no_mangle]
 pub extern "C" fn nultiway_set_cap(
     limiter: &mut [u64],
@@ -114,7 +114,7 @@ pub extern "C" fn nultiway_set_cap(
     change_number(said)
 }
 
-// Counts the attempts and denials that a runtime with a table of its own collected for a key.
+// Adds attempts and denials of a key that were counted elsewhere.
 #[no_mangle]
 pub extern "C" fn nultiway_record(
     limiter: &mut [u64],
@@ -156,7 +156,7 @@ pub extern "C" fn nultiway_record(
     change_number(said)
 }
 
-// Folds demand, moves keys between hot and cold, sets quotas and drops idle keys, once a period.
+// Does the work of a period: estimators, hot set, quotas, and the keys that go.
 #[no_mangle]
 pub extern "C" fn nultiway_tick(
     limiter: &mut [u64],
@@ -183,8 +183,8 @@ pub extern "C" fn nultiway_tick(
     change_number(said)
 }
 
-// Does the same, where a hot key gets the share of its limit that its demand has in the cluster's,
-// by what the peers reported.
+// Does the same with what the peers told: they decide a hot key's share, and which keys are hot
+// elsewhere.
 #[no_mangle]
 pub extern "C" fn nultiway_tick_with_shares(
     limiter: &mut [u64],

@@ -12,7 +12,7 @@ ghost use Rattle.limiter.specs.State.{atEntry, atExit};
 ghost use Rattle.limiter.specs.Calls.{shadowLimit};
 ghost use Rattle.nultiway.specs.LimiterCalls as Calls;
 
-// Allows or denies one request for a key at the limiter's own limit: a decision.
+// Decides on a request for a key under the settings' limit.
 #[no_mangle]
 pub extern "C" fn nultiway_check(
     limiter: &mut [u64],
@@ -42,7 +42,7 @@ pub extern "C" fn nultiway_check(
     put_decision(answer, said)
 }
 
-// Allows or denies one request for a key with a limit of its own: a decision.
+// Decides on a request for a key under the limit given.
 #[no_mangle]
 pub extern "C" fn nultiway_check_in(
     limiter: &mut [u64],
@@ -87,8 +87,8 @@ fn shadow_given(has_shadow: u8, rate: f64, burst: u32) -> Shadow
     Shadow::Of(Limit { rate, burst })
 }
 
-// Does the same and tells what a shadow limit would have decided, none where `has_shadow` is 0: a
-// decision, whether there is a shadow, and its decision.
+// Does the same and tells a shadow limit's decision, none where `has_shadow` is 0: a decision,
+// whether there is a shadow, and its decision.
 #[no_mangle]
 pub extern "C" fn nultiway_check_in_traced(
     limiter: &mut [u64],

@@ -5,8 +5,8 @@ use crate::values::limiter_of;
 ghost use Rattle.limiter.specs.State.{atEntry};
 ghost use Rattle.nultiway.specs.LimiterCalls as Calls;
 
-// Lists the hot keys, busiest first, and tells how many: three words for each, the key, its
-// demand's bits, and whether it is hot by that demand.
+// Lists the hot keys, greatest demand first, and tells how many: three words for each, the key,
+// its demand's bits, and whether it is primary.
 #[no_mangle]
 pub extern "C" fn nultiway_hot_demand(
     limiter: &[u64],
@@ -31,8 +31,8 @@ pub extern "C" fn nultiway_hot_demand(
     put_len(answer, said)
 }
 
-// Lists up to `k` keys with the most denials a second, most first, and tells how many: four words
-// for each, the key and the bits of its three rates.
+// Lists the first `k` keys by denials a second, and tells how many: four words for each, the key
+// and the bits of its three rates.
 #[no_mangle]
 pub extern "C" fn nultiway_most_denied(
     limiter: &[u64],
@@ -59,7 +59,7 @@ pub extern "C" fn nultiway_most_denied(
     put_len(answer, said)
 }
 
-// Lists up to `k` keys with the most shadow denials a second likewise.
+// Lists the first `k` keys by shadow denials a second likewise.
 #[no_mangle]
 pub extern "C" fn nultiway_most_shadow_denied(
     limiter: &[u64],

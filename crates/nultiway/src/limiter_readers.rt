@@ -14,7 +14,7 @@ use limiter::Limit;
 ghost use Rattle.limiter.specs.State.{atEntry};
 ghost use Rattle.nultiway.specs.LimiterCalls as Calls;
 
-// Tells the quota that a key not seen before starts with in a limit: interval and burst.
+// Tells a new key's quota under a limit: interval and burst.
 #[no_mangle]
 pub extern "C" fn nultiway_new_key_quota(
     limiter: &[u64],
@@ -44,8 +44,7 @@ pub extern "C" fn nultiway_new_key_quota(
     )
 }
 
-// Tells the rate that a key not seen before starts with, as a part of its limit: the bits of a
-// double.
+// Tells a new key's part of its limit: the bits of a double.
 #[no_mangle]
 pub extern "C" fn nultiway_new_key_factor(
     limiter: &[u64],
@@ -69,8 +68,8 @@ pub extern "C" fn nultiway_new_key_factor(
     put_rate(answer, limiter.new_key_factor(keys, hot, shadows, nodes))
 }
 
-// Tells whether a key is tracked, and the bits of its requests, denials and shadow denials a
-// second.
+// Tells whether a key is tracked, and the bits of three rates a second: requests, denials, and
+// shadow denials.
 #[no_mangle]
 pub extern "C" fn nultiway_key_rates(
     limiter: &[u64],
@@ -93,7 +92,7 @@ pub extern "C" fn nultiway_key_rates(
     put_rates(answer, limiter.key_rates(keys, hot, shadows, key))
 }
 
-// Tells whether a key is tracked, and the interval and burst that it is held to.
+// Tells whether a key is tracked, and the interval and burst of its quota.
 #[no_mangle]
 pub extern "C" fn nultiway_quota(
     limiter: &[u64],
@@ -116,8 +115,7 @@ pub extern "C" fn nultiway_quota(
     put_key_quota(answer, limiter.quota(keys, hot, shadows, key))
 }
 
-// Tells whether a key is tracked, and the limit that it was last given: the rate's bits and the
-// burst.
+// Tells whether a key is tracked, and its limit: the rate's bits and the burst.
 #[no_mangle]
 pub extern "C" fn nultiway_limit(
     limiter: &[u64],
@@ -162,7 +160,7 @@ pub extern "C" fn nultiway_config(
     put_config(answer, limiter.config(keys, hot, shadows))
 }
 
-// Tells whether a key is hot, and since when without a break.
+// Tells whether a key is hot, and when it came into the hot set.
 #[no_mangle]
 pub extern "C" fn nultiway_hot_since(
     limiter: &[u64],
@@ -208,7 +206,7 @@ pub extern "C" fn nultiway_is_hot(
     put_flag(answer, limiter.is_hot(keys, hot, shadows, key))
 }
 
-// Tells whether a key is tracked, hot or cold.
+// Tells whether a key is tracked.
 #[no_mangle]
 pub extern "C" fn nultiway_tracked(
     limiter: &[u64],

@@ -31,7 +31,7 @@ pub extern "C" fn nultiway_peers_ask(
 }
 
 // Tells whether a peer said something of a key, the bits of the demand (a float), whether the key
-// is hot there by its own demand, the round, and when it was heard.
+// is primary there, the round, and when it was heard.
 #[no_mangle]
 pub extern "C" fn nultiway_peers_get(
     peers: &[u64],
@@ -55,7 +55,7 @@ pub extern "C" fn nultiway_peers_get(
     put_heard(answer, p.get(peer_table, snapshot_keys, contested, id, key))
 }
 
-// Tells the demand that all peers reported for a key, summed: the bits of a double.
+// Tells the peers' demands for a key, added up: the bits of a double.
 #[no_mangle]
 pub extern "C" fn nultiway_peers_total(
     peers: &[u64],
@@ -77,7 +77,7 @@ pub extern "C" fn nultiway_peers_total(
     put_total(answer, p.total(peer_table, snapshot_keys, contested, key))
 }
 
-// Tells whether some peer holds a key hot by its own demand.
+// Tells whether a key is primary at a peer.
 #[no_mangle]
 pub extern "C" fn nultiway_peers_hot_elsewhere(
     peers: &[u64],
@@ -102,7 +102,7 @@ pub extern "C" fn nultiway_peers_hot_elsewhere(
     )
 }
 
-// Tells how many keys are known over all peers.
+// Tells the number of keys of all peers.
 #[no_mangle]
 pub extern "C" fn nultiway_peers_len(
     peers: &[u64],
@@ -123,7 +123,7 @@ pub extern "C" fn nultiway_peers_len(
     put_len(answer, p.len(peer_table, snapshot_keys, contested))
 }
 
-// Tells whether no peer reported any key.
+// Tells whether there is no key of any peer.
 #[no_mangle]
 pub extern "C" fn nultiway_peers_is_empty(
     peers: &[u64],
@@ -144,7 +144,7 @@ pub extern "C" fn nultiway_peers_is_empty(
     put_flag(answer, p.is_empty(peer_table, snapshot_keys, contested))
 }
 
-// Tells the demand that all peers reported for each of `count` keys, the first words of records of
+// Tells the peers' demands, added up, for each of `count` keys, the first words of records of
 // `width` words.
 #[no_mangle]
 pub extern "C" fn nultiway_peers_total_of_each(
@@ -171,8 +171,8 @@ pub extern "C" fn nultiway_peers_total_of_each(
     change_number(p.total_of_each(peer_table, snapshot_keys, contested, keys, w, n, out))
 }
 
-// Tells of each of `count` keys, the first words of records of `width` words, whether some peer
-// holds it hot by its own demand.
+// Tells of each of `count` keys, the first words of records of `width` words, whether it is
+// primary at a peer.
 #[no_mangle]
 pub extern "C" fn nultiway_peers_hot_elsewhere_of_each(
     peers: &[u64],

@@ -11,7 +11,7 @@ use demand::peer_demand::PeerDemand;
 ghost use Rattle.demand.specs.PeerState.{atEntry, atExit};
 ghost use Rattle.nultiway.specs.PeerCalls as Calls;
 
-// Makes the peers' state, none heard from yet.
+// Makes the state of peers of which none is known.
 #[no_mangle]
 pub extern "C" fn nultiway_peers_new(
     peers: &mut [u64],
@@ -30,7 +30,7 @@ pub extern "C" fn nultiway_peers_new(
     put_new_peers(peers, PeerDemand::new(peer_table, snapshot_keys, contested))
 }
 
-// Drops everything heard from a peer.
+// Removes a peer's record and keys.
 #[no_mangle]
 pub extern "C" fn nultiway_peers_forget(
     peers: &mut [u64],
@@ -55,8 +55,7 @@ pub extern "C" fn nultiway_peers_forget(
     change_number(said)
 }
 
-// Lets a peer leave: it is forgotten where `hold` is 0, and otherwise all that it said counts for
-// so long.
+// Lets a peer leave: it is removed at once where `hold` is 0, and else held for that time.
 #[no_mangle]
 pub extern "C" fn nultiway_peers_leave(
     peers: &mut [u64],
@@ -84,7 +83,7 @@ pub extern "C" fn nultiway_peers_leave(
     change_number(said)
 }
 
-// Drops what was last heard `max_age` ago or earlier, and the peers whose hold has ended.
+// Removes what is `max_age` old, and peers that are held no longer.
 #[no_mangle]
 pub extern "C" fn nultiway_peers_expire(
     peers: &mut [u64],
@@ -111,7 +110,7 @@ pub extern "C" fn nultiway_peers_expire(
 }
 
 // Applies a report of `count` keys that came from a peer: three words for each key, the key, the
-// bits of its demand (a float), and whether it is hot there by its own demand. A buffer that is too
+// bits of its demand (a float), and whether it is primary there. A buffer that is too
 // short for them fails question 1, and words that are no key's question 2. Of more than 64 keys 65
 // must be lent, and the first 64 are looked at.
 #[no_mangle]
