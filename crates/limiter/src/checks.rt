@@ -152,7 +152,7 @@ pub(crate) fn quota_for(rate: f64, burst: u32) -> Quota
     }
 }
 
-// The quota that a key not seen before starts with.
+// A new key's quota: the cold one.
 pub(crate) fn cold_quota(limiter: Limiter, limit: Limit, cluster_size: usize) -> Quota
     ensures { λ r. ⌜ r ≡ Checks.coldQuota State.base (State.settingsOf limiter) limit «cluster_size» ⌝ }
 {
@@ -445,7 +445,7 @@ pub(crate) fn record_key(
 // ---- the public calls
 
 impl Limiter {
-    // Admits or denies one request for `key` at the settings' limit.
+    // Decides on a request for `key` under the settings' limit.
     pub fn check(
         self,
         keys: &mut [u64],
@@ -471,7 +471,7 @@ impl Limiter {
         check_key(self, keys, key, limit, reading, cluster_size)
     }
 
-    // The same for a key with a limit of its own.
+    // The same under the limit given.
     pub fn check_in(
         self,
         keys: &mut [u64],
@@ -497,7 +497,7 @@ impl Limiter {
         check_key(self, keys, key, limit, reading, cluster_size)
     }
 
-    // Counts what a runtime that enforces in its own table collected for `key`.
+    // Adds counts of `key` that were taken elsewhere.
     pub fn record(
         self,
         keys: &mut [u64],

@@ -1,4 +1,4 @@
-// Enforcement on one node: a meter for each key, on a share of the limit. A cold key gets a part of
+// The limiter of a node: a quota and a meter for every tracked key. A cold key gets a part of
 // the even split, a hot one the share that a tick gives it. Settings and counts are by value; the
 // records of keys, hot keys and shadows stand in lent tables.
 mod checks;
@@ -55,7 +55,7 @@ pub enum Cap {
     At(f64),
 }
 
-// When the last tick was, if there was one.
+// The reading of the last tick, or none.
 pub enum LastTick {
     Unset,
     At(u64),
@@ -71,14 +71,14 @@ pub struct Limiter {
     pub shadows: usize,
 }
 
-// What a runtime counted for one key since it last told.
+// Counts of one key that were taken elsewhere, for `record`.
 pub struct Tally {
     pub attempts: u64,
     pub denials: u64,
     pub shadow_denials: u64,
 }
 
-// A key's requests, denials and shadow denials a second.
+// Three rates of a key, a second each.
 pub struct KeyRates {
     pub requests_per_sec: f64,
     pub denied_per_sec: f64,
@@ -426,7 +426,7 @@ impl Limiter {
         }
     }
 
-    // Holds every key at no more than `cap` times its rate, or lifts the cap.
+    // Sets or lifts the cap, the greatest part of its limit that a key gets.
     pub fn set_cap(self, keys: &[u64], hot: &[u64], shadows: &[u64], cap: Cap) -> Changed
         ensures { λ r. ⌜ Calls.SetsCap self (atEntry keys hot shadows) (capOf cap) r ⌝ }
     {

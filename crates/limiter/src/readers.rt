@@ -68,7 +68,7 @@ pub(crate) fn unbiased_rate(estimator: Estimator, time_constant: u64) -> f64
     }
 }
 
-// A key's requests, denials and shadow denials a second.
+// A key's three rates.
 pub(crate) fn rates_of(state: KeyState) -> KeyRates
     requires { ⌜ validKey units (keyRecord state) ≡ true ⌝ }
     ensures { λ r. ⌜ r ≡ ratesOf base (keyRecord state) ⌝ }
@@ -84,7 +84,7 @@ pub(crate) fn rates_of(state: KeyState) -> KeyRates
 }
 
 impl Limiter {
-    // A key's requests, denials and shadow denials a second.
+    // The three rates of a tracked key.
     pub fn key_rates(self, keys: &[u64], hot: &[u64], shadows: &[u64], key: u64) -> RatesAnswer
         ensures { λ r. ⌜ Calls.TellsRates self (atEntry keys hot shadows) key r ⌝ }
     {
@@ -133,7 +133,7 @@ impl Limiter {
         }
     }
 
-    // The quota that a key not seen before starts with.
+    // A new key's quota under a limit.
     pub fn new_key_quota(
         self,
         keys: &[u64],
@@ -151,7 +151,7 @@ impl Limiter {
         QuotaAnswer::Is(checks::cold_quota(self, limit, cluster_size))
     }
 
-    // The rate that it starts with, as a part of its limit.
+    // A new key's part of its limit.
     pub fn new_key_factor(
         self,
         keys: &[u64],
@@ -180,7 +180,7 @@ impl Limiter {
         ConfigAnswer::Is(config)
     }
 
-    // Since when a key has been hot without a break.
+    // When a hot key came into the hot set.
     pub fn hot_since(self, keys: &[u64], hot: &[u64], shadows: &[u64], key: u64) -> SinceAnswer
         ensures { λ r. ⌜ Calls.TellsHotSince self (atEntry keys hot shadows) key r ⌝ }
     {

@@ -449,8 +449,8 @@ fn finish_tick(
 }
 
 impl Limiter {
-    // Updates demand, moves keys between cold and hot, sets quotas and keeps the cap on keys. A hot
-    // key gets an even part of its limit.
+    // The work of a period: estimators, hot set, quotas, and the keys that go. A hot key gets an even
+    // part of its limit.
     pub fn tick(
         self,
         keys: &mut [u64],
@@ -586,8 +586,7 @@ impl Limiter {
         )
     }
 
-    // The same as `tick` with the peers' state: a key that a peer holds hot is hot here too while it
-    // has any demand, and a hot key gets its share by demand.
+    // The same with the peers' state: it decides a hot key's share, and which keys are hot elsewhere.
     pub fn tick_with_shares(
         self,
         keys: &mut [u64],

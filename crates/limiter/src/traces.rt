@@ -47,7 +47,7 @@ pub(crate) struct Tried {
     pub after: ShadowEntry,
 }
 
-// The key's quota scaled by the ratio of the two limits, with the shadow's burst.
+// The shadow's quota: the key's rate times shadow limit ÷ limit, and the shadow's burst.
 pub(crate) fn shadow_quota(quota: Quota, limit: Limit, shadow: Limit) -> Quota
     requires { ⌜ validQuota units quota ≡ true ⌝ }
     ensures { λ r. ⌜ r ≡ Checks.shadowQuota State.base quota limit shadow ⌝ }
@@ -301,7 +301,7 @@ impl Limiter {
         }
     }
 
-    // A check for a key with a limit of its own, with what a limit only tried out would have decided.
+    // A check under the limit given, and the shadow's decision beside it.
     pub fn check_in_traced(
         self,
         keys: &mut [u64],
