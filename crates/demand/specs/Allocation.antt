@@ -8,8 +8,8 @@ use lib.Ieee.Scale.{finite}
 use Rattle.demand.specs.declared.allocation.View.{View}
 use Rattle.demand.specs.declared.allocation.ShareAnswer.{ShareAnswer}
 use Rattle.demand.specs.declared.allocation.ShareAnswer.the-variants as share-answer
-use Rattle.gcra.specs.Questions.{_asks_, Answer, refused, given, answer}
-use Rattle.demand.specs.Estimator.{whole}
+use Rattle.questions.specs.Questions.{_asks_, Answer, refused, given, answer}
+use Rattle.demand.specs.Estimators.Estimator.{whole}
 
 -- question 3: 'finite and above 0'
 unfoldable pub isRate : Float → Bool

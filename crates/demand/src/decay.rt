@@ -3,7 +3,7 @@
 
 ghost use mathlib.Core.Path.{_≡_};
 ghost use Prim.Native.Nat.{_*_, _/_, _≤_, _<_};
-ghost use Rattle.demand.specs.Weight as spec;
+ghost use Rattle.demand.specs.Decay.Weight as spec;
 
 const S: u64 = 0x10_0000_0000_0000;
 

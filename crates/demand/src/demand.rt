@@ -1,10 +1,12 @@
 // An estimator of attempts a second. Attempts are counted between ticks; a tick moves the rate
 // towards what was counted, by the decay weight of the time since the tick before.
 
+use crate::answers::FlagAnswer;
 use float::whole;
 ghost use mathlib.Core.Path.{_≡_};
-ghost use Rattle.demand.specs.Estimator as Estimator;
-ghost use Rattle.demand.specs.EstimatorCalls as Calls;
+ghost use Rattle.demand.specs.Answers.{flagAnswer};
+ghost use Rattle.demand.specs.Estimators.Estimator as Estimator;
+ghost use Rattle.demand.specs.Estimators.Calls as Calls;
 
 // The times of an estimator, which it has both or neither: of its last tick, and of its start.
 pub enum Times {
@@ -24,11 +26,6 @@ pub struct Demand {
 pub enum DemandAnswer {
     No(u8),
     Is(Demand),
-}
-
-pub enum PendingAnswer {
-    No(u8),
-    Is(bool),
 }
 
 pub enum RateAnswer {
@@ -182,13 +179,13 @@ impl Demand {
     }
 
     // Whether there are attempts that no tick has folded.
-    pub fn has_pending(self) -> PendingAnswer
-        ensures { λ r. ⌜ Calls.pendingAnswer r ≡ Calls.hasPending self ⌝ }
+    pub fn has_pending(self) -> FlagAnswer
+        ensures { λ r. ⌜ flagAnswer r ≡ Calls.hasPending self ⌝ }
     {
         if !self.is_valid() {
-            return PendingAnswer::No(2);
+            return FlagAnswer::No(2);
         }
-        PendingAnswer::Is(0 < self.attempts_since_tick)
+        FlagAnswer::Is(0 < self.attempts_since_tick)
     }
 
     // The rate that the last tick left.

@@ -2,8 +2,10 @@
 // word of a peer that has it so, as secondary. Below the threshold a primary key stays for the
 // cooldown; a full set takes a key in only by evicting its weakest.
 // The entries stand in lent words; the crate `hot_lent` has the same calls over a lent slice of them.
-use crate::words;
+use crate::answers::FlagAnswer;
+use crate::answers::LenAnswer;
 use float::whole;
+use records::fields;
 ghost use mathlib.Core.Path.{_≡_};
 ghost use mathlib.Core.Bool.{true};
 ghost use mathlib.Core.Option.{none, some};
@@ -11,13 +13,13 @@ ghost use mathlib.Core.List.{map};
 ghost use Prim.Native.Nat.{_+_, _-_, _*_, _≤_, _<_};
 ghost use lib.Dec.{leb};
 ghost use lib.ListN.{length, drop};
-ghost use Rattle.records.specs.Records.{records, table, fits};
-ghost use Rattle.gcra.specs.Questions.{passes};
-ghost use Rattle.demand.specs.Words.{timeFlag, timeWord, timeOf};
-ghost use Rattle.demand.specs.HotSet as Set;
-ghost use Rattle.demand.specs.Steps.HotSetSteps.{slot, follows, Held, Evicts, Promotes, Cools, Updates};
-ghost use Rattle.demand.specs.HotSetCalls as Calls;
-ghost use Rattle.gcra.specs.Questions.{firstNo};
+ghost use Rattle.records.specs.Records.{table};
+ghost use Rattle.questions.specs.Questions.{passes, firstNo};
+ghost use Rattle.records.specs.Fields.{timeFlag, timeWord, timeOf};
+ghost use Rattle.demand.specs.HotSet.Set as Set;
+ghost use Rattle.demand.specs.HotSet.Steps.{areWords, areEntryWords, slot, follows, EntriesReady};
+ghost use Rattle.demand.specs.HotSet.Steps.{Evicts, Promotes, Cools, Updates};
+ghost use Rattle.demand.specs.HotSet.Calls as Calls;
 
 // To evict the weakest key a demand must be above this many times its own.
 pub(crate) const EVICTION_MARGIN: f64 = 1.1;
@@ -66,20 +68,10 @@ pub enum EachAnswer {
     Is(HotSet),
 }
 
-pub enum TestAnswer {
-    No(u8),
-    Is(bool),
-}
-
 pub enum SinceAnswer {
     No(u8),
     NotHot,
     Since(u64),
-}
-
-pub enum LenAnswer {
-    No(u8),
-    Is(usize),
 }
 
 // The entry of a key, or that there is none.
@@ -142,7 +134,7 @@ impl HotEntry {
     {
         let cooling = self.cooling_since;
         let demand = float::to_bits(self.demand);
-        let primary = words::flag_word(self.primary);
+        let primary = fields::flag_word(self.primary);
         let is_cooling = cooling.flag();
         let cooling_since = cooling.time();
         [
@@ -158,7 +150,7 @@ impl HotEntry {
     // Whether words, whatever the key and since when it is hot, could be those of an entry in a valid
     // image.
     pub fn are_words(demand: u64, primary: u64, cooling: u64, cooling_since: u64) -> bool
-        ensures { λ r. ⌜ r ≡ Set.areWords demand primary cooling «cooling_since» ⌝ }
+        ensures { λ r. ⌜ r ≡ areWords demand primary cooling «cooling_since» ⌝ }
     {
         if !float::is_magnitude_bits(demand) {
             return false;
@@ -166,7 +158,7 @@ impl HotEntry {
         if primary > 1 {
             return false;
         }
-        words::is_time(cooling, cooling_since)
+        fields::is_time(cooling, cooling_since)
     }
 
     // The entry whose words begin at `at`.
@@ -264,7 +256,7 @@ fn has_room(max_size: usize, len: usize) -> bool
 // Whether the words at `at`, but for the key, could be those of an entry in a valid image.
 fn is_entry(hot: &[u64], at: usize) -> bool
     requires { ⌜ at + 6 ≤ length (now hot) ⌝ }
-    ensures { λ r. ⌜ r ≡ Set.isEntry (drop at (now (hot .entry))) ⌝ }
+    ensures { λ r. ⌜ r ≡ areEntryWords (drop at (now (hot .entry))) ⌝ }
 {
     HotEntry::are_words(hot[at + 1], hot[at + 2], hot[at + 3], hot[at + 4])
 }
@@ -303,7 +295,7 @@ pub fn are_valid(hot: &[u64], n: usize) -> bool
 
 // The entry of a key.
 fn get(hot: &[u64], n: usize, key: u64) -> Slot
-    requires { ⌜ Held n (now hot) ⌝ }
+    requires { ⌜ EntriesReady n (now hot) ⌝ }
     ensures { λ r. ⌜ slot r ≡ Set.get key (Set.entries n (now (hot .entry))) ⌝ }
 {
     match records::find(hot, HotEntry::WORDS, 1, n, key, 0) {
@@ -315,7 +307,7 @@ fn get(hot: &[u64], n: usize, key: u64) -> Slot
 
 // Puts an entry under its key, in place of one that has it.
 fn put(hot: &mut [u64], n: usize, entry: HotEntry)
-    requires { ⌜ Held n (now hot) ⌝ }
+    requires { ⌜ EntriesReady n (now hot) ⌝ }
     requires { ⌜ length (Set.put entry (Set.entries n (now hot))) * 6 ≤ length (now hot) ⌝ }
     ensures { λ _. ⌜
         now (hot .exit) ≡ table (map Set.words (Set.put entry (Set.entries n (now (hot .entry)))))
@@ -336,7 +328,7 @@ fn put(hot: &mut [u64], n: usize, entry: HotEntry)
 
 // Takes the entry of a key out.
 fn remove(hot: &mut [u64], n: usize, key: u64)
-    requires { ⌜ Held n (now hot) ⌝ }
+    requires { ⌜ EntriesReady n (now hot) ⌝ }
     ensures { λ _. ⌜
         now (hot .exit) ≡ table (map Set.words (Set.remove key (Set.entries n (now (hot .entry)))))
         (now (hot .entry))
@@ -353,7 +345,7 @@ fn remove(hot: &mut [u64], n: usize, key: u64)
 
 // The entry with the least demand, the smaller key where two have it.
 fn weakest(hot: &[u64], n: usize) -> HotEntry
-    requires { ⌜ Held n (now hot) ⌝ }
+    requires { ⌜ EntriesReady n (now hot) ⌝ }
     requires { ⌜ 0 < n ⌝ }
     ensures { λ r. ⌜ some r ≡ Set.weakest (Set.entries n (now (hot .entry))) ⌝ }
 {
@@ -406,7 +398,7 @@ impl HotSet {
     // Whether the set could stand in a valid image, with its entries in these words.
     fn is_valid(self, hot: &[u64]) -> bool
         requires { ⌜ Calls.room (self .«max_size») ≤ length (now hot) ⌝ }
-        ensures { λ r. ⌜ r ≡ Set.valid self (records 6 (self .len) (now (hot .entry))) ⌝ }
+        ensures { λ r. ⌜ r ≡ Set.isValid self (now (hot .entry)) ⌝ }
     {
         if !is_valid_size(self.max_size) {
             return false;
@@ -435,7 +427,7 @@ impl HotSet {
     fn evict(self, hot: &mut [u64], entry: HotEntry, margin: f64) -> Updated
         requires { ⌜ passes (Calls.askSet self (now hot)) ≡ true ⌝ }
         requires { ⌜ self .len ≡ self .«max_size» ⌝ }
-        requires { ⌜ Set.get (entry .key) (Calls.held self (now hot)) ≡ none ⌝ }
+        requires { ⌜ Set.get (entry .key) (Calls.entriesOf self (now hot)) ≡ none ⌝ }
         ensures { λ r. ⌜ Evicts margin self entry (now (hot .entry)) r (now (hot .exit)) ⌝ }
     {
         let n = self.len;
@@ -597,16 +589,16 @@ impl HotSet {
     }
 
     // Whether the set has the key.
-    pub fn is_hot(self, hot: &[u64], key: u64) -> TestAnswer
+    pub fn is_hot(self, hot: &[u64], key: u64) -> FlagAnswer
         ensures { λ r. ⌜ Calls.SaidHot self (now (hot .entry)) key r ⌝ }
     {
         let no = self.ask(hot);
         if no != 0 {
-            return TestAnswer::No(no);
+            return FlagAnswer::No(no);
         }
         match get(hot, self.len, key) {
-            Slot::Entry(_) => TestAnswer::Is(true),
-            Slot::Free => TestAnswer::Is(false),
+            Slot::Entry(_) => FlagAnswer::Is(true),
+            Slot::Free => FlagAnswer::Is(false),
         }
     }
 
@@ -625,16 +617,16 @@ impl HotSet {
     }
 
     // Whether the set has the key as primary.
-    pub fn is_primary(self, hot: &[u64], key: u64) -> TestAnswer
+    pub fn is_primary(self, hot: &[u64], key: u64) -> FlagAnswer
         ensures { λ r. ⌜ Calls.SaidPrimary self (now (hot .entry)) key r ⌝ }
     {
         let no = self.ask(hot);
         if no != 0 {
-            return TestAnswer::No(no);
+            return FlagAnswer::No(no);
         }
         match get(hot, self.len, key) {
-            Slot::Entry(entry) => TestAnswer::Is(entry.primary),
-            Slot::Free => TestAnswer::Is(false),
+            Slot::Entry(entry) => FlagAnswer::Is(entry.primary),
+            Slot::Free => FlagAnswer::Is(false),
         }
     }
 
@@ -650,13 +642,13 @@ impl HotSet {
     }
 
     // Whether there are none.
-    pub fn is_empty(self, hot: &[u64]) -> TestAnswer
+    pub fn is_empty(self, hot: &[u64]) -> FlagAnswer
         ensures { λ r. ⌜ Calls.SaidEmpty self (now (hot .entry)) r ⌝ }
     {
         let no = self.ask(hot);
         if no != 0 {
-            return TestAnswer::No(no);
+            return FlagAnswer::No(no);
         }
-        TestAnswer::Is(self.len == 0)
+        FlagAnswer::Is(self.len == 0)
     }
 }

@@ -7,10 +7,10 @@ ghost use mathlib.Core.Bool.{true};
 ghost use Prim.Native.Nat.{_≤_};
 ghost use lib.ListN.{length, take};
 ghost use Rattle.float.specs.Magnitude.{magnitude};
-ghost use Rattle.gcra.specs.Questions.{passes, firstNo};
-ghost use Rattle.demand.specs.PeerLists.{all};
-ghost use Rattle.demand.specs.HotSetCalls as Calls;
-ghost use Rattle.demand.specs.Steps.HotSetSteps.{UpdatesEach};
+ghost use Rattle.questions.specs.Questions.{passes, firstNo};
+ghost use Rattle.questions.specs.Lists.{all};
+ghost use Rattle.demand.specs.HotSet.Calls as Calls;
+ghost use Rattle.demand.specs.HotSet.Steps.{UpdatesEach};
 
 // Whether the keys of n records of w words, and a demand, a threshold and a flag for each, are
 // within lent slices of these lengths.

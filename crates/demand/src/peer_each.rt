@@ -5,12 +5,23 @@ use crate::peer_demand::SNAPSHOT_KEY_WORDS;
 ghost use mathlib.Core.Path.{_≡_};
 ghost use mathlib.Core.Bool.{_&&_, _||_};
 ghost use Prim.Native.Nat.{_+_, _*_, _≤_};
-ghost use lib.Dec.{eqb};
+ghost use lib.Dec.{eqb, ltb};
 ghost use lib.ListN.{length, getD};
 ghost use Rattle.records.specs.Records.{records};
-ghost use Rattle.demand.specs.Words.{flagOf};
-ghost use Rattle.demand.specs.Steps.PeerScan.{KeysReady};
-ghost use Rattle.demand.specs.Steps.PeerEach.{isPrimaryIn, marked, cleared, Markable};
+ghost use Rattle.records.specs.Fields.{flagOf};
+ghost use Rattle.demand.specs.Peers.Steps.Scan.{KeysReady};
+ghost use Rattle.records.specs.Typed.{inOrder};
+ghost use Rattle.demand.specs.Peers.Steps.Each.{isPrimaryIn, marked, cleared, Markable};
+
+// Whether there is more than one key, and the keys ascend. One key alone is looked up among the peers'.
+pub(crate) fn are_many_ascending(keys: &[u64], w: usize, n: usize) -> bool
+    ensures { λ r. ⌜ r ≡ (ltb 1 n && inOrder w 1 n (now (keys .entry))) ⌝ }
+{
+    if n < 2 {
+        return false;
+    }
+    records::is_ascending(keys, w, 1, n)
+}
 
 // Clears the first n flags.
 fn clear(out: &mut [bool], n: usize)

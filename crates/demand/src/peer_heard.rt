@@ -8,10 +8,10 @@ ghost use mathlib.Core.List.{map};
 ghost use Prim.Native.Nat.{_+_, _*_, _^_, _≤_, _<_};
 ghost use lib.ListN.{length, getD};
 ghost use Rattle.records.specs.Records.{records};
-ghost use Rattle.demand.specs.PeerRecords.{snapshotOf, snapshotKeyOf, contestedOf};
-ghost use Rattle.demand.specs.PeerReaders.{heardTaken, heardContested, snapshotKeyAt, contestedAt, addHeard};
-ghost use Rattle.demand.specs.PeerReaders as readers;
-ghost use Rattle.demand.specs.Steps.PeerHeard.{saidOf, heardOf, isListed, KeyTable};
+ghost use Rattle.demand.specs.Peers.Records.{snapshotOf, snapshotKeyOf, contestedOf};
+ghost use Rattle.demand.specs.Peers.Readers.{heardTaken, heardContested, snapshotKeyAt, contestedAt, addHeard};
+ghost use Rattle.demand.specs.Peers.Readers as readers;
+ghost use Rattle.demand.specs.Peers.Steps.Heard.{saidOf, heardOf, isListed, KeyTable};
 
 // What a peer said, if anything.
 pub(crate) enum Said {

@@ -2,16 +2,16 @@
 // compares only.
 use crate::peer_demand::MAX_PEERS;
 use crate::peer_demand::PEER_WORDS;
-use crate::words;
+use records::fields;
 ghost use mathlib.Core.Path.{_≡_};
 ghost use mathlib.Core.Bool.{true};
 ghost use Prim.Native.Nat.{suc, _+_, _-_, _*_, _≤_, _<_};
 ghost use lib.ListN.{length, getD, drop};
 ghost use Rattle.records.specs.Records.{records};
-ghost use Rattle.demand.specs.PeerLists.{all};
-ghost use Rattle.demand.specs.Steps.PeerScan.{isSnapshot, isPastEpoch, isPast, isPeer, arePeerWords};
-ghost use Rattle.demand.specs.Steps.PeerScan.{areKeyWords, isKeyOf, runLength, isRun, areRuns};
-ghost use Rattle.demand.specs.Steps.PeerScan.{arePeers, areKeys, PeersReady, KeysReady, Starts};
+ghost use Rattle.questions.specs.Lists.{all};
+ghost use Rattle.demand.specs.Peers.Steps.Scan.{isSnapshot, isPastEpoch, isPast, isPeer, arePeerWords};
+ghost use Rattle.demand.specs.Peers.Steps.Scan.{areKeyWords, isKeyOf, runLength, isRun, areRuns};
+ghost use Rattle.demand.specs.Peers.Steps.Scan.{arePeers, areKeys, PeersReady, KeysReady, Starts};
 
 // Whether the words are those of a snapshot that may be missing.
 fn is_snapshot(flag: u64, epoch: u64, round: u64, heard_at: u64) -> bool
@@ -80,7 +80,7 @@ fn is_peer(
 ) -> bool
     ensures { λ r. ⌜ r ≡ isPeer held until taken epoch round «heard_at» count a b c d ⌝ }
 {
-    if !words::is_time(held, until) {
+    if !fields::is_time(held, until) {
         return false;
     }
     if !is_snapshot(taken, epoch, round, heard_at) {

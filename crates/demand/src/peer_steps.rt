@@ -13,14 +13,13 @@ ghost use lib.Dec.{ltb};
 ghost use lib.ListN.{length, getD};
 ghost use Rattle.records.specs.Words.{copyWithin};
 ghost use Rattle.records.specs.Records.{records, overwritten};
-ghost use Rattle.demand.specs.PeerLists.{only, those, replaced};
-ghost use Rattle.demand.specs.Words.{flagOf, timeOf};
-ghost use Rattle.demand.specs.PeerRecords.{peerWords, peerOf, snapshotKeyOf, contestedOf, snapshotOf};
-ghost use Rattle.demand.specs.PeerState.{hasSnapshot, isTaken, exact};
-ghost use Rattle.demand.specs.PeerChanges.{isFresh, hold, agePeer};
-ghost use Rattle.demand.specs.Steps.PeerScan.{firstWord};
-ghost use Rattle.demand.specs.Steps.PeerRuns.{Tabled};
-ghost use Rattle.demand.specs.Steps.PeerSteps.{inOrder, placeOf, staysContested, isStale, staysPeer};
+ghost use Rattle.questions.specs.Lists.{only, those, replaced};
+ghost use Rattle.records.specs.Fields.{flagOf, timeOf};
+ghost use Rattle.demand.specs.Peers.Records.{peerWords, peerOf, snapshotKeyOf, contestedOf, snapshotOf};
+ghost use Rattle.demand.specs.Peers.State.{hasSnapshot, isTaken, isHeld};
+ghost use Rattle.records.specs.Typed.{exact, firstWord, Tabled, inOrder};
+ghost use Rattle.demand.specs.Peers.Changes.{isFresh, hold, agePeer};
+ghost use Rattle.demand.specs.Peers.Steps.Stays.{placeOf, staysContested, isStale, staysPeer};
 
 // One step of keeping records: the one at `i` goes behind the `kept` first ones, if it stays and is
 // not there. Tells how many are kept.
@@ -153,7 +152,7 @@ fn is_stale(held: u64, taken: u64, heard_at: u64, reading: u64, max_age: u64) ->
 // The words of a peer, without a snapshot that is too old and its past epochs.
 fn aged_words(words: &[u64], reading: u64, max_age: u64) -> [u64; 12]
     requires { ⌜ (length (now words) ≡ 12) × (peerWords (peerOf (now words)) ≡ now words) ⌝ }
-    ensures { λ r. ⌜ r ≡ peerWords (agePeer reading «max_age» (peerOf (now (words .entry)))) ⌝ }
+    ensures { λ r. ⌜ r ≡ peerWords (agePeer isHeld reading «max_age» (peerOf (now (words .entry)))) ⌝ }
 {
     if is_stale(words[1], words[3], words[6], reading, max_age) {
         return [words[0], 0, 0, 0, 0, 0, 0, 0, 0, 0, 0, 0];
@@ -234,7 +233,7 @@ pub(crate) fn retain_peers(
         (only
         (λ x. staysPeer reading (map contestedOf (records 6 c (now (contested .entry))))
         (peerOf x .id) (peerOf x .heldUntil) (isTaken (peerOf x)))
-        (map (λ x. peerWords (agePeer reading «max_age» (peerOf x)))
+        (map (λ x. peerWords (agePeer isHeld reading «max_age» (peerOf x)))
         (records 12 n (now (peers .entry))))) (now (peers .entry)) (now (peers .exit))
         ⌝ }
 {

@@ -4,7 +4,7 @@ use crate::peer_demand::PEER_WORDS;
 use crate::peer_demand::SNAPSHOT_KEY_WORDS;
 use crate::peer_scan;
 ghost use mathlib.Core.Path.{_≡_};
-ghost use Rattle.demand.specs.PeerWords.{isPeerRecord, isSnapshotKeyRecord, isContestedRecord};
+ghost use Rattle.demand.specs.Peers.Words.{isPeerRecord, isSnapshotKeyRecord, isContestedRecord};
 
 // Whether the words are those of a valid peer.
 pub fn is_peer_record(words: &[u64]) -> bool

@@ -11,7 +11,7 @@ use lib.Dec.{ltb, eqb}
 use lib.Ieee.{Float, Format, nan, inf, fin, prec, low, hid, ones, top, up, down, odd, ofFields, ofBits, lt}
 use lib.Ieee.Fits.{down-pos}
 use lib.Ieee.Exact.{HasValue, odd-sign}
-use Rattle.float.proofs.Tests.{split}
+use Rattle.questions.proofs.Tests.{split}
 use Rattle.float.proofs.Patterns.{infinity-clear}
 
 -- the number of an exponent's field x and digits t, in units of the smallest value; h is the leading digit's weight

@@ -8,7 +8,8 @@ use lib.Ieee.{Float, nan, inf, fin, lt, eq, ne, isNan}
 use lib.Ieee.Scale.{finite}
 use borrow.Author.Tests.{lt-ltb, le-ltb}
 use Rattle.float.specs.Order.{negative, below, choose, place, totalLess, totalCmp, ordering}
-use Rattle.float.proofs.Tests.{same-ltb, nan-test}
+use Rattle.questions.proofs.Tests.{same-ltb}
+use Rattle.float.proofs.Tests.{nan-test}
 
 -- ---- `is_finite`
 pub finite-under : (x : Float) → lt x (inf false) ≡ true → lt (inf true) x ≡ finite x

@@ -12,7 +12,8 @@ use lib.Ieee.Bits.{is-true, nanBits-is, nanBits-above, ofBits-toBits, toBits-lt}
 use borrow.Author.Tests.{ltb-true, leb-true, leb-false, lt-ltb, le-ltb, le-leb, lt-leb, eqb-true, eqb-false}
 use Rattle.float.specs.Magnitude.{magnitude}
 use Rattle.float.specs.Order.{negative}
-use Rattle.float.proofs.Tests.{no, split, same-ltb, nan-test, nan-is}
+use Rattle.float.proofs.Tests.{no, nan-test, nan-is}
+use Rattle.questions.proofs.Tests.{split, same-ltb}
 
 -- ---- NaNs
 pub nan-pattern : (f : Format) (x : Float) → ne x x ≡ true → toBits f nan ≡ toBits f x

@@ -9,7 +9,7 @@ use lib.Dec.{lit<, ltb, eqb}
 use mir.Syntax.{w64}
 use mir.Val.{Fits}
 use borrow.Author.Tests.{eqb-true, eqb-false}
-use Rattle.float.proofs.Tests.{same-ltb}
+use Rattle.questions.proofs.Tests.{same-ltb}
 
 ruleset sums = (mul-add, add-mul, mul-assoc, mul-comm, mul-left-comm, mul-one, one-mul)
 

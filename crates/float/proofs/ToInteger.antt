@@ -9,7 +9,7 @@ use lib.Dec.{ltb, eqb}
 use lib.Ieee.{Float, nan, inf, fin, up, down, lt, le, toUnsigned}
 use lib.Ieee.Fits.{down-pos}
 use borrow.Author.Tests.{ltb-false, eq-eqb}
-use Rattle.float.proofs.Tests.{or-false}
+use Rattle.questions.proofs.Tests.{or-false}
 
 pub negative-zero : (x : Float) → lt x (fin false 1 (pos 64)) ≡ true → lt (fin true 1 (pos 0)) x ≡ false → 0 ≡ toUnsigned 64 x
 unfolding lt toUnsigned

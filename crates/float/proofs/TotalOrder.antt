@@ -12,7 +12,7 @@ use lib.Ieee.Bits.{nanBits-above}
 use lib.Ieee.Exact.{HasValue}
 use borrow.Author.Tests.{lt-ltb, le-ltb, ltb-true, ltb-false, le-leb, lt-leb, eq-eqb}
 use Rattle.float.specs.Order.{negative, place, totalLess}
-use Rattle.float.proofs.Tests.{split, same-ltb}
+use Rattle.questions.proofs.Tests.{split, same-ltb}
 use Rattle.float.proofs.Values.{neg-odd}
 use Rattle.float.proofs.FromInteger.{ofBits-is}
 use Rattle.float.proofs.Magnitudes.{pattern-value, magnitudes-order}

@@ -21,11 +21,10 @@ use Rattle.gcra.specs.declared.Units.{Units}
 use Rattle.gcra.specs.declared.Gcra.{Gcra}
 use Rattle.gcra.specs.Packed.{Accepted, validQuota, maxBurst}
 use Rattle.gcra.specs.Rate.{float, slots, debtSlots, slotNanos, carryTat, setQuota}
-use Rattle.float.proofs.Tests.{split}
+use Rattle.questions.proofs.Tests.{split}
 use Rattle.gcra.proofs.Validity.{Valid, valid-quota}
 use Rattle.gcra.proofs.Rates.{same-keeps, equal-same}
-use Rattle.gcra.proofs.Fractions.{Part, Sized, part-times, part-then, part-over, sized-times, sized-over, sized-wider}
-use Rattle.gcra.proofs.Fractions.{rounds, near-low, near-high, near-sized}
+use Rattle.gcra.proofs.Fractions.{Part, Sized, part-times, part-then, part-over, sized-times, sized-over, sized-wider, rounds, near-low, near-high, near-sized}
 
 -- a whole number as a float
 whole-sized : (n : ℕ) → 0 < n → n < 2 ^ 64 → Sized n 1 (2 ^ 64)

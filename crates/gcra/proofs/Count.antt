@@ -16,10 +16,9 @@ use Rattle.gcra.specs.declared.Tat.{Tat}
 use Rattle.gcra.specs.declared.Tat.the-variants.{Unset, At}
 use Rattle.gcra.specs.declared.Gcra.{Gcra}
 use Rattle.gcra.specs.Packed.{Accepted, validQuota, tau, ceiling}
-use Rattle.gcra.specs.Meter.{isAllow, decide, moved, parameters, tatWord, decision, check}
+use Rattle.gcra.specs.Meter.{isAllow, decide, moved, paceOf, tatWord, decision, check}
 use Rattle.gcra.specs.Run.{allowed, countIn, allBelow}
-use Rattle.float.proofs.Tests.{split}
-use Rattle.gcra.proofs.Cases.{and-both}
+use Rattle.questions.proofs.Tests.{split, both}
 use Rattle.gcra.proofs.Validity.{valid-quota}
 use Rattle.gcra.proofs.Checks.{allow-reaches, check-allow, allowed-first, denied-first}
 
@@ -45,7 +44,7 @@ tau-le T b = (omega arith, omega arith)
 
 below-first : (n t : ℕ) (ts : List ℕ) → allBelow n (t ∷ ts) ≡ true → (t < n) × (allBelow n ts ≡ true)
 unfolding allBelow
-below-first n t ts h = let p = and-both (ltb t n) (allBelow n ts) h in (ltb-true t n (p .0), p .1)
+below-first n t ts h = let p = both (ltb t n) (allBelow n ts) h in (ltb-true t n (p .0), p .1)
 
 module _ (T b s w : ℕ) (some : 1 ≤ b) where
   -- a later TAT owes no less
@@ -74,18 +73,18 @@ pub record Allowed (q : Quota) (tat : Tat) (now : ℕ) : Type 0 where
   pub reached : tatWord tat ≤ now + q .interval * (q .burst - 1)
   pub left : check (at q tat) now ≡ at q (At (max (tatWord tat) now + q .interval))
 
-decision-at : (q : Quota) (t now : ℕ) → decision (at q (At t)) now ≡ decide (parameters q) t now
+decision-at : (q : Quota) (t now : ℕ) → decision (at q (At t)) now ≡ decide (paceOf q) t now
 unfolding decision
 decision-at q t now = refl
 
 pub allows : (q : Quota) (tat : Tat) (now : ℕ) → q .interval < 2 ^ 61 → now < 2 ^ 62 → isAllow (decision (at q tat) now) ≡ true → Allowed q tat now
 allows q Unset now short l h =
-    let e : moved (parameters q) now now ≡ max 0 now + q .interval = omega arith in
+    let e : moved (paceOf q) now now ≡ max 0 now + q .interval = omega arith in
     record { reached = omega arith; left = check-allow (at q Unset) now h ∙ ap (λ (n : ℕ). at q (At n)) e }
 allows q (At t) now short l h =
-    let r : t - tau (q .interval) (q .burst) ≤ now = allow-reaches (parameters q) t now (rw (decision-at q t now) at h) in
+    let r : t - tau (q .interval) (q .burst) ≤ now = allow-reaches (paceOf q) t now (rw (decision-at q t now) at h) in
     let m = tau-le (q .interval) (q .burst) in
-    let e : moved (parameters q) t now ≡ max t now + q .interval = omega arith in
+    let e : moved (paceOf q) t now ≡ max t now + q .interval = omega arith in
     record { reached = omega arith; left = check-allow (at q (At t)) now h ∙ ap (λ (n : ℕ). at q (At n)) e }
 
 -- ---- a list of checks
@@ -104,7 +103,7 @@ module _ (q : Quota) (short : q .interval < 2 ^ 61) (some : 1 ≤ q .burst) (s w
   first tat t ts r o =
       split (leb s t && leb t (s + w))
       (λ i.
-      let p = and-both (leb s t) (leb t (s + w)) i in
+      let p = both (leb s t) (leb t (s + w)) i in
       rw i (counted (q .interval) (q .burst) s w some (tatWord tat) t _ (leb-true s t (p .0)) (leb-true t (s + w) (p .1)) r o))
       (λ i. rw i (later (q .interval) (q .burst) s w some (tatWord tat) (max (tatWord tat) t + q .interval) _ (omega arith) o))
 

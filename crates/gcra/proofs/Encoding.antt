@@ -4,12 +4,33 @@ use mathlib.Core.Path.{_≡_, refl, sym, ap, _∙_}
 use mathlib.Core.Bool.{true, false}
 use native.Mathlib.Nat.{le-trans, le-of-eq, div-add-mod', mod-lt, div-lt-iff-lt-mul, le-of-mul-le-mul-right, le-antisymm, mul-le-mul-right, mul-le-mul-left}
 use native.Mathlib.Omega.{arith}
-use lib.Dec.{eqb, lit<, lit≤}
-use borrow.Author.Tests.{ltb-true, ltb-false, lt-ltb, le-ltb}
+use lib.Dec.{eqb, ltb, lit<, lit≤}
+use borrow.Author.Tests.{ltb-true, ltb-false, lt-ltb, le-ltb, leb-true, le-leb, eqb-true, eq-eqb}
 use Rattle.gcra.specs.declared.Units.{Units}
 use Rattle.gcra.specs.declared.Encoded.{Encoded}
-use Rattle.gcra.specs.Packed.{Accepted, unitNanos, roundUp, width, holds, encodeIn, encode, rounded, maxInterval}
-use Rattle.float.proofs.Tests.{split}
+use Rattle.gcra.specs.Packed.{accepted, Accepted, unitNanos, roundUp, width, holds, encodeIn, encode, rounded, maxInterval}
+use Rattle.questions.proofs.Tests.{split, both, and-intro}
+
+-- ---- a table that is accepted, as facts and back
+pub accepted-says : (u : Units) → accepted u ≡ true → Accepted u
+unfolding accepted
+accepted-says u h =
+    let a = both (eqb (u .first) 1) _ h in
+    let b = both (ltb (u .first) (u .second)) _ (a .1) in
+    let c = both (ltb (u .second) (u .third)) _ (b .1) in
+    record {
+      one = eqb-true (u .first) 1 (a .0);
+      rises = ltb-true (u .first) (u .second) (b .0);
+      rises-on = ltb-true (u .second) (u .third) (c .0);
+      small = leb-true (u .third) 1000000 (c .1);
+    }
+
+pub says-accepted : (u : Units) → Accepted u → accepted u ≡ true
+unfolding accepted
+says-accepted u a =
+    and-intro _ _ (eq-eqb (u .first) 1 (a .one))
+    (and-intro _ _ (lt-ltb (u .first) (u .second) (a .rises))
+    (and-intro _ _ (lt-ltb (u .second) (u .third) (a .rises-on)) (le-leb (u .third) 1000000 (a .small))))
 
 -- ---- n / d rounded up
 pub round-up-ge : (n d : ℕ) → 0 < d → n ≤ roundUp n d * d
@@ -86,10 +107,15 @@ encode-takes u n a l =
     (λ k. rw (takes-second u n h k) record { code = lit< tt; fits = ltb-true _ _ k; first = below-one _ (ltb-false _ _ h); up = refl })
     (λ k. rw (takes-third u n h k) record { code = lit< tt; fits = third-holds u n a l; first = below-two _ (ltb-false _ _ h) (ltb-false _ _ k); up = refl }))
 
--- what an interval comes back as: no shorter, less than one unit longer, and at most the longest
-pub record ComesBack (u : Units) (n r : ℕ) : Type 0 where
+-- an interval n rounded up to its unit, the first whose rounded-up value is below 2^40: no shorter, less than one unit longer, and at most the longest
+pub record RoundedUp (u : Units) (n r : ℕ) : Type 0 where
+  pub unit : ℕ
+  pub code : unit < 3
+  pub fits : roundUp n (width u unit) < 2 ^ 40
+  pub first : (k : ℕ) → k < unit → 2 ^ 40 ≤ roundUp n (width u k)
+  pub up : r ≡ roundUp n (width u unit) * width u unit
   pub least : n ≤ r
-  pub close : r < n + width u (encode u n .unit)
+  pub close : r < n + width u unit
   pub most : r ≤ maxInterval u
 
 module _ (u : Units) (a : Accepted u) where
@@ -106,13 +132,18 @@ module _ (u : Units) (a : Accepted u) where
   value-small v k h = omega (arith, value-fits v k h)
 
   -- An interval comes back rounded up to its unit.
-  pub rounded-back : (n : ℕ) → n ≤ maxInterval u → ComesBack u n (rounded u n)
+  pub rounded-back : (n : ℕ) → n ≤ maxInterval u → RoundedUp u n (rounded u n)
   unfolding rounded
   rounded-back n l =
       let t = encode-takes u n a l in
       let w = width u (encode u n .unit) in
       let e : encode u n .value * w ≡ roundUp n w * w = ap (λ (v : ℕ). v * w) (t .up) in
       record {
+        unit = encode u n .unit;
+        code = t .code;
+        fits = omega (arith, t .up, t .fits);
+        first = t .first;
+        up = e;
         least = omega (arith, round-up-ge n w (width-pos (encode u n .unit)));
         close = omega (arith, round-up-lt n w (width-pos (encode u n .unit)));
         most = value-fits (encode u n .value) (encode u n .unit) (t .fits);

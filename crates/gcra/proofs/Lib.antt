@@ -1,6 +1,4 @@
 -- The laws that the proofs of the functions, and the crates above, cite.
-pub mod Cases
-pub mod Answers
 pub mod Encoding
 pub mod Validity
 pub mod Packing

@@ -7,12 +7,10 @@ use native.Mathlib.Nat.{pos-of-ne-zero}
 use native.Mathlib.Omega.{arith}
 use borrow.Author.Tests.{ltb-false, lt-ltb, le-ltb, leb-true, leb-false, eqb-true, eqb-false, eq-eqb, ne-eqb}
 use lib.Dec.{leb, eqb, lit<}
-use Rattle.float.proofs.Tests.{split}
+use Rattle.questions.proofs.Tests.{split, both, and-intro}
 use Rattle.gcra.specs.declared.Units.{Units}
 use Rattle.gcra.specs.declared.Encoded.{Encoded}
-use Rattle.gcra.specs.Packed.{Accepted, unitNanos, roundUp, width, holds, encode, encodeIn, maxInterval, withInterval, validQuota}
-use Rattle.gcra.specs.Packed.{pack, valueOf, unitOf, burstOf, unpacks, unpack, validWord}
-use Rattle.gcra.proofs.Cases.{and-both, and-true}
+use Rattle.gcra.specs.Packed.{Accepted, unitNanos, roundUp, width, holds, encode, encodeIn, maxInterval, withInterval, validQuota, pack, valueOf, unitOf, burstOf, unpacks, unpack, validWord}
 use Rattle.gcra.proofs.Encoding.{takes-first, takes-second, takes-third, encode-rounded, units-accepted}
 use Rattle.gcra.proofs.Validity.{valid-quota}
 use Rattle.gcra.proofs.Packing.{field-unit, fields, word-back, word-valid}
@@ -21,18 +19,18 @@ use Rattle.gcra.proofs.Packing.{field-unit, fields, word-back, word-val
 word-from : (u : Units) → Accepted u → (w : ℕ) → (eqb (pack u (unpack u w)) w && validQuota u (unpack u w)) ≡ true → validWord u w ≡ true
 unfolding validWord
 word-from u a w h =
-    let b = and-both (eqb (pack u (unpack u w)) w) (validQuota u (unpack u w)) h in
+    let b = both (eqb (pack u (unpack u w)) w) (validQuota u (unpack u w)) h in
     let e = eqb-true (pack u (unpack u w)) w (b .0) in
     let f = fields u a (unpack u w) (b .1) in
     let q = valid-quota u (unpack u w) (b .1) in
     let unit : unitOf w < 3 = rw e at (f .unit) in
     let burst : 0 < burstOf w = omega (arith, ap burstOf e, f .burst, q .burst .least) in
-    and-true (and-true (lt-ltb (unitOf w) 3 unit) (lt-ltb 0 (burstOf w) burst)) (b .0)
+    and-intro _ _ (and-intro _ _ (lt-ltb (unitOf w) 3 unit) (lt-ltb 0 (burstOf w) burst)) (b .0)
 
 pub word-is : (u : Units) → Accepted u → (w : ℕ) → (eqb (pack u (unpack u w)) w && validQuota u (unpack u w)) ≡ validWord u w
 word-is u a w =
     split (validWord u w)
-    (λ h. and-true (eq-eqb _ w (word-back u w h)) (word-valid u a w h) ∙ sym h)
+    (λ h. and-intro _ _ (eq-eqb _ w (word-back u w h)) (word-valid u a w h) ∙ sym h)
     (λ h.
     split (eqb (pack u (unpack u w)) w && validQuota u (unpack u w))
     (λ e. absurd (false≢true (sym h ∙ word-from u a w e)))
@@ -149,7 +147,7 @@ module _ (w : ℕ) (word : w < 2 ^ 64) (burst : burstOf w ≡ 0 → ⊥) where
       → leb least (valueOf w) ≡ validWord unitNanos w
   unfolding validWord
   by-value least l is isnt =
-      let opens : unpacks w ≡ true = and-true (lt-ltb (unitOf w) 3 (omega arith)) (lt-ltb 0 (burstOf w) (pos-of-ne-zero burst)) in
+      let opens : unpacks w ≡ true = and-intro _ _ (lt-ltb (unitOf w) 3 (omega arith)) (lt-ltb 0 (burstOf w) (pos-of-ne-zero burst)) in
       split (leb least (valueOf w))
       (λ b. rw (b, opens, eq-eqb (pack unitNanos (unpack unitNanos w)) w (is (leb-true least (valueOf w) b))))
       (λ b. rw (b, opens, ne-eqb (pack unitNanos (unpack unitNanos w)) w (isnt (leb-false least (valueOf w) b))))

@@ -15,8 +15,7 @@ use Rattle.gcra.specs.declared.Tat.the-variants.{Unset, At}
 use Rattle.gcra.specs.declared.Gcra.{Gcra}
 use Rattle.gcra.specs.Rate.{float, quotientNanos, carryTat, carried, sameQuota, setQuota, perSecond}
 use Rattle.gcra.specs.Meter.{tatWord}
-use Rattle.float.proofs.Tests.{split}
-use Rattle.gcra.proofs.Cases.{and-both, and-true}
+use Rattle.questions.proofs.Tests.{split, both, and-intro}
 use Rattle.gcra.proofs.Validity.{with-interval-valid}
 
 pub zero-is : ofBits binary64 0 ≡ float 0
@@ -68,14 +67,14 @@ carried-at t n old new now e = rw e
 -- The test finds two quotas the same exactly where they are equal.
 pub same-equal : (p q : Quota) → sameQuota p q ≡ true → p ≡ q
 same-equal p q h =
-    let t = and-both (eqb (p .interval) (q .interval)) (eqb (p .burst) (q .burst)) h in
+    let t = both (eqb (p .interval) (q .interval)) (eqb (p .burst) (q .burst)) h in
     let i = eqb-true (p .interval) (q .interval) (t .0) in
     let b = eqb-true (p .burst) (q .burst) (t .1) in
     (λ k. record { interval = i k; burst = b k })
 
 pub equal-same : (p q : Quota) → p ≡ q → sameQuota p q ≡ true
 equal-same p q e =
-    and-true (eq-eqb (p .interval) (q .interval) (ap (λ (x : Quota). x .interval) e)) (eq-eqb (p .burst) (q .burst) (ap (λ (x : Quota). x .burst) e))
+    and-intro _ _ (eq-eqb (p .interval) (q .interval) (ap (λ (x : Quota). x .interval) e)) (eq-eqb (p .burst) (q .burst) (ap (λ (x : Quota). x .burst) e))
 
 -- What holds of a Gcra, and of it with another quota and its TAT carried over, holds after a change of quota.
 pub by-quota : (P : Gcra → Type 0) (g : Gcra) (q : Quota) (now : ℕ) → P g

@@ -9,9 +9,9 @@ use Rattle.gcra.specs.declared.Tat.{Tat}
 use Rattle.gcra.specs.declared.Tat.the-variants.{Unset, At}
 use Rattle.gcra.specs.declared.Gcra.{Gcra}
 use Rattle.gcra.specs.declared.Decision.the-variants.{Deny}
-use Rattle.gcra.specs.Meter.{isAllow, parameters, decision}
+use Rattle.gcra.specs.Meter.{isAllow, paceOf, decision}
 use Rattle.gcra.specs.Run.{after, allowed}
-use Rattle.float.proofs.Tests.{split}
+use Rattle.questions.proofs.Tests.{split}
 use Rattle.gcra.proofs.Checks.{decide-allow, deny-is, check-deny, allowed-first, denied-first}
 
 cons-nil : {t : ℕ} {ts : List ℕ} → t ∷ ts ≡ [] → ⊥
@@ -30,8 +30,8 @@ denied-keep g (t ∷ ts) h =
 pub at-retry : (q : Quota) (tat : Tat) (now r : ℕ) → decision (record { quota = q; tat = tat }) now ≡ Deny r
     → isAllow (decision (record { quota = q; tat = tat }) r) ≡ true
 unfolding decision
-at-retry q Unset now r h = ap isAllow (decide-allow (parameters q) r r (omega arith))
-at-retry q (At t) now r h = ap isAllow (decide-allow (parameters q) t r (omega (arith, deny-is (parameters q) t now h .1)))
+at-retry q Unset now r h = ap isAllow (decide-allow (paceOf q) r r (omega arith))
+at-retry q (At t) now r h = ap isAllow (decide-allow (paceOf q) t r (omega (arith, deny-is (paceOf q) t now h .1)))
 
 -- A denied check's retry time, asked again at that time after any list of denied checks, is allowed.
 pub retry-allowed : (g : Gcra) (now r : ℕ) (ts : List ℕ) → decision g now ≡ Deny r → allowed g (now ∷ ts) ≡ []

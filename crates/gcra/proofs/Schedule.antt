@@ -9,12 +9,12 @@ use borrow.Author.Tests.{ltb-true, ltb-false, lt-ltb, le-ltb}
 use Rattle.gcra.specs.declared.Tat.{Tat}
 use Rattle.gcra.specs.declared.Tat.the-variants.{Unset, At}
 use Rattle.gcra.specs.declared.Gcra.{Gcra}
-use Rattle.gcra.specs.declared.Decoded.{Decoded}
+use Rattle.gcra.specs.declared.Pace.{Pace}
 use Rattle.gcra.specs.declared.Stepped.{Stepped}
 use Rattle.gcra.specs.Packed.{tau}
-use Rattle.gcra.specs.Meter.{isAllow, earliest, decide, moved, attempt, parameters, tatAt, decision, outcome}
+use Rattle.gcra.specs.Meter.{isAllow, earliest, decide, moved, attempt, paceOf, tatAt, decision, outcome}
 use Rattle.gcra.specs.Schedule.{Cell, arrives, virtualScheduling}
-use Rattle.float.proofs.Tests.{split}
+use Rattle.questions.proofs.Tests.{split}
 use Rattle.gcra.proofs.Checks.{decide-allow, decide-deny, attempt-allow, attempt-deny, check-attempts}
 
 -- a check's outcome as a cell's
@@ -22,29 +22,29 @@ abbrev pub cell : Stepped → Cell
 cell s = record { conforms = isAllow (s .decision); tat = s .tat }
 
 -- One attempt is one arrival at a limit L of at least tau: an allowed one where TAT is not held at 2^64 - 1, a denied one where L is tau.
-pub attempt-arrives : (d : Decoded) (L tat now : ℕ) → d .tau ≤ L
-    → (isAllow (decide d tat now) ≡ true → max tat now + d .t < 2 ^ 64)
-    → (isAllow (decide d tat now) ≡ false → L ≤ d .tau)
-    → cell (attempt d tat now) ≡ arrives (d .t) L tat now
+pub attempt-arrives : (p : Pace) (L tat now : ℕ) → p .tau ≤ L
+    → (isAllow (decide p tat now) ≡ true → max tat now + p .t < 2 ^ 64)
+    → (isAllow (decide p tat now) ≡ false → L ≤ p .tau)
+    → cell (attempt p tat now) ≡ arrives (p .t) L tat now
 unfolding arrives
-attempt-arrives d L tat now most fits free =
-    split (ltb now (earliest d tat))
+attempt-arrives p L tat now most fits free =
+    split (ltb now (earliest p tat))
     (λ e.
-    let l = ltb-true now (earliest d tat) e in
-    let k = free (ap isAllow (decide-deny d tat now l)) in
-    rw (attempt-deny d tat now l, le-ltb tat now (omega arith), lt-ltb (now + L) tat (omega arith)))
+    let l = ltb-true now (earliest p tat) e in
+    let k = free (ap isAllow (decide-deny p tat now l)) in
+    rw (attempt-deny p tat now l, le-ltb tat now (omega arith), lt-ltb (now + L) tat (omega arith)))
     (λ e.
-    let l = ltb-false now (earliest d tat) e in
-    let k = fits (ap isAllow (decide-allow d tat now l)) in
+    let l = ltb-false now (earliest p tat) e in
+    let k = fits (ap isAllow (decide-allow p tat now l)) in
     split (ltb tat now)
     (λ f.
     let b = ltb-true tat now f in
-    let m : moved d tat now ≡ now + d .t = omega arith in
-    rw (attempt-allow d tat now l, f, m))
+    let m : moved p tat now ≡ now + p .t = omega arith in
+    rw (attempt-allow p tat now l, f, m))
     (λ f.
     let b = ltb-false tat now f in
-    let m : moved d tat now ≡ tat + d .t = omega arith in
-    rw (attempt-allow d tat now l, f, le-ltb (now + L) tat (omega arith), m)))
+    let m : moved p tat now ≡ tat + p .t = omega arith in
+    rw (attempt-allow p tat now l, f, le-ltb (now + L) tat (omega arith), m)))
 
 -- a TAT as I.371 has it: none before the first cell
 abbrev pub theoretical : Tat → Option ℕ
@@ -66,5 +66,5 @@ check-schedules g now fits free =
     let q = g .quota in
     let tat = tatAt (g .tat) now in
     sym (ap cell (check-attempts q (g .tat) now))
-    ∙ attempt-arrives (parameters q) (q .interval * (q .burst - 1)) tat now (omega arith) fits (λ e. omega (arith, free e))
+    ∙ attempt-arrives (paceOf q) (q .interval * (q .burst - 1)) tat now (omega arith) fits (λ e. omega (arith, free e))
     ∙ sym (first-cell (q .interval) (q .interval * (q .burst - 1)) (g .tat) now)

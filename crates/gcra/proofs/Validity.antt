@@ -7,7 +7,7 @@ use borrow.Author.Tests.{leb-true, eqb-true, le-leb, eq-eqb}
 use Rattle.gcra.specs.declared.Units.{Units}
 use Rattle.gcra.specs.declared.Quota.{Quota}
 use Rattle.gcra.specs.Packed.{Accepted, maxBurst, rounded, maxInterval, withInterval, validBurst, validQuota}
-use Rattle.gcra.proofs.Cases.{and-both, and-true}
+use Rattle.questions.proofs.Tests.{both, and-intro}
 use Rattle.gcra.proofs.Encoding.{rounded-back, rounded-rounded}
 
 pub record ValidBurst (b : ℕ) : Type 0 where
@@ -21,17 +21,17 @@ pub record Valid (u : Units) (q : Quota) : Type 0 where
   pub own : rounded u (q .interval) ≡ q .interval
 
 pub valid-burst : (b : ℕ) → validBurst b ≡ true → ValidBurst b
-valid-burst b h = let p = and-both _ _ h in record { least = leb-true 1 b (p .0); most = leb-true b maxBurst (p .1) }
+valid-burst b h = let p = both _ _ h in record { least = leb-true 1 b (p .0); most = leb-true b maxBurst (p .1) }
 
 pub burst-valid : (b : ℕ) → ValidBurst b → validBurst b ≡ true
-burst-valid b v = and-true (le-leb 1 b (v .least)) (le-leb b maxBurst (v .most))
+burst-valid b v = and-intro _ _ (le-leb 1 b (v .least)) (le-leb b maxBurst (v .most))
 
 pub valid-quota : (u : Units) (q : Quota) → validQuota u q ≡ true → Valid u q
 unfolding validQuota
 valid-quota u q h =
-    let p = and-both _ _ h in
-    let i = and-both _ _ (p .0) in
-    let r = and-both _ _ (p .1) in
+    let p = both _ _ h in
+    let i = both _ _ (p .0) in
+    let r = both _ _ (p .1) in
     record {
       least = leb-true 1 (q .interval) (i .0);
       most = leb-true (q .interval) (maxInterval u) (i .1);
@@ -42,8 +42,8 @@ valid-quota u q h =
 pub quota-valid : (u : Units) (q : Quota) → Valid u q → validQuota u q ≡ true
 unfolding validQuota
 quota-valid u q v =
-    and-true (and-true (le-leb 1 (q .interval) (v .least)) (le-leb (q .interval) (maxInterval u) (v .most)))
-    (and-true (burst-valid (q .burst) (v .burst)) (eq-eqb (rounded u (q .interval)) (q .interval) (v .own)))
+    and-intro _ _ (and-intro _ _ (le-leb 1 (q .interval) (v .least)) (le-leb (q .interval) (maxInterval u) (v .most)))
+    (and-intro _ _ (burst-valid (q .burst) (v .burst)) (eq-eqb (rounded u (q .interval)) (q .interval) (v .own)))
 
 -- A quota made of any interval and a burst that fits is valid.
 pub made-valid : (u : Units) → Accepted u → (n b : ℕ) → ValidBurst b → Valid u (withInterval u n b)

@@ -28,7 +28,7 @@ use Rattle.gcra.specs.declared.SetAnswer.{SetAnswer}
 use Rattle.gcra.specs.declared.SetAnswer.the-variants as set-answer
 use Rattle.gcra.specs.declared.Checked.{Checked}
 use Rattle.gcra.specs.declared.QuotaSet.{QuotaSet}
-use Rattle.gcra.specs.Questions.{Question, _asks_, Answer, refused, given, answer, changed}
+use Rattle.questions.specs.Questions.{Question, _asks_, Answer, refused, given, answer, changed}
 use Rattle.gcra.specs.Packed.{unitNanos, roundUp, withInterval, validBurst, validQuota, pack, unpacks, unpack, ceiling}
 use Rattle.gcra.specs.Rate.{perSecond, ratePerSec, setQuota}
 use Rattle.gcra.specs.Meter.{decision, check, hasDebt, retryAfter}

@@ -1,4 +1,3 @@
-pub mod Questions
 pub mod Packed
 pub mod Meter
 pub mod Rate

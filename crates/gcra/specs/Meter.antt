@@ -11,7 +11,7 @@ use Rattle.gcra.specs.declared.Decision.{Decision}
 use Rattle.gcra.specs.declared.Decision.the-variants.{Allow, Deny}
 use Rattle.gcra.specs.declared.CheckAnswer.the-variants.{Is}
 use Rattle.gcra.specs.declared.Checked.{Checked}
-use Rattle.gcra.specs.declared.Decoded.{Decoded}
+use Rattle.gcra.specs.declared.Pace.{Pace}
 use Rattle.gcra.specs.declared.Stepped.{Stepped}
 use Rattle.gcra.specs.Packed.{tau, decode}
 use Rattle.gcra.specs.declared.Units.{Units}
@@ -21,21 +21,21 @@ isAllow Allow = true
 isAllow (Deny retry-at) = false
 
 -- the retry time: TAT - tau, never below 0
-abbrev pub earliest : Decoded → ℕ → ℕ
-earliest d tat = tat - d .tau
+abbrev pub earliest : Pace → ℕ → ℕ
+earliest p tat = tat - p .tau
 
 -- a reading below the retry time is denied with it
-unfoldable pub decide : Decoded → ℕ → ℕ → Decision
-decide d tat now = cond (ltb now (earliest d tat)) (Deny (earliest d tat)) Allow
+unfoldable pub decide : Pace → ℕ → ℕ → Decision
+decide p tat now = cond (ltb now (earliest p tat)) (Deny (earliest p tat)) Allow
 
 -- TAT after an allowed check: max(TAT, reading) + T, held at 2^64 - 1
-abbrev pub moved : Decoded → ℕ → ℕ → ℕ
-moved d tat now = min (max tat now + d .t) (2 ^ 64 - 1)
+abbrev pub moved : Pace → ℕ → ℕ → ℕ
+moved p tat now = min (max tat now + p .t) (2 ^ 64 - 1)
 
--- a check at any T and tau, with the TAT that it leaves
-unfoldable pub attempt : Decoded → ℕ → ℕ → Stepped
-attempt d tat now =
-    record { decision = decide d tat now; tat = cond (isAllow (decide d tat now)) (moved d tat now) tat }
+-- a check at any pace, with the TAT that it leaves
+unfoldable pub attempt : Pace → ℕ → ℕ → Stepped
+attempt p tat now =
+    record { decision = decide p tat now; tat = cond (isAllow (decide p tat now)) (moved p tat now) tat }
 
 -- one attempt on a TAT, 0 for none, and a packed word
 abbrev pub step : Units → ℕ → ℕ → ℕ → Stepped
@@ -46,9 +46,9 @@ abbrev pub tatWord : Tat → ℕ
 tatWord Unset = 0
 tatWord (At tat) = tat
 
--- T and tau of a quota
-abbrev pub parameters : Quota → Decoded
-parameters q = record { t = q .interval; tau = tau (q .interval) (q .burst) }
+-- the pace of a quota: T and tau
+abbrev pub paceOf : Quota → Pace
+paceOf q = record { t = q .interval; tau = tau (q .interval) (q .burst) }
 
 -- a missing TAT counts as the reading
 abbrev pub tatAt : Tat → ℕ → ℕ
@@ -56,13 +56,13 @@ tatAt Unset now = now
 tatAt (At tat) now = tat
 
 unfoldable pub decision : Gcra → ℕ → Decision
-decision g now = decide (parameters (g .quota)) (tatAt (g .tat) now) now
+decision g now = decide (paceOf (g .quota)) (tatAt (g .tat) now) now
 
 -- the Gcra after a check: as it was after a denied one
 unfoldable pub check : Gcra → ℕ → Gcra
 check g now =
     cond (isAllow (decision g now))
-    (record { quota = g .quota; tat = At (moved (parameters (g .quota)) (tatAt (g .tat) now) now) })
+    (record { quota = g .quota; tat = At (moved (paceOf (g .quota)) (tatAt (g .tat) now) now) })
     g
 
 -- a check as `step` answers it: the decision and the TAT that it leaves, 0 for none

@@ -5,10 +5,14 @@ use mathlib.Core.Bool.{Bool, cond, _&&_}
 use lib.Dec.{leb, ltb, eqb}
 use Rattle.gcra.specs.declared.Units.{Units}
 use Rattle.gcra.specs.declared.Encoded.{Encoded}
-use Rattle.gcra.specs.declared.Decoded.{Decoded}
+use Rattle.gcra.specs.declared.Pace.{Pace}
 use Rattle.gcra.specs.declared.Quota.{Quota}
 
--- three widths in nanoseconds: the first 1, rising, the last at most 1,000,000
+-- a table of three widths in nanoseconds that is accepted: 'the first is 1, they rise strictly, and the last is at most 1,000,000'
+unfoldable pub accepted : Units → Bool
+accepted u = eqb (u .first) 1 && (ltb (u .first) (u .second) && (ltb (u .second) (u .third) && leb (u .third) 1000000))
+
+-- what `accepted` says, as facts: proofs/Encoding.antt has it both ways
 pub record Accepted (u : Units) : Type 0 where
   pub one : u .first ≡ 1
   pub rises : u .first < u .second
@@ -102,8 +106,8 @@ validWord u w = unpacks w && eqb (pack u (unpack u w)) w
 unfoldable pub tau : ℕ → ℕ → ℕ
 tau interval burst = min (interval * (burst - 1)) (2 ^ 63 - 1)
 
--- T and tau of every word, as `step` reads it
-unfoldable pub decode : Units → ℕ → Decoded
+-- the pace, T and tau, of every word, as `step` reads it
+unfoldable pub decode : Units → ℕ → Pace
 decode u w =
     record {
       t = valueOf w * width u (unitOf w);

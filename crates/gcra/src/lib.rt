@@ -50,8 +50,8 @@ pub struct Encoded {
     pub unit: u64,
 }
 
-// What a check needs of a quota: T and tau.
-pub struct Decoded {
+// The pace of a quota: T and tau.
+pub struct Pace {
     pub t: u64,
     pub tau: u64,
 }
@@ -423,23 +423,23 @@ impl Quota {
         }
     }
 
-    // T and tau straight from a word, which may be any.
-    fn decode(units: Units, packed: u64) -> Decoded
+    // The pace of a word, which may be any.
+    fn decode(units: Units, packed: u64) -> Pace
         requires { ⌜ Accepted units ⌝ }
         ensures { λ r. ⌜ r ≡ Packed.decode units packed ⌝ }
     {
         let t = Self::interval_of(units, packed);
-        Decoded {
+        Pace {
             t,
             tau: tau(t, packed % UNIT_SCALE),
         }
     }
 
-    // T and tau of a quota, as a check needs them.
-    fn t_and_tau(self) -> Decoded
-        ensures { λ r. ⌜ r ≡ Meter.parameters self ⌝ }
+    // The pace of a quota, as a check needs it.
+    fn t_and_tau(self) -> Pace
+        ensures { λ r. ⌜ r ≡ Meter.paceOf self ⌝ }
     {
-        Decoded {
+        Pace {
             t: self.interval,
             tau: tau(self.interval, self.burst as u64),
         }
@@ -482,11 +482,11 @@ impl Decision {
     }
 }
 
-// One attempt at any T and tau.
-fn attempt(quota: Decoded, tat: u64, now: u64) -> Stepped
-    ensures { λ r. ⌜ r ≡ Meter.attempt quota tat now ⌝ }
+// One attempt at any pace.
+fn attempt(pace: Pace, tat: u64, now: u64) -> Stepped
+    ensures { λ r. ⌜ r ≡ Meter.attempt pace tat now ⌝ }
 {
-    let earliest = whole::saturating_sub(tat, quota.tau);
+    let earliest = whole::saturating_sub(tat, pace.tau);
     if now < earliest {
         return Stepped {
             decision: Decision::Deny { retry_at: earliest },
@@ -495,7 +495,7 @@ fn attempt(quota: Decoded, tat: u64, now: u64) -> Stepped
     }
     Stepped {
         decision: Decision::Allow,
-        tat: whole::saturating_add(whole::max(tat, now), quota.t),
+        tat: whole::saturating_add(whole::max(tat, now), pace.t),
     }
 }
 

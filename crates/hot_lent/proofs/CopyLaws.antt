@@ -11,25 +11,26 @@ use native.Mathlib.Nat.{le-refl, le-of-lt, min-eq-left, min-eq-right}
 use borrow.Author.Tests.{le-leb, leb-true, leb-false}
 use lib.Dec.{T, leb}
 use lib.Ieee.{Float, binary64, ofBits, fits}
+use lib.Ieee.Bits.{is-true}
 use Rattle.demand.specs.declared.hot_set.Cooling.the-variants.{Unset}
 use Rattle.records.specs.Records.{records, flat, table, insertAt, splice, insertable, inserted}
-use Rattle.records.proofs.TestLaws.{and-intro, split, both}
+use Rattle.questions.proofs.Tests.{and-intro, split, both}
 use Rattle.records.proofs.RecordLaws.{fits-intro, length-records, flat-append, flat-records, records-split}
 use Rattle.records.proofs.TableLaws.{records-inserted}
-use Rattle.demand.specs.HotSet.{words, entry, entries, valid, Outcome, updateWith}
-use Rattle.demand.specs.HotSetCalls.{askUpdate, evictionMargin, held, room, updated, rewritten, updateAnswer, UpdatedWith}
+use Rattle.demand.specs.HotSet.Set.{words, entry, entries, Outcome, updateWith}
+use Rattle.demand.specs.HotSet.Calls.{askUpdate, evictionMargin, entriesOf, updated, rewritten, updateAnswer, UpdatedWith}
 use Rattle.demand.specs.declared.hot_set.HotSet.{HotSet}
 use Rattle.demand.specs.declared.hot_set.Updated.{Updated}
 use Rattle.demand.specs.declared.hot_set.UpdateAnswer.{UpdateAnswer}
 use Rattle.demand.specs.declared.hot_set.UpdateAnswer.the-variants.{No, Is}
 use Rattle.demand.specs.declared.hot_set.HotEntry.{HotEntry}
-use Rattle.demand.proofs.HotSetWords.{entry-at, entry-take, length-entries, length-flat, Fits, entries-table}
-use Rattle.demand.proofs.HotSetKept.{fits-goods}
-use Rattle.demand.proofs.HotSetAnswers.{passed-set, update-passed-set}
-use Rattle.demand.proofs.HotSetTheorems.{Kept, kept}
-use Rattle.gcra.proofs.Answers.{given-passed}
-use Rattle.gcra.specs.Questions.{Question, Answer, refused, given, answer, passes, changed}
-use Rattle.float.specs.Magnitude.{magnitude}
+use Rattle.demand.proofs.HotSet.Words.{entry-at, entry-take, length-entries, length-flat, demandFits, Fits, fits-entries, entries-table}
+use Rattle.demand.proofs.HotSet.ValidLaws.{updated-fits}
+use Rattle.demand.proofs.Peers.Validity.ValidLaws.{all-take}
+use Rattle.demand.proofs.HotSet.Answers.{passed-set, update-passed-set}
+use Rattle.demand.proofs.HotSet.Theorems.{Kept, kept}
+use Rattle.questions.proofs.Answers.{given-passed}
+use Rattle.questions.specs.Questions.{Question, Answer, refused, given, answer, passes, changed}
 use Rattle.hot_lent.specs.declared.Copied.{Copied}
 use Rattle.hot_lent.specs.declared.Turn.{Turn}
 use Rattle.hot_lent.specs.Entries.{lentWords, outcome, UpdatedEntries}
@@ -164,17 +165,13 @@ entries-front es t f =
 
 module _ (s : HotSet) (xs : List ℕ) (key : ℕ) (demand threshold : Float) (now : ℕ) (elsewhere : Bool) (f : T (fits binary64 demand)) where
   abbrev o : Outcome
-  o = updateWith evictionMargin s key demand threshold now elsewhere (held s xs)
+  o = updateWith evictionMargin s key demand threshold now elsewhere (entriesOf s xs)
 
   abbrev qs : List Question
   qs = askUpdate s xs demand
 
-  number : passes qs ≡ true → magnitude demand ≡ true
-  unfolding passes
-  number p = both (magnitude demand) _ (both (valid s (records 6 (s .len) xs)) _ (both (leb (room (s .«max_size»)) (length xs)) _ p .1) .1) .0
-
   pub update-kept : passes qs ≡ true → Kept (s .«max_size») key o
-  update-kept p = kept evictionMargin s xs (update-passed-set s xs demand p) key demand threshold now elsewhere f (number p)
+  update-kept p = kept evictionMargin s xs (update-passed-set s xs demand p) key demand threshold now elsewhere
 
   -- where it is refused nothing is left; else the entries of the outcome stand at the front of the words
   turn-left : (r : UpdateAnswer) (ys rest : List ℕ) → UpdatedWith s xs key demand threshold now elsewhere r ys → entries (lengthLeft r) (ys ++
@@ -188,7 +185,7 @@ module _ (s : HotSet) (xs : List ℕ) (key : ℕ) (demand threshold : Float) (no
       ap (λ (w : Updated). entries (w .set .len) (ys ++ rest)) (g .1)
       ∙ ap (λ (l : List ℕ). entries (length (o .left)) (l ++ rest)) e
       ∙ ap (entries (length (o .left))) (append-assoc (flat (map words (o .left))) _ rest)
-      ∙ entries-front (o .left) _ (fits-goods (o .left) (update-kept (g .0) .good))
+      ∙ entries-front (o .left) _ (updated-fits evictionMargin s key demand threshold now elsewhere (entriesOf s xs) (is-true (fits binary64 demand) f) (fits-entries (s .len) xs))
       ∙ ap (λ (b : Bool). cond b (o .left) []) (sym (g .0))
 
   pub turn-of : (r : UpdateAnswer) (n : ℕ) (ys rest ws : List ℕ) → n ≡ lengthLeft r → ws ≡ ys ++ rest → UpdatedWith s xs key demand threshold now
@@ -233,15 +230,10 @@ module _
         either true = refl
         either false = refl
 
--- ---- the entries that a set holds in the words of lent entries are the first of these
-fits-take : (n : ℕ) (es : List HotEntry) → Fits es → Fits (take n es)
-fits-take zero es f = tt
-fits-take (suc n) [] f = tt
-fits-take (suc n) (e ∷ es) f = (f .0, fits-take n es (f .1))
-
-pub held-lent : (s : HotSet) (es : List HotEntry) → Fits es → s .len ≤ 64 → s .len ≤ length es → held s (lentWords es) ≡ take (s .len) es
+-- ---- the entries that a set has in the words of lent entries are the first of these
+pub entries-lent : (s : HotSet) (es : List HotEntry) → Fits es → s .len ≤ 64 → s .len ≤ length es → entriesOf s (lentWords es) ≡ take (s .len) es
 unfolding lentWords
-held-lent s es f a b =
+entries-lent s es f a b =
     let n : ℕ = s .len in
     let first : List HotEntry = take n es in
     let rest : List HotEntry = drop n (take 64 es) in
@@ -250,4 +242,4 @@ held-lent s es f a b =
     ∙ ap (λ (l : List (List ℕ)). entries n (flat l)) (map-append words first rest)
     ∙ ap (entries n) (flat-append (map words first) (map words rest))
     ∙ ap (λ (k : ℕ). entries k (flat (map words first) ++ flat (map words rest))) (sym (length-take-le n es b))
-    ∙ entries-front first (flat (map words rest)) (fits-take n es f)
+    ∙ entries-front first (flat (map words rest)) (all-take demandFits n es f)

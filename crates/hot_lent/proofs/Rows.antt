@@ -1,7 +1,7 @@
--- The types of this crate's functions as the walks by hand see them: an entry's machine value and laws, where entry i of a slice lies, and how many
+-- The types of this crate's functions as the walks by hand see them: a struct's machine value and laws, where entry i of a slice lies, and how many
 -- words are copied.
--- R            an entry's row.        vals, mach   its machine values, and the one that it has.        tells, copies, makes, lawful    the row's
--- laws
+-- Row              a struct that a function takes or makes, with its laws.        entry-row, set-row, copied-row, turn-row       the four
+-- vals, mach       its machine values, and the one that it has.        tells, makes, lawful    the row's laws
 -- at-48        element i of elements of 48 bytes lies at i * 48 past the first.        product-fits     i * 48 fits a usize, where i is an index of
 -- a slice
 --     copied-long, turn-long       the words of a `Copied` and of a `Turn` are 384
@@ -21,14 +21,17 @@ use denote.Laws.{Is, Tells, Copy, Makes, Lawful}
 use denote.Slice.{Room}
 use denote.Memory.{pointee}
 use denote.Index.{place, place-is}
+use denote.Struct.Declared.{Declared, fields, row}
+use denote.Struct.Struct.{Plains}
 use denote.Struct.Laws as LL
 use denote.Enum.Laws as EL
 use Rattle.demand.specs.declared.hot_set.UpdateAnswer.{UpdateAnswer}
 use Rattle.demand.proofs.hot_set.UpdateAnswer as X
 use Rattle.demand.proofs.hot_set.UpdateAnswer.Laws as X′
-use Rattle.demand.specs.declared.hot_set.HotEntry.{HotEntry}
 use Rattle.demand.proofs.hot_set.HotEntry as T
 use Rattle.demand.proofs.hot_set.HotEntry.Laws as T′
+use Rattle.demand.proofs.hot_set.HotSet as S
+use Rattle.demand.proofs.hot_set.HotSet.Laws as S′
 use Rattle.hot_lent.specs.declared.Copied.{Copied}
 use Rattle.hot_lent.proofs.Copied as C
 use Rattle.hot_lent.proofs.Copied.Laws as C′
@@ -36,78 +39,68 @@ use Rattle.hot_lent.specs.declared.Turn.{Turn}
 use Rattle.hot_lent.proofs.Turn as U
 use Rattle.hot_lent.proofs.Turn.Laws as U′
 
+-- a struct, and what is proved of it
+pub record Row : Type 2 where
+  pub type : Declared
+  pub laws : LL.Laws type
+  pub plain : Plains (fields type)
+
+abbrev pub entry-row : Row
+entry-row = record { type = T.the-type; laws = T′.the-laws; plain = T′.the-plain }
+
+abbrev pub set-row : Row
+set-row = record { type = S.the-type; laws = S′.the-laws; plain = S′.the-plain }
+
+abbrev pub copied-row : Row
+copied-row = record { type = C.the-type; laws = C′.the-laws; plain = C′.the-plain }
+
+abbrev pub turn-row : Row
+turn-row = record { type = U.the-type; laws = U′.the-laws; plain = U′.the-plain }
+
+module _ (K : Row) where
+  abbrev pub vals : K .type .D → List Val
+  vals = LL.vals (K .type) (K .laws)
+
+  abbrev pub mach : K .type .D → Val
+  mach = LL.val (K .type) (K .laws)
+
+  pub tells : Tells (row (K .type)) (Is (row (K .type))) vals
+  tells = LL.tells (K .type) (K .laws)
+
+  module _ {M : Type 1} (𝓤 : URA M) (H : Heap 𝓤) (A : Atoms 𝓤) (W : Given 𝓤 H A) where
+    pub makes : Makes 𝓤 H A (row (K .type)) (Is (row (K .type)))
+    makes = LL.makes (K .type) (K .plain) 𝓤 H A
+
+    pub lawful : Lawful 𝓤 H A (row (K .type))
+    lawful = LL.lawful (K .type) (K .laws) 𝓤 H A W
+
+-- an entry
 abbrev pub R : RattleType
 R = T.the-row
 
-abbrev pub vals : HotEntry → List Val
-vals = LL.vals T.the-type T′.the-laws
-
-abbrev pub mach : HotEntry → Val
-mach = LL.val T.the-type T′.the-laws
-
-pub tells : Tells R (Is R) vals
-tells = LL.tells T.the-type T′.the-laws
-
-module _ {M : Type 1} (𝓤 : URA M) (H : Heap 𝓤) (A : Atoms 𝓤) (W : Given 𝓤 H A) where
-  pub copies : Copy 𝓤 H A R
-  copies = LL.copy T.the-type T′.the-copy 𝓤 H A W
-
-  pub makes : Makes 𝓤 H A R (Is R)
-  makes = LL.makes T.the-type T′.the-plain 𝓤 H A
-
-  pub lawful : Lawful 𝓤 H A R
-  lawful = LL.lawful T.the-type T′.the-laws 𝓤 H A W
+pub copies : {M : Type 1} (𝓤 : URA M) (H : Heap 𝓤) (A : Atoms 𝓤) → Given 𝓤 H A → Copy 𝓤 H A R
+copies = LL.copy T.the-type T′.the-copy
 
 abbrev pub behind : Ty
 behind = pointee (T.the-row .written)
 
+-- the MIR types
 abbrev pub by-value : Ty
 by-value = T′.mir
 
--- copied entries
+abbrev pub set-type : Ty
+set-type = S′.mir
+
 abbrev pub copied-type : Ty
 copied-type = C′.mir
 
-abbrev pub copied-vals : Copied → List Val
-copied-vals = LL.vals C.the-type C′.the-laws
-
-abbrev pub copied-mach : Copied → Val
-copied-mach = LL.val C.the-type C′.the-laws
-
-pub copied-tells : Tells C.the-row (Is C.the-row) copied-vals
-copied-tells = LL.tells C.the-type C′.the-laws
-
-module _ {M : Type 1} (𝓤 : URA M) (H : Heap 𝓤) (A : Atoms 𝓤) (W : Given 𝓤 H A) where
-  pub copied-makes : Makes 𝓤 H A C.the-row (Is C.the-row)
-  copied-makes = LL.makes C.the-type C′.the-plain 𝓤 H A
-
-  pub copied-lawful : Lawful 𝓤 H A C.the-row
-  copied-lawful = LL.lawful C.the-type C′.the-laws 𝓤 H A W
-
--- what an update leaves
 abbrev pub turn-type : Ty
 turn-type = U′.mir
 
-abbrev pub turn-vals : Turn → List Val
-turn-vals = LL.vals U.the-type U′.the-laws
-
-abbrev pub turn-mach : Turn → Val
-turn-mach = LL.val U.the-type U′.the-laws
-
-pub turn-tells : Tells U.the-row (Is U.the-row) turn-vals
-turn-tells = LL.tells U.the-type U′.the-laws
-
-module _ {M : Type 1} (𝓤 : URA M) (H : Heap 𝓤) (A : Atoms 𝓤) (W : Given 𝓤 H A) where
-  pub turn-makes : Makes 𝓤 H A U.the-row (Is U.the-row)
-  turn-makes = LL.makes U.the-type U′.the-plain 𝓤 H A
-
-  pub turn-lawful : Lawful 𝓤 H A U.the-row
-  turn-lawful = LL.lawful U.the-type U′.the-laws 𝓤 H A W
-
--- an update's answer
 abbrev pub answer-type : Ty
 answer-type = X′.mir
 
+-- an update's answer
 abbrev pub answer-vals : UpdateAnswer → List Val
 answer-vals = EL.vals X.the-type X′.the-laws
 

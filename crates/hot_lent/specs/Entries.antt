@@ -6,9 +6,9 @@ use mathlib.Core.List.{List, _++_, map}
 use lib.Ieee.{Float}
 use lib.ListN.{length, take, drop}
 use Rattle.records.specs.Records.{flat}
-use Rattle.gcra.specs.Questions.{Question, answer, changed}
-use Rattle.demand.specs.HotSet.{words, Outcome, updateWith}
-use Rattle.demand.specs.HotSetCalls.{askUpdate, evictionMargin, held, updated, updateAnswer}
+use Rattle.questions.specs.Questions.{Question, answer, changed}
+use Rattle.demand.specs.HotSet.Set.{words, Outcome, updateWith}
+use Rattle.demand.specs.HotSet.Calls.{askUpdate, evictionMargin, entriesOf, updated, updateAnswer}
 use Rattle.demand.specs.declared.hot_set.HotEntry.{HotEntry}
 use Rattle.demand.specs.declared.hot_set.HotSet.{HotSet}
 use Rattle.demand.specs.declared.hot_set.UpdateAnswer.{UpdateAnswer}
@@ -19,7 +19,7 @@ lentWords es = flat (map words (take 64 es))
 
 -- what an update makes of the entries that the set holds
 abbrev pub outcome : HotSet → List HotEntry → (key : ℕ) (demand threshold : Float) (now : ℕ) (elsewhere : Bool) → Outcome
-outcome s es key demand threshold now elsewhere = updateWith evictionMargin s key demand threshold now elsewhere (held s (lentWords es))
+outcome s es key demand threshold now elsewhere = updateWith evictionMargin s key demand threshold now elsewhere (entriesOf s (lentWords es))
 
 -- `update_with`: the answer of the one over words; the entries of the outcome, then those from there on as they were
 pub record UpdatedEntries (s : HotSet) (es : List HotEntry) (key : ℕ) (demand threshold : Float) (now : ℕ) (elsewhere : Bool) (r : UpdateAnswer)

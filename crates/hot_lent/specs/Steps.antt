@@ -6,9 +6,9 @@ use mathlib.Core.List.{List, [], _++_, map}
 use lib.Ieee.{Float}
 use lib.ListN.{length, take, drop}
 use Rattle.records.specs.Records.{flat}
-use Rattle.gcra.specs.Questions.{answer, changed}
-use Rattle.demand.specs.HotSet.{words, entry, entries, Outcome, updateWith}
-use Rattle.demand.specs.HotSetCalls.{askUpdate, evictionMargin, held, updated, updateAnswer}
+use Rattle.questions.specs.Questions.{answer, changed}
+use Rattle.demand.specs.HotSet.Set.{words, entry, entries, Outcome, updateWith}
+use Rattle.demand.specs.HotSet.Calls.{askUpdate, evictionMargin, entriesOf, updated, updateAnswer}
 use Rattle.demand.specs.declared.hot_set.HotEntry.{HotEntry}
 use Rattle.demand.specs.declared.hot_set.HotSet.{HotSet}
 use Rattle.demand.specs.declared.hot_set.UpdateAnswer.{UpdateAnswer}
@@ -41,8 +41,8 @@ lengthLeft (Is u) = u .set .len
 -- an update of words, with the entries that it leaves, or none where it is refused
 pub record Turns (s : HotSet) (xs : List ℕ) (key : ℕ) (demand threshold : Float) (now : ℕ) (elsewhere : Bool) (t : Turn) : Type 0 where
   pub answered : updateAnswer (t .answer) ≡ answer (askUpdate s xs demand) (updated s (updateWith evictionMargin s key demand threshold now
-      elsewhere (held s xs)))
-  pub left : entries (t .len) (t .words) ≡ changed (askUpdate s xs demand) [] (updateWith evictionMargin s key demand threshold now elsewhere (held
+      elsewhere (entriesOf s xs)))
+  pub left : entries (t .len) (t .words) ≡ changed (askUpdate s xs demand) [] (updateWith evictionMargin s key demand threshold now elsewhere (entriesOf
       s xs) .left)
 
 -- they are copied back

@@ -1,20 +1,19 @@
 // The hot set over a lent slice of entries: they are copied to the words of their records, the
 // functions over words act on these, and the entries that an update leaves are copied back.
+use demand::answers::FlagAnswer;
+use demand::answers::LenAnswer;
 use demand::hot_set::HotEntry;
 use demand::hot_set::HotSet;
-use demand::hot_set::LenAnswer;
 use demand::hot_set::SinceAnswer;
-use demand::hot_set::TestAnswer;
 use demand::hot_set::UpdateAnswer;
 ghost use mathlib.Core.Path.{_≡_};
 ghost use mathlib.Core.Bool.{false};
 ghost use Prim.Native.Nat.{_+_, _-_, _*_, _≤_, _<_, min};
 ghost use lib.ListN.{length, take, drop};
-ghost use Rattle.demand.specs.HotSet as Set;
-ghost use Rattle.demand.specs.HotSetCalls as Calls;
+ghost use Rattle.demand.specs.HotSet.Set as Set;
+ghost use Rattle.demand.specs.HotSet.Calls as Calls;
 ghost use Rattle.hot_lent.specs.Entries.{lentWords, UpdatedEntries};
-ghost use Rattle.hot_lent.specs.Steps.{wordsIn, entryIn, lengthLeft};
-ghost use Rattle.hot_lent.specs.Steps.{Copies, Appends, Turns, Stored};
+ghost use Rattle.hot_lent.specs.Steps.{wordsIn, entryIn, lengthLeft, Copies, Appends, Turns, Stored};
 
 // Entries as words; `len` of them stand at the front.
 struct Copied {
@@ -113,7 +112,7 @@ fn store(entries: &mut [HotEntry], turn: Turn) -> UpdateAnswer
 
 // ---- the functions over words
 
-fn is_hot_in(set: HotSet, copied: Copied, key: u64) -> TestAnswer
+fn is_hot_in(set: HotSet, copied: Copied, key: u64) -> FlagAnswer
     requires { ⌜ copied .len ≤ 64 ⌝ }
     ensures { λ r. ⌜ Calls.SaidHot set (wordsIn copied) key r ⌝ }
 {
@@ -122,7 +121,7 @@ fn is_hot_in(set: HotSet, copied: Copied, key: u64) -> TestAnswer
     set.is_hot(&words[..n], key)
 }
 
-fn is_primary_in(set: HotSet, copied: Copied, key: u64) -> TestAnswer
+fn is_primary_in(set: HotSet, copied: Copied, key: u64) -> FlagAnswer
     requires { ⌜ copied .len ≤ 64 ⌝ }
     ensures { λ r. ⌜ Calls.SaidPrimary set (wordsIn copied) key r ⌝ }
 {
@@ -231,7 +230,7 @@ pub fn update(
 }
 
 // Whether the set has the key.
-pub fn is_hot(set: HotSet, entries: &[HotEntry], key: u64) -> TestAnswer
+pub fn is_hot(set: HotSet, entries: &[HotEntry], key: u64) -> FlagAnswer
     ensures { λ r. ⌜ Calls.SaidHot set (lentWords (now (entries .entry))) key r ⌝ }
 {
     let copied = load(entries);
@@ -239,7 +238,7 @@ pub fn is_hot(set: HotSet, entries: &[HotEntry], key: u64) -> TestAnswer
 }
 
 // Whether the set has the key as primary.
-pub fn is_primary(set: HotSet, entries: &[HotEntry], key: u64) -> TestAnswer
+pub fn is_primary(set: HotSet, entries: &[HotEntry], key: u64) -> FlagAnswer
     ensures { λ r. ⌜ Calls.SaidPrimary set (lentWords (now (entries .entry))) key r ⌝ }
 {
     let copied = load(entries);

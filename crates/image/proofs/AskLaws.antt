@@ -9,15 +9,16 @@ use lib.Dec.{leb, eqb}
 use lib.ListN.{length, drop}
 use Rattle.records.specs.Records.{records, table}
 use Rattle.records.proofs.TableLaws.{Wide, records-table, length-table, length-flat}
-use Rattle.records.proofs.TestLaws.{and-intro}
+use Rattle.questions.proofs.Tests.{and-intro}
 use Rattle.gcra.specs.Packed.{unitNanos}
-use Rattle.gcra.specs.Questions.{_asks_, firstNo}
+use Rattle.questions.specs.Questions.{_asks_, firstNo}
 use Rattle.demand.specs.declared.peer_demand.PeerDemand.{PeerDemand}
-use Rattle.demand.specs.HotSet as hot-set
-use Rattle.demand.specs.PeerRecords.{peerWords, snapshotKeyWords, contestedWords, peerOf, snapshotKeyOf, contestedOf}
-use Rattle.demand.specs.PeerState as peer-state
-use Rattle.demand.specs.PeerState.{PeerTables}
-use Rattle.demand.specs.PeerCalls.{peersQuestions}
+use Rattle.demand.specs.HotSet.Set as hot-set
+use Rattle.demand.specs.Peers.Records.{peerWords, snapshotKeyWords, contestedWords, peerOf, snapshotKeyOf, contestedOf}
+use Rattle.records.specs.Typed.{exact}
+use Rattle.demand.specs.Peers.State as peer-state
+use Rattle.demand.specs.Peers.State.{PeerTables}
+use Rattle.demand.specs.Peers.Calls.{peersQuestions}
 use Rattle.limiter.specs.declared.Config.{Config}
 use Rattle.limiter.specs.declared.Limiter.{Limiter}
 use Rattle.limiter.specs.State as limiter-state
@@ -80,8 +81,8 @@ module _ (bs : List ℕ) (f : Sections) (r : Scans bs f) (few : FewFound f) wher
     valid-read : limiter-state.isValid unitNanos l t ≡ limiterJudged l (sectionsFirst kinds bs)
     unfolding limiter-state.isValid limiter-state.areExact limiter-state.stateOf limiterJudged hot-set.entries
     valid-read = (λ i.
-        (peer-state.exact (limiter-state.keyWords unitNanos) (limiter-state.keyOf unitNanos) (keys-read i)
-        && (peer-state.exact hot-set.words hot-set.entry (hot-read i) && peer-state.exact (limiter-state.shadowWords unitNanos) (limiter-state.shadowOf unitNanos) (shadows-read i)))
+        (exact (limiter-state.keyWords unitNanos) (limiter-state.keyOf unitNanos) (keys-read i)
+        && (exact hot-set.words hot-set.entry (hot-read i) && exact (limiter-state.shadowWords unitNanos) (limiter-state.shadowOf unitNanos) (shadows-read i)))
         && limiter-state.valid unitNanos (record {
           settings = limiter-state.settingsOf l;
           keys = map (limiter-state.keyOf unitNanos) (keys-read i);
@@ -116,8 +117,8 @@ module _ (bs : List ℕ) (f : Sections) (r : Scans bs f) (few : FewFound f) wher
     peers-valid-read : peer-state.isValid (peersFound f) t ≡ peersJudged (sectionsFirst kinds bs)
     unfolding peer-state.isValid peer-state.areExact peer-state.stateOf peersJudged stateFrom
     peers-valid-read = (λ i.
-        (peer-state.exact peerWords peerOf (peers-read i)
-        && (peer-state.exact snapshotKeyWords snapshotKeyOf (snapshot-keys-read i) && peer-state.exact contestedWords contestedOf (contested-read i)))
+        (exact peerWords peerOf (peers-read i)
+        && (exact snapshotKeyWords snapshotKeyOf (snapshot-keys-read i) && exact contestedWords contestedOf (contested-read i)))
         && peer-state.valid (record { peers = map peerOf (peers-read i); snapshotKeys = map snapshotKeyOf (snapshot-keys-read i); contested = map contestedOf (contested-read i) }))
 
     pub peers-asked : (p : PeerDemand) → p ≡ peersFound f → eqb (firstNo (peersQuestions p t)) 0 ≡ peersJudged (sectionsFirst kinds bs)

@@ -11,23 +11,24 @@ use lib.ListN.{length, drop, length-append, length-map}
 use Rattle.records.specs.Words.{paste}
 use Rattle.records.specs.Records.{records, flat}
 use Rattle.records.proofs.RecordLaws.{length-records}
-use Rattle.records.proofs.TestLaws.{both}
-use Rattle.gcra.specs.Questions.{_asks_, given, passes, firstNo}
+use Rattle.questions.proofs.Tests.{both}
+use Rattle.questions.specs.Questions.{_asks_, given, passes, firstNo}
 use Rattle.gcra.specs.Packed.{unitNanos}
-use Rattle.gcra.proofs.Answers.{first-no, first-yes, first-none, first-more, first-rest, answer-passed, answer-no, changed-passed, kept-no, passed-none}
+use Rattle.questions.proofs.Answers.{first-no, first-yes, first-none, first-more, first-rest, answer-passed, answer-no, changed-passed, kept-no, passed-none}
 use Rattle.demand.specs.declared.peer_demand.PeerDemand.{PeerDemand}
-use Rattle.demand.specs.declared.peer_demand.LenAnswer.the-variants.{No, Is}
-use Rattle.demand.specs.HotSet as hot-set
-use Rattle.demand.specs.PeerRecords.{peerOf, snapshotKeyOf, contestedOf}
-use Rattle.demand.specs.PeerState as peer-state
-use Rattle.demand.specs.PeerState.{PeerTables, exact}
-use Rattle.demand.proofs.PeerWordLaws.{words-of-exact}
-use Rattle.demand.proofs.PeerKeptLaws.{few-keys, few-contested}
-use Rattle.demand.proofs.PeerApplyLaws.{Tables, tables-of}
+use Rattle.demand.specs.declared.answers.LenAnswer.the-variants.{No, Is}
+use Rattle.demand.specs.HotSet.Set as hot-set
+use Rattle.demand.specs.Peers.Records.{peerOf, snapshotKeyOf, contestedOf}
+use Rattle.demand.specs.Peers.State as peer-state
+use Rattle.demand.specs.Peers.State.{PeerTables}
+use Rattle.records.specs.Typed.{exact}
+use Rattle.records.proofs.TypedLaws.{words-of-exact}
+use Rattle.demand.proofs.Peers.Reports.KeptLaws.{few-keys, few-contested}
+use Rattle.demand.proofs.Peers.Reports.ApplyLaws.{Tables, tables-of}
 use Rattle.limiter.specs.declared.Limiter.{Limiter}
 use Rattle.limiter.specs.State as limiter-state
 use Rattle.limiter.specs.State.{LimiterTables, lengths, keyWords, keyOf, shadowWords, shadowOf, settingsWords, settingsOf}
-use Rattle.demand.specs.PeerCalls.{peersQuestions}
+use Rattle.demand.specs.Peers.Calls.{peersQuestions}
 use Rattle.limiter.specs.Calls.{stateQuestions, bothQuestions}
 use Rattle.limiter.proofs.States.StateValidLaws.{valid-says, sizes-say, few-shadows}
 use Rattle.limiter.proofs.States.WrittenLaws.{room-says}

@@ -11,15 +11,15 @@ use lib.ListN.{length, drop, getD, length-map}
 use Rattle.records.specs.Records.{records, same}
 use Rattle.records.proofs.RecordLaws.{length-records}
 use Rattle.records.proofs.OrderLaws.{same-eq, eq-same}
-use Rattle.records.proofs.TestLaws.{split, both, and-intro, and-first, and-second, and-skip, same-truth, contradiction}
+use Rattle.questions.proofs.Tests.{split, both, and-intro, and-first, and-second, and-skip, same-truth, contradiction}
 use Rattle.gcra.specs.Packed.{unitNanos, validBurst}
-use Rattle.demand.specs.HotSet as hot-set
-use Rattle.demand.specs.Words.{timeOf}
-use Rattle.demand.specs.PeerLists.{all}
-use Rattle.demand.specs.PeerRecords.{peerWords, snapshotKeyWords, contestedWords, peerOf, snapshotKeyOf, contestedOf}
-use Rattle.demand.specs.PeerState as peer-state
-use Rattle.demand.specs.PeerState.{exact}
-use Rattle.demand.proofs.PeerKeptLaws as peer-laws
+use Rattle.demand.specs.HotSet.Set as hot-set
+use Rattle.records.specs.Fields.{timeOf}
+use Rattle.questions.specs.Lists.{all}
+use Rattle.demand.specs.Peers.Records.{peerWords, snapshotKeyWords, contestedWords, peerOf, snapshotKeyOf, contestedOf}
+use Rattle.demand.specs.Peers.State as peer-state
+use Rattle.records.specs.Typed.{exact}
+use Rattle.demand.proofs.Peers.Reports.KeptLaws as peer-laws
 use Rattle.limiter.specs.declared.Config.{Config}
 use Rattle.limiter.specs.declared.Cap.{Cap}
 use Rattle.limiter.specs.declared.Cap.the-variants as cap

@@ -5,16 +5,16 @@ use mathlib.Core.Bool.{Bool, true, false, cond, _&&_}
 use mathlib.Core.List.{List, [], _∷_}
 use native.Mathlib.Omega.{arith}
 use lib.ListN.{length, length-map}
-use Rattle.records.proofs.TestLaws.{split, both, and-first, and-second}
+use Rattle.questions.proofs.Tests.{split, both, and-first, and-second}
 use Rattle.gcra.specs.Packed.{unitNanos}
-use Rattle.gcra.specs.Questions.{_asks_, Answer, refused, given, answer, passes}
-use Rattle.gcra.proofs.Answers.{no, yes, given-passed, changed-passed}
-use Rattle.demand.specs.HotSet as hot-set
-use Rattle.demand.specs.PeerRecords.{peerOf, snapshotKeyOf, contestedOf}
-use Rattle.demand.specs.PeerState as peer-state
-use Rattle.demand.specs.PeerState.{PeerTables}
-use Rattle.demand.proofs.PeerKeptLaws as peer-laws
-use Rattle.demand.proofs.PeerValidLaws as peer-room
+use Rattle.questions.specs.Questions.{_asks_, Answer, refused, given, answer, passes}
+use Rattle.questions.proofs.Answers.{no, yes, given-passed, changed-passed}
+use Rattle.demand.specs.HotSet.Set as hot-set
+use Rattle.demand.specs.Peers.Records.{peerOf, snapshotKeyOf, contestedOf}
+use Rattle.demand.specs.Peers.State as peer-state
+use Rattle.demand.specs.Peers.State.{PeerTables}
+use Rattle.demand.proofs.Peers.Reports.KeptLaws as peer-laws
+use Rattle.demand.proofs.Peers.Validity.ValidLaws as peer-room
 use Rattle.limiter.specs.State as limiter-state
 use Rattle.limiter.specs.State.{LimiterTables, lengths, keyOf, shadowOf}
 use Rattle.limiter.proofs.States.StateValidLaws.{valid-says, sizes-say, few-shadows}
@@ -22,13 +22,12 @@ use Rattle.limiter.proofs.States.WrittenLaws.{room-says}
 use Rattle.image.specs.declared.Loaded.{Loaded}
 use Rattle.image.specs.declared.LoadAnswer.the-variants.{No, Is}
 use Rattle.image.specs.declared.scan.Sections.{Sections}
-use Rattle.image.specs.Image.{State, valid, image, Section}
+use Rattle.image.specs.Image.{State, valid, image, Section, recordCount}
 use Rattle.image.specs.Reader.{sectionsFirst, kinds, rowsOf, stateFrom, stateRead, areExact, isEnd, isByte, isImage, afterSections}
-use Rattle.image.specs.Image.{recordCount}
 use Rattle.image.specs.Calls.{haveRoom, loadQuestions, valuesOf, loadAnswer, Loads}
 use Rattle.image.specs.Steps.{Scans, Fits, Stores}
 use Rattle.image.specs.LoadSteps.{imageQuestions, roomFor}
-use Rattle.demand.specs.PeerLists.{all}
+use Rattle.questions.specs.Lists.{all}
 use Rattle.image.proofs.Reading.ParseLaws.{passes-image}
 use Rattle.image.proofs.LoadLaws.{room-of-image}
 use Rattle.image.proofs.JudgeLaws.{rows-found, length-rows-at}

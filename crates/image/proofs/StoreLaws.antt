@@ -6,15 +6,17 @@ use mathlib.Core.List.{List, map}
 use native.Mathlib.Omega.{arith}
 use lib.ListN.{length}
 use Rattle.records.specs.Records.{records, table}
-use Rattle.records.proofs.TestLaws.{and-intro}
-use Rattle.demand.specs.PeerLists.{all}
-use Rattle.demand.specs.PeerRecords.{peerWords, snapshotKeyWords, contestedWords, peerOf, snapshotKeyOf, contestedOf}
-use Rattle.demand.specs.PeerState as peer-state
-use Rattle.demand.specs.PeerState.{PeersState, PeerTables, exact, validPeer, validSnapshotKey, validContested, countsOf}
-use Rattle.demand.proofs.PeerWordLaws.{peer-long, key-long, contested-long, snapshot-key-of-words, contested-of-words}
-use Rattle.demand.proofs.PeerKeptLaws.{valid-says, few-keys, few-contested}
-use Rattle.demand.proofs.PeerValidLaws.{room-says}
-use Rattle.limiter.proofs.States.TypedTableLaws.{all-back, all-exact, records-written, length-written}
+use Rattle.questions.proofs.Tests.{and-intro}
+use Rattle.demand.specs.declared.peer_demand.PeerDemand.{PeerDemand}
+use Rattle.questions.specs.Lists.{all}
+use Rattle.demand.specs.Peers.Records.{peerWords, snapshotKeyWords, contestedWords, peerOf, snapshotKeyOf, contestedOf}
+use Rattle.demand.specs.Peers.State as peer-state
+use Rattle.demand.specs.Peers.State.{PeersState, PeerTables, validPeer, validSnapshotKey, validContested, withCounts}
+use Rattle.records.specs.Typed.{exact}
+use Rattle.demand.proofs.Peers.Tables.WordLaws.{peer-long, key-long, contested-long, snapshot-key-of-words, contested-of-words}
+use Rattle.demand.proofs.Peers.Reports.KeptLaws.{valid-says, few-keys, few-contested}
+use Rattle.demand.proofs.Peers.Validity.ValidLaws.{room-says}
+use Rattle.records.proofs.TypedLaws.{all-back, all-exact, records-written, length-written}
 use Rattle.image.proofs.Reading.ParseLaws.{peer-back}
 
 -- a table of valid records, written over whatever words
@@ -34,9 +36,9 @@ module _ (s : PeersState) (e : peer-state.valid s ≡ true) (t : PeerTables) whe
   storedPeers = peer-state.written s t
 
   -- the peers are read back
-  pub peers-back : peer-state.stateOf (countsOf s) storedPeers ≡ s
+  pub peers-back : (old : PeerDemand) → peer-state.stateOf (withCounts old s) storedPeers ≡ s
   unfolding peer-state.stateOf
-  peers-back =
+  peers-back old =
       let p = valid-says s e in
       (λ i. record {
         peers = table-back peerWords peerOf validPeer 12 peer-long peer-back (s .peers) (p .peers) (t .peers) i;
@@ -45,17 +47,17 @@ module _ (s : PeersState) (e : peer-state.valid s ≡ true) (t : PeerTables) whe
       })
 
   -- they pass question 2
-  pub peers-back-valid : peer-state.isValid (countsOf s) storedPeers ≡ true
+  pub peers-back-valid : (old : PeerDemand) → peer-state.isValid (withCounts old s) storedPeers ≡ true
   unfolding peer-state.isValid peer-state.areExact
-  peers-back-valid =
+  peers-back-valid old =
       let p = valid-says s e in
-      and-intro (peer-state.areExact (countsOf s) storedPeers) _
+      and-intro (peer-state.areExact (withCounts old s) storedPeers) _
       (and-intro (exact peerWords peerOf (records 12 (length (s .peers)) (storedPeers .peers))) _
       (table-exact peerWords peerOf validPeer 12 peer-long peer-back (s .peers) (p .peers) (t .peers))
       (and-intro (exact snapshotKeyWords snapshotKeyOf (records 4 (length (s .snapshotKeys)) (storedPeers .snapshotKeys))) _
       (table-exact snapshotKeyWords snapshotKeyOf validSnapshotKey 4 key-long (λ k _. snapshot-key-of-words k) (s .snapshotKeys) (p .keys) (t .snapshotKeys))
       (table-exact contestedWords contestedOf validContested 6 contested-long (λ c _. contested-of-words c) (s .contested) (p .contested) (t .contested))))
-      (ap peer-state.valid peers-back ∙ e)
+      (ap peer-state.valid (peers-back old) ∙ e)
 
   pub record AsLong (t′ : PeerTables) : Type 0 where
     pub peers : length (t′ .peers) ≡ length (t .peers)

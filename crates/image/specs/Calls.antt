@@ -5,16 +5,15 @@ use mathlib.Core.Bool.{Bool, true, cond, _&&_}
 use mathlib.Core.List.{List, [], _∷_, _++_}
 use lib.Dec.{leb}
 use lib.ListN.{length, drop}
-use Rattle.gcra.specs.Packed.{unitNanos}
-use Rattle.gcra.specs.Questions.{Question, _asks_, Answer, refused, given, answer, changed}
+use Rattle.questions.specs.Questions.{Question, _asks_, Answer, refused, given, answer, changed}
 use Rattle.demand.specs.declared.peer_demand.PeerDemand.{PeerDemand}
-use Rattle.demand.specs.declared.peer_demand.LenAnswer.{LenAnswer}
-use Rattle.demand.specs.PeerState as peer-state
-use Rattle.demand.specs.PeerState.{PeerTables}
-use Rattle.demand.specs.PeerCalls.{lenAnswer}
+use Rattle.demand.specs.declared.answers.LenAnswer.{LenAnswer}
+use Rattle.demand.specs.Peers.State as peer-state
+use Rattle.demand.specs.Peers.State.{PeerTables}
+use Rattle.demand.specs.Answers.{lenAnswer}
 use Rattle.limiter.specs.declared.Limiter.{Limiter}
 use Rattle.limiter.specs.State as limiter-state
-use Rattle.limiter.specs.State.{LimiterTables, lengths, sizesFor, within}
+use Rattle.limiter.specs.State.{LimiterTables, unitsOf, settingsOf, lengths, sizesFor, within}
 use Rattle.limiter.specs.Calls.{bothQuestions}
 use Rattle.image.specs.declared.Loaded.{Loaded}
 use Rattle.image.specs.declared.LoadAnswer.{LoadAnswer}
@@ -24,7 +23,7 @@ use Rattle.image.specs.Reader.{wordAt, begins, isImage, stateRead}
 
 -- the state that is lent
 abbrev pub here : Limiter → LimiterTables → PeerDemand → PeerTables → State
-here l t p pt = record { limiter = limiter-state.stateOf unitNanos l t; peers = peer-state.stateOf p pt }
+here l t p pt = record { limiter = limiter-state.stateOf (unitsOf (settingsOf l)) l t; peers = peer-state.stateOf p pt }
 
 -- ---- `save`: how many bytes, and the output, which is as it was past them
 
@@ -52,12 +51,12 @@ haveRoom bs t pt = cond (begins 1 bs) (within (sizesFor (wordAt bs 8) (wordAt bs
 abbrev pub loadQuestions : List ℕ → LimiterTables → PeerTables → List Question
 loadQuestions bs t pt = (1 asks haveRoom bs t pt) ∷ (13 asks isImage bs) ∷ []
 
--- what a load makes of a state
+-- what a load makes of a state: the peers' value is a new one with the counts of the state
 abbrev pub valuesOf : State → Loaded
-valuesOf s = record { limiter = limiter-state.valueOf (s .limiter); peers = peer-state.countsOf (s .peers) }
+valuesOf s = record { limiter = limiter-state.valueOf (s .limiter); peers = peer-state.withCounts peer-state.newPeers (s .peers) }
 
 -- the answer; and the tables with the records of the state that is read, each as it was past them
 pub record Loads (bs : List ℕ) (t : LimiterTables) (pt : PeerTables) (r : LoadAnswer) (t′ : LimiterTables) (pt′ : PeerTables) : Type 0 where
   pub answered : loadAnswer r ≡ answer (loadQuestions bs t pt) (valuesOf (stateRead bs))
-  pub words : t′ ≡ changed (loadQuestions bs t pt) t (limiter-state.written unitNanos (stateRead bs .limiter) t)
+  pub words : t′ ≡ changed (loadQuestions bs t pt) t (limiter-state.written (unitsOf (stateRead bs .limiter .settings)) (stateRead bs .limiter) t)
   pub peerWords : pt′ ≡ changed (loadQuestions bs t pt) pt (peer-state.written (stateRead bs .peers) pt)

@@ -5,18 +5,17 @@ use mathlib.Core.Bool.{Bool, true, cond, _&&_}
 use mathlib.Core.List.{List, [], _∷_, map}
 use lib.Dec.{ltb, leb, eqb}
 use lib.ListN.{getD}
-use Rattle.gcra.specs.Packed.{unitNanos}
-use Rattle.gcra.specs.Questions.{Question, _asks_, answer}
+use Rattle.questions.specs.Questions.{Question, _asks_, answer}
 use Rattle.demand.specs.declared.peer_demand.PeerDemand.{PeerDemand}
-use Rattle.demand.specs.HotSet as hot-set
-use Rattle.demand.specs.Words.{timeOf}
-use Rattle.demand.specs.PeerRecords.{peerWords, snapshotKeyWords, contestedWords, peerOf, snapshotKeyOf, contestedOf}
-use Rattle.demand.specs.PeerState as peer-state
-use Rattle.demand.specs.PeerState.{exact}
+use Rattle.demand.specs.HotSet.Set as hot-set
+use Rattle.records.specs.Fields.{timeOf}
+use Rattle.demand.specs.Peers.Records.{peerWords, snapshotKeyWords, contestedWords, peerOf, snapshotKeyOf, contestedOf}
+use Rattle.demand.specs.Peers.State as peer-state
+use Rattle.records.specs.Typed.{exact}
 use Rattle.limiter.specs.declared.Config.{Config}
 use Rattle.limiter.specs.declared.Limiter.{Limiter}
 use Rattle.limiter.specs.State as limiter-state
-use Rattle.limiter.specs.State.{Settings, LimiterState, floatOf, capOf, lastTickOf, settingsOf, keyWords, keyOf, shadowWords, shadowOf}
+use Rattle.limiter.specs.State.{Settings, LimiterState, unitsOf, floatOf, capOf, lastTickOf, settingsOf, keyWords, keyOf, shadowWords, shadowOf}
 use Rattle.image.specs.declared.scan.Sections.{Sections}
 use Rattle.image.specs.declared.LoadAnswer.{LoadAnswer}
 use Rattle.image.specs.Image.{Section}
@@ -98,17 +97,18 @@ abbrev pub limiterFrom : Settings → List Section → LimiterState
 limiterFrom s xs =
     record {
       settings = s;
-      keys = map (keyOf unitNanos) (rowsOf 1 xs);
+      keys = map (keyOf (unitsOf s)) (rowsOf 1 xs);
       hot = map hot-set.entry (rowsOf 2 xs);
-      shadows = map (shadowOf unitNanos) (rowsOf 3 xs);
+      shadows = map (shadowOf (unitsOf s)) (rowsOf 3 xs);
     }
 
 -- kinds 2 to 4 are exact, and valid under the limiter's settings
 unfoldable pub limiterJudged : Limiter → List Section → Bool
 limiterJudged l xs =
-    (exact (keyWords unitNanos) (keyOf unitNanos) (rowsOf 1 xs)
-    && (exact hot-set.words hot-set.entry (rowsOf 2 xs) && exact (shadowWords unitNanos) (shadowOf unitNanos) (rowsOf 3 xs)))
-    && limiter-state.valid unitNanos (limiterFrom (settingsOf l) xs)
+    let u = unitsOf (settingsOf l) in
+    (exact (keyWords u) (keyOf u) (rowsOf 1 xs)
+    && (exact hot-set.words hot-set.entry (rowsOf 2 xs) && exact (shadowWords u) (shadowOf u) (rowsOf 3 xs)))
+    && limiter-state.valid u (limiterFrom (settingsOf l) xs)
 
 -- kinds 5 to 7
 unfoldable pub peersJudged : List Section → Bool

@@ -5,7 +5,6 @@ use crate::Loaded;
 use crate::rows::read_table;
 use crate::scan::Sections;
 use crate::scan::is_end;
-use crate::words::are_same;
 use crate::words::read_words;
 use crate::writer::settings_words;
 use demand::peer_demand::PeerDemand;
@@ -14,15 +13,17 @@ use limiter::Config;
 use limiter::LastTick;
 use limiter::Limit;
 use limiter::Limiter;
+use records::are_same;
 ghost use mathlib.Core.Path.{_≡_};
 ghost use mathlib.Core.Bool.{cond};
 ghost use Prim.Native.Nat.{_^_};
 ghost use lib.Dec.{ltb};
-ghost use Rattle.demand.specs.Words.{timeOf};
+ghost use Rattle.records.specs.Fields.{timeOf};
 ghost use Rattle.limiter.specs.State.{capOf, lastTickOf};
 ghost use Rattle.image.specs.Reader.{capFrom, sectionsFirst, kinds};
 ghost use Rattle.image.specs.Steps.{Scans};
-ghost use Rattle.image.specs.LoadSteps.{areFew, FewFound, countIn, configFrom, Counted, Reads, peersFound, limiterJudged, peersJudged, Judges};
+ghost use Rattle.image.specs.LoadSteps.{areFew, FewFound, countIn, configFrom, Counted, Reads};
+ghost use Rattle.image.specs.LoadSteps.{peersFound, limiterJudged, peersJudged, Judges};
 
 // Kind 1 comes once, and the others no more often than a valid state has them.
 fn are_few(found: Sections) -> bool

@@ -1,16 +1,16 @@
 // The saved image of a limiter and its peers: `save` writes it, `load` takes nothing else.
 pub mod judge;
 mod room;
-mod rows;
+pub mod rows;
 mod scan;
 mod store;
 pub mod words;
 pub mod writer;
 
-use demand::peer_demand::LenAnswer;
+use demand::answers::LenAnswer;
 use demand::peer_demand::PeerDemand;
 use limiter::Limiter;
-ghost use Rattle.demand.specs.PeerState as peer-state;
+ghost use Rattle.demand.specs.Peers.State as peer-state;
 ghost use Rattle.limiter.specs.State.{atEntry, atExit};
 ghost use Rattle.image.specs.Calls as Calls;
 

@@ -2,7 +2,7 @@
 use crate::rows::put_record;
 use crate::rows::put_table;
 use crate::rows::rows_len;
-use demand::peer_demand::LenAnswer;
+use demand::answers::LenAnswer;
 use demand::peer_demand::PeerDemand;
 use limiter::Cap;
 use limiter::LastTick;
@@ -11,13 +11,13 @@ ghost use mathlib.Core.Path.{_≡_};
 ghost use Prim.Native.Nat.{_+_, _≤_};
 ghost use lib.ListN.{length};
 ghost use Rattle.records.specs.Words.{paste};
-ghost use Rattle.gcra.specs.Questions.{firstNo};
-ghost use Rattle.demand.specs.Words.{timeWords};
-ghost use Rattle.demand.specs.PeerState as peer-state;
+ghost use Rattle.questions.specs.Questions.{firstNo};
+ghost use Rattle.records.specs.Fields.{timeWords};
+ghost use Rattle.demand.specs.Peers.State as peer-state;
 ghost use Rattle.limiter.specs.Calls.{bothQuestions};
 ghost use Rattle.limiter.specs.State.{lent, atEntry, capWords, capOf, lastTickOf, settingsWords, settingsOf};
-ghost use Rattle.image.specs.Steps.{limiterBytes, limiterLength, LimiterReady};
-ghost use Rattle.image.specs.Steps.{firstOf, peersBytes, peersLength, PeersReady, Few, countOf, imageLength};
+ghost use Rattle.image.specs.Steps.{limiterBytes, limiterLength, LimiterReady, firstOf, peersBytes};
+ghost use Rattle.image.specs.Steps.{peersLength, PeersReady, Few, countOf, imageLength};
 ghost use Rattle.image.specs.Calls as Calls;
 
 // The flag and the value of a cap.

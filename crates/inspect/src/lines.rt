@@ -6,7 +6,7 @@ use crate::fields::put_optional;
 use crate::fields::put_optional_f64;
 use crate::fields::put_quota;
 use crate::fields::put_whole;
-ghost use Prim.Native.Nat.{_<_, _≤_};
+ghost use Prim.Native.Nat.{_≤_};
 
 // The kind of a record; 255, which is none, where there are too few bytes.
 pub(crate) fn kind_of(record: &[u8]) -> u8 {
@@ -14,23 +14,6 @@ pub(crate) fn kind_of(record: &[u8]) -> u8 {
         return 255;
     }
     record[2]
-}
-
-// How many bytes a record of a kind has: the mark, the kind, and eight for each word.
-pub(crate) fn record_size(kind: u8) -> usize
-    ensures { λ r. ⌜ (0 < r) × (r ≤ 179) ⌝ }
-{
-    match kind {
-        0 => 11,
-        1 => 107,
-        2 => 179,
-        3 => 51,
-        4 => 35,
-        5 => 99,
-        6 => 35,
-        7 => 51,
-        8..=255 => 3,
-    }
 }
 
 // The word of the eight bytes from an index on, the lowest byte first; 0 where there are fewer.

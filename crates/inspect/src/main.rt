@@ -22,7 +22,7 @@ fn record_end(image: &[u8], here: usize) -> usize
     requires { ⌜ here < length (now image) ⌝ }
     ensures { λ r. ⌜ (here < r) × (r ≤ length (now (image .entry))) ⌝ }
 {
-    let size = lines::record_size(lines::kind_of(&image[here..]));
+    let size = image::rows::record_size(lines::kind_of(&image[here..]));
     if image.len() - here < size {
         return image.len();
     }

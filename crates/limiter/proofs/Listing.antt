@@ -2,5 +2,6 @@
 pub mod InsertLaws
 pub mod RankTableLaws
 pub mod OrderLaws
+pub mod RankingLaws
 pub mod EntryLaws
 pub mod HotLaws

@@ -14,19 +14,20 @@ use Rattle.gcra.specs.declared.Decision.{Decision}
 use Rattle.gcra.specs.declared.Decision.the-variants.{Allow, Deny}
 use Rattle.gcra.specs.declared.QuotaAnswer.{QuotaAnswer}
 use Rattle.gcra.specs.declared.RateAnswer.{RateAnswer}
-use Rattle.gcra.specs.Questions.{Question, _asks_, Answer, refused, given, answer, passes, firstNo, changed}
+use Rattle.questions.specs.Questions.{Question, _asks_, Answer, refused, given, answer, passes, firstNo, changed}
 use Rattle.gcra.specs.Packed.{validBurst}
 use Rattle.gcra.specs.Calls.{checkAnswer, quotaAnswer, rateAnswer}
 use Rattle.demand.specs.declared.hot_set.SinceAnswer.{SinceAnswer}
 use Rattle.demand.specs.declared.peer_demand.PeerDemand.{PeerDemand}
-use Rattle.demand.specs.declared.peer_demand.FlagAnswer.{FlagAnswer}
-use Rattle.demand.specs.declared.peer_demand.LenAnswer.{LenAnswer}
+use Rattle.demand.specs.declared.answers.FlagAnswer.{FlagAnswer}
+use Rattle.demand.specs.declared.answers.LenAnswer.{LenAnswer}
 use Rattle.demand.specs.Allocation.{isRate, isFloorFactor}
-use Rattle.demand.specs.HotSet.{get, isHot, sinceOf}
-use Rattle.demand.specs.HotSetCalls.{sinceAnswer}
-use Rattle.demand.specs.PeerState as peer-state
-use Rattle.demand.specs.PeerState.{PeerTables}
-use Rattle.demand.specs.PeerCalls.{changeAnswer, flagAnswer, lenAnswer}
+use Rattle.demand.specs.HotSet.Set.{get, isHot, sinceOf}
+use Rattle.demand.specs.HotSet.Calls.{sinceAnswer}
+use Rattle.demand.specs.Peers.State as peer-state
+use Rattle.demand.specs.Peers.State.{PeerTables}
+use Rattle.demand.specs.Peers.Calls.{changeAnswer}
+use Rattle.demand.specs.Answers.{flagAnswer, lenAnswer}
 use Rattle.limiter.specs.declared.Limit.{Limit}
 use Rattle.limiter.specs.declared.Config.{Config}
 use Rattle.limiter.specs.declared.Limiter.{Limiter}
@@ -51,7 +52,7 @@ use Rattle.limiter.specs.declared.ConfigAnswer.the-variants as config-an
 use Rattle.limiter.specs.declared.Checked.{Checked}
 use Rattle.limiter.specs.declared.TracedCheck.{TracedCheck}
 use Rattle.limiter.specs.declared.Changed.{Changed}
-use Rattle.limiter.specs.State.{base, KeyRecord, LimiterState, LimiterTables, lengths, sizes, haveRoom, stateOf, isValid, valueOf, written, isAlpha, areSizes, isTracked}
+use Rattle.limiter.specs.State.{KeyRecord, LimiterState, parametersOf, unitsOf, settingsOf, LimiterTables, lengths, sizes, haveRoom, stateOf, isValid, valueOf, written, isAlpha, areSizes, isTracked}
 use Rattle.limiter.specs.Checks.{newKeyFactor, coldQuota, ownLimit, keyDecision, shadowDecision, checkIn, checkTraced, recordTally, setCap, limitQuestions, clusterQuestions, checkQuestions, checkInQuestions, tracedQuestions, recordQuestions, checkEach}
 use Rattle.limiter.specs.Ticks.{tick, tickWithShares}
 use Rattle.limiter.specs.Readers.{told, ratesOf, hotDemand, mostDenied, deniedRate, shadowDeniedRate}
@@ -109,11 +110,11 @@ answerWords (given (Deny t)) = 0 ∷ 1 ∷ t ∷ []
 
 -- the state that is lent
 abbrev pub here : Limiter → LimiterTables → LimiterState
-here l t = stateOf (base .units) l t
+here l t = stateOf (unitsOf (settingsOf l)) l t
 
 -- are the lent tables long enough? could the lent state stand in a valid image?
 abbrev pub stateQuestions : Limiter → LimiterTables → List Question
-stateQuestions l t = (1 asks haveRoom (l .config) (lengths t)) ∷ (2 asks isValid (base .units) l t) ∷ []
+stateQuestions l t = (1 asks haveRoom (l .config) (lengths t)) ∷ (2 asks isValid (unitsOf (settingsOf l)) l t) ∷ []
 
 -- `ask`: the number of the first of these two that is answered 'no', 0 where none is
 abbrev pub Asks : Limiter → LimiterTables → ℕ → Type 0
@@ -123,7 +124,7 @@ Asks l t r = r ≡ firstNo (stateQuestions l t)
 abbrev pub bothQuestions : Limiter → LimiterTables → PeerDemand → PeerTables → List Question
 bothQuestions l t p pt =
     (1 asks (haveRoom (l .config) (lengths t) && peer-state.haveRoom (peer-state.lengths pt)))
-    ∷ (2 asks (isValid (base .units) l t && peer-state.isValid p pt))
+    ∷ (2 asks (isValid (unitsOf (settingsOf l)) l t && peer-state.isValid p pt))
     ∷ []
 
 -- does the output fit?
@@ -153,36 +154,40 @@ IsNew c t r = limiterAnswer r ≡ answer (newQuestions c t) (valueOf (newState c
 pub record Acts {A : Type 0} (said : Answer A) (qs : List Question) (value : A) (after : LimiterState) (l : Limiter) (t : LimiterTables) (l′ : Limiter) (t′ : LimiterTables) : Type 0 where
   pub answered : said ≡ answer qs value
   pub limiter : l′ ≡ changed qs l (valueOf after)
-  pub words : t′ ≡ changed qs t (written (base .units) after t)
+  pub words : t′ ≡ changed qs t (written (unitsOf (after .settings)) after t)
 
 -- `check`
 abbrev pub Checks : Limiter → LimiterTables → (key now n : ℕ) → Checked → LimiterTables → Type 0
 Checks l t key now n r t′ =
+    let u = unitsOf (settingsOf l) in
     let s = here l t in
-    Acts (checkAnswer (r .answer)) (stateQuestions l t ++ checkQuestions base s key now n) (keyDecision base s key (ownLimit s) now n)
-    (checkIn base s key (ownLimit s) now n) l t (r .limiter) t′
+    Acts (checkAnswer (r .answer)) (stateQuestions l t ++ checkQuestions u s key now n) (keyDecision u s key (ownLimit s) now n)
+    (checkIn u s key (ownLimit s) now n) l t (r .limiter) t′
 
 -- `check_in`
 abbrev pub ChecksIn : Limiter → LimiterTables → (key : ℕ) → Limit → (now n : ℕ) → Checked → LimiterTables → Type 0
 ChecksIn l t key limit now n r t′ =
+    let u = unitsOf (settingsOf l) in
     let s = here l t in
-    Acts (checkAnswer (r .answer)) (stateQuestions l t ++ checkInQuestions base s key limit now n) (keyDecision base s key limit now n)
-    (checkIn base s key limit now n) l t (r .limiter) t′
+    Acts (checkAnswer (r .answer)) (stateQuestions l t ++ checkInQuestions u s key limit now n) (keyDecision u s key limit now n)
+    (checkIn u s key limit now n) l t (r .limiter) t′
 
 -- `check_in_traced`
 abbrev pub ChecksTraced : Limiter → LimiterTables → (key : ℕ) → Limit → Option Limit → (now n : ℕ) → TracedCheck → LimiterTables → Type 0
 ChecksTraced l t key limit shadow now n r t′ =
+    let u = unitsOf (settingsOf l) in
     let s = here l t in
-    Acts (tracedAnswer (r .answer)) (stateQuestions l t ++ tracedQuestions base s key limit shadow now n)
-    (record { decision = keyDecision base s key limit now n; shadow = shadowDecision base s key limit shadow now n })
-    (checkTraced base s key limit shadow now n) l t (r .limiter) t′
+    Acts (tracedAnswer (r .answer)) (stateQuestions l t ++ tracedQuestions u s key limit shadow now n)
+    (record { decision = keyDecision u s key limit now n; shadow = shadowDecision u s key limit shadow now n })
+    (checkTraced u s key limit shadow now n) l t (r .limiter) t′
 
 -- `record`
 abbrev pub Records : Limiter → LimiterTables → (key : ℕ) → Tally → Limit → (now n : ℕ) → Changed → LimiterTables → Type 0
 Records l t key y limit now n r t′ =
+    let u = unitsOf (settingsOf l) in
     let s = here l t in
-    Acts (changeAnswer (r .answer)) (stateQuestions l t ++ recordQuestions base s key y limit now n) tt
-    (recordTally base s key y limit now n) l t (r .limiter) t′
+    Acts (changeAnswer (r .answer)) (stateQuestions l t ++ recordQuestions u s key y limit now n) tt
+    (recordTally u s key y limit now n) l t (r .limiter) t′
 
 -- `check_each`: of `count` pairs of a key and a reading in lent words; an answer of three words for each, and then the output as it was
 abbrev pub eachQuestions : (count n : ℕ) (out : List ℕ) → List Question
@@ -194,9 +199,9 @@ eachAsked l t list count n out =
 
 pub record ChecksEach (l : Limiter) (t : LimiterTables) (list : List ℕ) (count n : ℕ) (out : List ℕ) (r : Changed) (t′ : LimiterTables) (out′ : List ℕ) : Type 0 where
   pub acts :
-      Acts (changeAnswer (r .answer)) (eachAsked l t list count n out) tt (checkEach base n (records 2 count list) (here l t) .left) l t (r .limiter) t′
+      Acts (changeAnswer (r .answer)) (eachAsked l t list count n out) tt (checkEach (unitsOf (settingsOf l)) n (records 2 count list) (here l t) .left) l t (r .limiter) t′
   pub output :
-      out′ ≡ changed (eachAsked l t list count n out) out (table (map answerWords (checkEach base n (records 2 count list) (here l t) .answers)) out)
+      out′ ≡ changed (eachAsked l t list count n out) out (table (map answerWords (checkEach (unitsOf (settingsOf l)) n (records 2 count list) (here l t) .answers)) out)
 
 -- `set_cap`, which is lent tables that it cannot write
 pub record SetsCap (l : Limiter) (t : LimiterTables) (x : Option Float) (r : Changed) : Type 0 where
@@ -208,7 +213,7 @@ pub record SetsCap (l : Limiter) (t : LimiterTables) (x : Option Float) (r : Cha
 -- The tables hold a state: to write its records would change nothing. Past question 1's sizes they are as they were; the words between are free, and no call
 -- reads them.
 pub record Holds (s : LimiterState) (t t′ : LimiterTables) : Type 0 where
-  pub front : t′ ≡ written (base .units) s t′
+  pub front : t′ ≡ written (unitsOf (s .settings)) s t′
   pub long : lengths t′ ≡ lengths t
   pub keys : drop (sizes (s .settings .config) .keys) (t′ .keys) ≡ drop (sizes (s .settings .config) .keys) (t .keys)
   pub hot : drop (sizes (s .settings .config) .hot) (t′ .hot) ≡ drop (sizes (s .settings .config) .hot) (t .hot)
@@ -222,17 +227,17 @@ pub record Ticking (qs : List Question) (after : LimiterState) (l : Limiter) (t 
 
 -- `tick`
 abbrev pub Ticks : Limiter → LimiterTables → (now n : ℕ) → Changed → LimiterTables → Type 0
-Ticks l t now n r t′ = Ticking (stateQuestions l t ++ clusterQuestions n) (tick base now n (here l t)) l t r t′
+Ticks l t now n r t′ = Ticking (stateQuestions l t ++ clusterQuestions n) (tick (parametersOf (settingsOf l)) (unitsOf (settingsOf l)) now n (here l t)) l t r t′
 
 -- `tick_with_shares`, which is lent tables of the peers that it cannot write
 abbrev pub TicksWithShares : Limiter → LimiterTables → PeerDemand → PeerTables → (now n : ℕ) → Changed → LimiterTables → Type 0
 TicksWithShares l t p pt now n r t′ =
-    Ticking (bothQuestions l t p pt ++ clusterQuestions n) (tickWithShares base (peer-state.stateOf p pt) now n (here l t)) l t r t′
+    Ticking (bothQuestions l t p pt ++ clusterQuestions n) (tickWithShares (parametersOf (settingsOf l)) (unitsOf (settingsOf l)) (peer-state.stateOf p pt) now n (here l t)) l t r t′
 
 -- ---- calls that read, which are lent what they cannot write: `key_rates`, `quota`, `limit`
 
 abbrev pub TellsRates : Limiter → LimiterTables → (key : ℕ) → RatesAnswer → Type 0
-TellsRates l t key r = ratesAnswer r ≡ answer (stateQuestions l t) (told (ratesOf base) key (here l t))
+TellsRates l t key r = ratesAnswer r ≡ answer (stateQuestions l t) (told (ratesOf (parametersOf (settingsOf l))) key (here l t))
 
 abbrev pub TellsQuota : Limiter → LimiterTables → (key : ℕ) → KeyQuotaAnswer → Type 0
 TellsQuota l t key r = keyQuotaAnswer r ≡ answer (stateQuestions l t) (told (λ (k : KeyRecord). k .gcra .quota) key (here l t))
@@ -243,7 +248,7 @@ TellsLimit l t key r = limitAnswer r ≡ answer (stateQuestions l t) (told (λ (
 -- `new_key_quota`, `new_key_factor`
 abbrev pub TellsNewKeyQuota : Limiter → LimiterTables → Limit → (n : ℕ) → QuotaAnswer → Type 0
 TellsNewKeyQuota l t limit n r =
-    quotaAnswer r ≡ answer (stateQuestions l t ++ (limitQuestions limit ++ clusterQuestions n)) (coldQuota base (here l t .settings) limit n)
+    quotaAnswer r ≡ answer (stateQuestions l t ++ (limitQuestions limit ++ clusterQuestions n)) (coldQuota (unitsOf (settingsOf l)) (here l t .settings) limit n)
 
 abbrev pub TellsNewKeyFactor : Limiter → LimiterTables → (n : ℕ) → RateAnswer → Type 0
 TellsNewKeyFactor l t n r = rateAnswer r ≡ answer (stateQuestions l t ++ clusterQuestions n) (newKeyFactor (here l t .settings) n)
@@ -278,7 +283,7 @@ abbrev pub ListsHotDemand : Limiter → LimiterTables → List ℕ → LenAnswer
 ListsHotDemand l t out r out′ = Lists l t (hotDemand (here l t)) out r out′
 
 abbrev pub ListsMostDenied : Limiter → LimiterTables → (k : ℕ) → List ℕ → LenAnswer → List ℕ → Type 0
-ListsMostDenied l t k out r out′ = Lists l t (mostDenied base deniedRate k (here l t)) out r out′
+ListsMostDenied l t k out r out′ = Lists l t (mostDenied (parametersOf (settingsOf l)) deniedRate k (here l t)) out r out′
 
 abbrev pub ListsMostShadowDenied : Limiter → LimiterTables → (k : ℕ) → List ℕ → LenAnswer → List ℕ → Type 0
-ListsMostShadowDenied l t k out r out′ = Lists l t (mostDenied base shadowDeniedRate k (here l t)) out r out′
+ListsMostShadowDenied l t k out r out′ = Lists l t (mostDenied (parametersOf (settingsOf l)) shadowDeniedRate k (here l t)) out r out′

@@ -8,21 +8,22 @@ use lib.Dec.{ltb}
 use lib.Ieee.{Float, inf, binary64, mul, div, isNan}
 use lib.ListN.{length, getD}
 use Rattle.float.specs.Order.{minimumNumber}
+use Rattle.gcra.specs.declared.Units.{Units}
 use Rattle.gcra.specs.declared.Quota.{Quota}
 use Rattle.gcra.specs.declared.Tat.the-variants.{Unset}
 use Rattle.gcra.specs.declared.Gcra.{Gcra}
 use Rattle.gcra.specs.declared.Decision.{Decision}
-use Rattle.gcra.specs.Questions.{Question, _asks_, Answer, answer, changed}
+use Rattle.questions.specs.Questions.{Question, _asks_, Answer, answer, changed}
 use Rattle.gcra.specs.Packed.{validBurst}
 use Rattle.gcra.specs.Rate.{perSecond, ratePerSec, setQuota}
 use Rattle.gcra.specs.Meter.{isAllow, decision, check}
-use Rattle.demand.specs.Estimator.{whole}
+use Rattle.demand.specs.Estimators.Estimator.{whole}
 use Rattle.demand.specs.Allocation.{isRate, isClusterSize}
-use Rattle.demand.specs.PeerLists.{replaced}
-use Rattle.demand.specs.PeerState.{isWord}
+use Rattle.questions.specs.Lists.{replaced}
+use Rattle.records.specs.Typed.{isWord}
 use Rattle.limiter.specs.declared.Limit.{Limit}
 use Rattle.limiter.specs.declared.Tally.{Tally}
-use Rattle.limiter.specs.State.{Parameters, Settings, Estimate, KeyRecord, ShadowRecord, LimiterState, keyWith, shadowWith, putKey, isTracked}
+use Rattle.limiter.specs.State.{Settings, Estimate, KeyRecord, ShadowRecord, LimiterState, keyWith, shadowWith, putKey, isTracked}
 
 -- a state with other keys and shadows
 abbrev pub holding : LimiterState → List KeyRecord → List ShadowRecord → LimiterState
@@ -40,8 +41,8 @@ unfoldable pub newKeyFactor : Settings → (n : ℕ) → Float
 newKeyFactor s n = minimumNumber (div binary64 (s .config .alpha) (whole n)) (capOrNone (s .cap))
 
 -- 000, `cold_quota`: 'its quota is the cold one, rate × (alpha ÷ n, or the cap if less)'
-unfoldable pub coldQuota : Parameters → Settings → Limit → (n : ℕ) → Quota
-coldQuota par s limit n = perSecond (par .units) (mul binary64 (limit .rate) (newKeyFactor s n)) (limit .burst)
+unfoldable pub coldQuota : Units → Settings → Limit → (n : ℕ) → Quota
+coldQuota u s limit n = perSecond u (mul binary64 (limit .rate) (newKeyFactor s n)) (limit .burst)
 
 -- ---- 000, `entry`: 'finds or makes the key'
 
@@ -53,8 +54,8 @@ startOf (some t) now = t
 abbrev pub startingAt : ℕ → Estimate
 startingAt t = record { rate = whole 0; attempts = 0; last = t; since = t }
 
-abbrev pub newKey : Parameters → Settings → (key : ℕ) → Limit → (now n : ℕ) → KeyRecord
-newKey par s key limit now n =
+abbrev pub newKey : Units → Settings → (key : ℕ) → Limit → (now n : ℕ) → KeyRecord
+newKey u s key limit now n =
     record {
       key = key;
       limit = limit;
@@ -62,7 +63,7 @@ newKey par s key limit now n =
       requests = startingAt (startOf (s .lastTick) now);
       denials = startingAt (startOf (s .lastTick) now);
       shadowDenials = startingAt (startOf (s .lastTick) now);
-      gcra = record { quota = coldQuota par s limit n; tat = Unset };
+      gcra = record { quota = coldQuota u s limit n; tat = Unset };
     }
 
 -- a tracked key takes the limit of the call and keeps all else
@@ -82,8 +83,8 @@ abbrev pub foundOr : KeyRecord → Limit → Option KeyRecord → KeyRecord
 foundOr new limit none = new
 foundOr new limit (some k) = limited limit k
 
-unfoldable pub entry : Parameters → LimiterState → (key : ℕ) → Limit → (now n : ℕ) → KeyRecord
-entry par s key limit now n = foundOr (newKey par (s .settings) key limit now n) limit (keyWith key (s .keys))
+unfoldable pub entry : Units → LimiterState → (key : ℕ) → Limit → (now n : ℕ) → KeyRecord
+entry u s key limit now n = foundOr (newKey u (s .settings) key limit now n) limit (keyWith key (s .keys))
 
 -- ---- counts
 
@@ -119,18 +120,18 @@ abbrev pub checkedKey : (now : ℕ) → Option Decision → KeyRecord → KeyRec
 checkedKey now shadow k = raised 1 (denied (decision (k .gcra) now)) (deniedBy shadow) (check (k .gcra) now) k
 
 -- the meter's answer
-abbrev pub keyDecision : Parameters → LimiterState → (key : ℕ) → Limit → (now n : ℕ) → Decision
-keyDecision par s key limit now n = decision (entry par s key limit now n .gcra) now
+abbrev pub keyDecision : Units → LimiterState → (key : ℕ) → Limit → (now n : ℕ) → Decision
+keyDecision u s key limit now n = decision (entry u s key limit now n .gcra) now
 
-unfoldable pub checkIn : Parameters → LimiterState → (key : ℕ) → Limit → (now n : ℕ) → LimiterState
-checkIn par s key limit now n = holding s (putKey (checkedKey now none (entry par s key limit now n)) (s .keys)) (s .shadows)
+unfoldable pub checkIn : Units → LimiterState → (key : ℕ) → Limit → (now n : ℕ) → LimiterState
+checkIn u s key limit now n = holding s (putKey (checkedKey now none (entry u s key limit now n)) (s .keys)) (s .shadows)
 
 -- ---- 000, `check_in_traced`
 
 -- the rate of the key's quota × the shadow's rate ÷ the limit's, in this order, and the shadow's burst
-unfoldable pub shadowQuota : Parameters → Quota → (limit shadow : Limit) → Quota
-shadowQuota par q limit shadow =
-    perSecond (par .units) (div binary64 (mul binary64 (ratePerSec q) (shadow .rate)) (limit .rate)) (shadow .burst)
+unfoldable pub shadowQuota : Units → Quota → (limit shadow : Limit) → Quota
+shadowQuota u q limit shadow =
+    perSecond u (div binary64 (mul binary64 (ratePerSec q) (shadow .rate)) (limit .rate)) (shadow .burst)
 
 -- the shadow's meter under the quota wanted, one without a TAT where the key had no shadow
 abbrev pub shadowMeter : Quota → (now : ℕ) → Option ShadowRecord → Gcra
@@ -138,36 +139,36 @@ shadowMeter wanted now none = record { quota = wanted; tat = Unset }
 shadowMeter wanted now (some s) = setQuota (s .gcra) wanted now
 
 -- the shadow's meter before it is asked, if the call has a shadow limit
-unfoldable pub tracedMeter : Parameters → LimiterState → (key : ℕ) → Limit → Option Limit → (now n : ℕ) → Option Gcra
-tracedMeter par s key limit none now n = none
-tracedMeter par s key limit (some shadow) now n =
-    some (shadowMeter (shadowQuota par (entry par s key limit now n .gcra .quota) limit shadow) now (shadowWith key (s .shadows)))
+unfoldable pub tracedMeter : Units → LimiterState → (key : ℕ) → Limit → Option Limit → (now n : ℕ) → Option Gcra
+tracedMeter u s key limit none now n = none
+tracedMeter u s key limit (some shadow) now n =
+    some (shadowMeter (shadowQuota u (entry u s key limit now n .gcra .quota) limit shadow) now (shadowWith key (s .shadows)))
 
 abbrev pub decisionBy : (now : ℕ) → Option Gcra → Option Decision
 decisionBy now none = none
 decisionBy now (some g) = some (decision g now)
 
 -- what the shadow would have decided
-abbrev pub shadowDecision : Parameters → LimiterState → (key : ℕ) → Limit → Option Limit → (now n : ℕ) → Option Decision
-shadowDecision par s key limit shadow now n = decisionBy now (tracedMeter par s key limit shadow now n)
+abbrev pub shadowDecision : Units → LimiterState → (key : ℕ) → Limit → Option Limit → (now n : ℕ) → Option Decision
+shadowDecision u s key limit shadow now n = decisionBy now (tracedMeter u s key limit shadow now n)
 
 -- the shadow's meter after it was asked; a call without a shadow limit drops it
 abbrev pub shadowsWith : (key now : ℕ) → Option Gcra → List ShadowRecord → List ShadowRecord
 shadowsWith key now none ss = replaced (λ (s : ShadowRecord). s .key) key [] ss
 shadowsWith key now (some g) ss = replaced (λ (s : ShadowRecord). s .key) key (record { key = key; gcra = check g now } ∷ []) ss
 
-unfoldable pub checkTraced : Parameters → LimiterState → (key : ℕ) → Limit → Option Limit → (now n : ℕ) → LimiterState
-checkTraced par s key limit shadow now n =
+unfoldable pub checkTraced : Units → LimiterState → (key : ℕ) → Limit → Option Limit → (now n : ℕ) → LimiterState
+checkTraced u s key limit shadow now n =
     holding s
-    (putKey (checkedKey now (shadowDecision par s key limit shadow now n) (entry par s key limit now n)) (s .keys))
-    (shadowsWith key now (tracedMeter par s key limit shadow now n) (s .shadows))
+    (putKey (checkedKey now (shadowDecision u s key limit shadow now n) (entry u s key limit now n)) (s .keys))
+    (shadowsWith key now (tracedMeter u s key limit shadow now n) (s .shadows))
 
 -- ---- 000, `record`
 abbrev pub talliedKey : Tally → KeyRecord → KeyRecord
 talliedKey y k = raised (y .attempts) (y .denials) (y .«shadow_denials») (k .gcra) k
 
-unfoldable pub recordTally : Parameters → LimiterState → (key : ℕ) → Tally → Limit → (now n : ℕ) → LimiterState
-recordTally par s key y limit now n = holding s (putKey (talliedKey y (entry par s key limit now n)) (s .keys)) (s .shadows)
+unfoldable pub recordTally : Units → LimiterState → (key : ℕ) → Tally → Limit → (now n : ℕ) → LimiterState
+recordTally u s key y limit now n = holding s (putKey (talliedKey y (entry u s key limit now n)) (s .keys)) (s .shadows)
 
 -- ---- 000, `set_cap`: 'The cap may be any f64; NaN is stored as none'
 abbrev pub storedCap : Option Float → Option Float
@@ -212,29 +213,29 @@ abbrev pub keyQuestions : LimiterState → KeyRecord → List Question
 keyQuestions s after = (8 asks hasPlace s (after .key)) ∷ (9 asks countersFit after) ∷ []
 
 -- of each call
-abbrev pub checkInQuestions : Parameters → LimiterState → (key : ℕ) → Limit → (now n : ℕ) → List Question
-checkInQuestions par s key limit now n =
-    limitQuestions limit ++ (clusterQuestions n ++ keyQuestions s (checkedKey now none (entry par s key limit now n)))
+abbrev pub checkInQuestions : Units → LimiterState → (key : ℕ) → Limit → (now n : ℕ) → List Question
+checkInQuestions u s key limit now n =
+    limitQuestions limit ++ (clusterQuestions n ++ keyQuestions s (checkedKey now none (entry u s key limit now n)))
 
-abbrev pub tracedQuestions : Parameters → LimiterState → (key : ℕ) → Limit → Option Limit → (now n : ℕ) → List Question
-tracedQuestions par s key limit shadow now n =
+abbrev pub tracedQuestions : Units → LimiterState → (key : ℕ) → Limit → Option Limit → (now n : ℕ) → List Question
+tracedQuestions u s key limit shadow now n =
     bothLimitQuestions limit shadow
-    ++ (clusterQuestions n ++ keyQuestions s (checkedKey now (shadowDecision par s key limit shadow now n) (entry par s key limit now n)))
+    ++ (clusterQuestions n ++ keyQuestions s (checkedKey now (shadowDecision u s key limit shadow now n) (entry u s key limit now n)))
 
-abbrev pub recordQuestions : Parameters → LimiterState → (key : ℕ) → Tally → Limit → (now n : ℕ) → List Question
-recordQuestions par s key y limit now n =
-    limitQuestions limit ++ (clusterQuestions n ++ keyQuestions s (talliedKey y (entry par s key limit now n)))
+abbrev pub recordQuestions : Units → LimiterState → (key : ℕ) → Tally → Limit → (now n : ℕ) → List Question
+recordQuestions u s key y limit now n =
+    limitQuestions limit ++ (clusterQuestions n ++ keyQuestions s (talliedKey y (entry u s key limit now n)))
 
 -- ---- 000, `check`: at the settings' limit, which passes 3 and 4
 
 abbrev pub ownLimit : LimiterState → Limit
 ownLimit s = s .settings .config .limit
 
-abbrev pub checkKeyQuestions : Parameters → LimiterState → (key now n : ℕ) → List Question
-checkKeyQuestions par s key now n = keyQuestions s (checkedKey now none (entry par s key (ownLimit s) now n))
+abbrev pub checkKeyQuestions : Units → LimiterState → (key now n : ℕ) → List Question
+checkKeyQuestions u s key now n = keyQuestions s (checkedKey now none (entry u s key (ownLimit s) now n))
 
-abbrev pub checkQuestions : Parameters → LimiterState → (key now n : ℕ) → List Question
-checkQuestions par s key now n = clusterQuestions n ++ checkKeyQuestions par s key now n
+abbrev pub checkQuestions : Units → LimiterState → (key now n : ℕ) → List Question
+checkQuestions u s key now n = clusterQuestions n ++ checkKeyQuestions u s key now n
 
 -- ---- many checks: each as the single `check` after those before it, questions 8 and 9 included
 
@@ -242,15 +243,15 @@ pub record Answers : Type 0 where
   pub answers : List (Answer Decision)
   pub left : LimiterState
 
-abbrev pub checkOne : Parameters → (n : ℕ) → LimiterState → (key now : ℕ) → Answer Decision
-checkOne par n s key now = answer (checkKeyQuestions par s key now n) (keyDecision par s key (ownLimit s) now n)
+abbrev pub checkOne : Units → (n : ℕ) → LimiterState → (key now : ℕ) → Answer Decision
+checkOne u n s key now = answer (checkKeyQuestions u s key now n) (keyDecision u s key (ownLimit s) now n)
 
-abbrev pub afterOne : Parameters → (n : ℕ) → LimiterState → (key now : ℕ) → LimiterState
-afterOne par n s key now = changed (checkKeyQuestions par s key now n) s (checkIn par s key (ownLimit s) now n)
+abbrev pub afterOne : Units → (n : ℕ) → LimiterState → (key now : ℕ) → LimiterState
+afterOne u n s key now = changed (checkKeyQuestions u s key now n) s (checkIn u s key (ownLimit s) now n)
 
 -- of each pair of a key and a reading
-unfoldable pub checkEach : Parameters → (n : ℕ) → List (List ℕ) → LimiterState → Answers
-checkEach par n [] s = record { answers = []; left = s }
-checkEach par n (r ∷ rs) s =
-    let rest = checkEach par n rs (afterOne par n s (getD r 0 0) (getD r 1 0)) in
-    record { answers = checkOne par n s (getD r 0 0) (getD r 1 0) ∷ rest .answers; left = rest .left }
+unfoldable pub checkEach : Units → (n : ℕ) → List (List ℕ) → LimiterState → Answers
+checkEach u n [] s = record { answers = []; left = s }
+checkEach u n (r ∷ rs) s =
+    let rest = checkEach u n rs (afterOne u n s (getD r 0 0) (getD r 1 0)) in
+    record { answers = checkOne u n s (getD r 0 0) (getD r 1 0) ∷ rest .answers; left = rest .left }

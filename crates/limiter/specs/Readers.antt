@@ -6,11 +6,12 @@ use mathlib.Core.Option.{Option, none, some}
 use lib.Ieee.{Float, le}
 use lib.ListN.{take}
 use Rattle.demand.specs.declared.hot_set.HotEntry.{HotEntry}
-use Rattle.demand.specs.Words.{flagWord}
-use Rattle.demand.specs.HotSet.{get, isHot, primaryOf}
-use Rattle.demand.specs.PeerLists.{only}
+use Rattle.records.specs.Fields.{flagWord}
+use Rattle.demand.specs.HotSet.Set.{get, isHot, primaryOf}
+use Rattle.questions.specs.Lists.{only}
+use Rattle.limiter.specs.declared.Parameters.{Parameters}
 use Rattle.limiter.specs.declared.KeyRates.{KeyRates}
-use Rattle.limiter.specs.State.{Parameters, KeyRecord, LimiterState, floatWord, keyWith}
+use Rattle.limiter.specs.State.{KeyRecord, LimiterState, floatWord, keyWith}
 use Rattle.limiter.specs.Ticks.{unbiasedRate, sorted, rankedBefore}
 
 -- something of a key, if it is tracked
@@ -25,31 +26,45 @@ told f key s = ofKey f (keyWith key (s .keys))
 unfoldable pub ratesOf : Parameters → KeyRecord → KeyRates
 ratesOf par k =
     record {
-      «requests_per_sec» = unbiasedRate (par .denialTimeConstant) (k .requests);
-      «denied_per_sec» = unbiasedRate (par .denialTimeConstant) (k .denials);
-      «shadow_denied_per_sec» = unbiasedRate (par .denialTimeConstant) (k .shadowDenials);
+      «requests_per_sec» = unbiasedRate (par .«denial_time_constant») (k .requests);
+      «denied_per_sec» = unbiasedRate (par .«denial_time_constant») (k .denials);
+      «shadow_denied_per_sec» = unbiasedRate (par .«denial_time_constant») (k .shadowDenials);
     }
 
--- ---- 000, `hot_demand`: the hot keys, the highest demand first
+-- ---- keys ranked by a rate (000: the order that `hot_demand` and `most_by` sort by)
 
--- the higher comes first by totalOrder, ties to the smaller key
+-- the higher rate comes first by totalOrder, ties to the smaller key
 abbrev pub higherFirst : (KeyRecord → Float) → KeyRecord → KeyRecord → Bool
 higherFirst by a b = rankedBefore (by b) (by a) (a .key) (b .key)
 
-unfoldable pub hotKeys : LimiterState → List KeyRecord
-hotKeys s = sorted (higherFirst (λ (k : KeyRecord). k .demand .rate)) (only (λ (k : KeyRecord). isHot (k .key) (s .hot)) (s .keys))
+-- the keys that pass a test, in that order
+unfoldable pub rankedBy : (KeyRecord → Float) → (KeyRecord → Bool) → List KeyRecord → List KeyRecord
+rankedBy by test ks = sorted (higherFirst by) (only test ks)
+
+-- ---- 000, `hot_demand`: the hot keys, the highest demand first
+
+abbrev pub demandRate : KeyRecord → Float
+demandRate k = k .demand .rate
+
+unfoldable pub hotRanking : LimiterState → List KeyRecord
+hotRanking s = rankedBy demandRate (λ (k : KeyRecord). isHot (k .key) (s .hot)) (s .keys)
 
 -- an entry of the output: key, demand, primary
 abbrev pub hotWords : List HotEntry → KeyRecord → List ℕ
 hotWords es k = k .key ∷ floatWord (k .demand .rate) ∷ flagWord (primaryOf (get (k .key) es)) ∷ []
 
 unfoldable pub hotDemand : LimiterState → List (List ℕ)
-hotDemand s = map (hotWords (s .hot)) (hotKeys s)
+hotDemand s = map (hotWords (s .hot)) (hotRanking s)
 
--- ---- 000, `most_by`, for `most_denied` and `most_shadow_denied`: the k keys with the highest rate, of those that are at least at the silent level
+-- ---- 000, `most_by`, for `most_denied` and `most_shadow_denied`
 
+-- the keys whose rate is at least the silent level, the highest first: 'those silent in it left out'
+unfoldable pub ranking : Parameters → (KeyRecord → Float) → LimiterState → List KeyRecord
+ranking par by s = rankedBy by (λ (k : KeyRecord). le (par .«silent_level») (by k)) (s .keys)
+
+-- 'the first `k` keys'
 unfoldable pub mostBy : Parameters → (KeyRecord → Float) → ℕ → LimiterState → List KeyRecord
-mostBy par by k s = take k (sorted (higherFirst by) (only (λ (x : KeyRecord). le (par .silentLevel) (by x)) (s .keys)))
+mostBy par by k s = take k (ranking par by s)
 
 abbrev pub deniedRate : KeyRecord → Float
 deniedRate k = k .denials .rate

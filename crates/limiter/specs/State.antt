@@ -17,38 +17,22 @@ use Rattle.gcra.specs.declared.Tat.the-variants as tat
 use Rattle.gcra.specs.declared.Gcra.{Gcra}
 use Rattle.gcra.specs.Packed.{unitNanos, validBurst, validQuota, pack, unpack}
 use Rattle.demand.specs.declared.hot_set.HotEntry.{HotEntry}
-use Rattle.demand.specs.Estimator.{whole}
+use Rattle.demand.specs.Estimators.Estimator.{whole}
 use Rattle.demand.specs.Allocation.{isRate, isFloorFactor}
-use Rattle.demand.specs.Words.{timeWords, timeOf}
-use Rattle.demand.specs.HotSet as hot-set
-use Rattle.demand.specs.HotSetCalls.{evictionMargin}
-use Rattle.demand.specs.PeerLists.{all, any, first, those, replaced}
-use Rattle.demand.specs.PeerState.{isWord, exact}
+use Rattle.records.specs.Fields.{timeWords, timeOf}
+use Rattle.demand.specs.HotSet.Set as hot-set
+use Rattle.demand.specs.HotSet.Calls.{evictionMargin}
+use Rattle.demand.specs.Peers.Changes.{implausibleJump}
+use Rattle.questions.specs.Lists.{all, any, first, those, replaced}
+use Rattle.records.specs.Typed.{isWord, exact}
 use Rattle.limiter.specs.declared.Limit.{Limit}
 use Rattle.limiter.specs.declared.Config.{Config}
+use Rattle.limiter.specs.declared.Parameters.{Parameters}
 use Rattle.limiter.specs.declared.Cap.{Cap}
 use Rattle.limiter.specs.declared.Cap.the-variants as cap
 use Rattle.limiter.specs.declared.LastTick.{LastTick}
 use Rattle.limiter.specs.declared.LastTick.the-variants as last-tick
 use Rattle.limiter.specs.declared.Limiter.{Limiter}
-
--- ---- numbers that 02 will make settings: 000's, 001's and 003's in the base
-
-pub record Parameters : Type 0 where
-  pub silentLevel : Float
-  pub denialTimeConstant : ℕ
-  pub evictionMargin : Float
-  pub units : Units
-
--- `SILENT_DEMAND` (1e-3), `DENIAL_TIME_CONSTANT`, 'least × 1.1', 'unit code (1, 1,000, 1,000,000 ns)'
-abbrev pub base : Parameters
-base =
-    record {
-      silentLevel = ofBits binary64 0x3f50624dd2f1a9fc;
-      denialTimeConstant = 10_000_000_000;
-      evictionMargin = evictionMargin;
-      units = unitNanos;
-    }
 
 -- ---- the state
 
@@ -57,6 +41,24 @@ pub record Settings : Type 0 where
   pub config : Config
   pub cap : Option Float
   pub lastTick : Option ℕ
+
+-- ---- numbers that may become settings
+
+-- 000's `SILENT_DEMAND` (1e-3) and `DENIAL_TIME_CONSTANT`, 003's 'least × 1.1', 002's `IMPLAUSIBLE_JUMP`
+abbrev pub parametersOf : Settings → Parameters
+parametersOf s =
+    record {
+      «silent_level» = ofBits binary64 0x3f50624dd2f1a9fc;
+      «denial_time_constant» = 10_000_000_000;
+      «eviction_margin» = evictionMargin;
+      «implausible_jump» = implausibleJump;
+    }
+
+-- 'unit code (1, 1,000, 1,000,000 ns)'
+abbrev pub unitsOf : Settings → Units
+unitsOf s = unitNanos
+
+-- ---- records
 
 -- an estimator of a key, which has both times: its rate, the attempts since its last tick, that tick, its start
 pub record Estimate : Type 0 where
@@ -238,10 +240,6 @@ validKey u k =
 unfoldable pub validShadow : Units → ShadowRecord → Bool
 validShadow u s = all isWord (shadowWords u s) && validQuota u (s .gcra .quota)
 
--- 'demands are finite with a clear sign bit'
-unfoldable pub validHotEntry : HotEntry → Bool
-validHotEntry e = all isWord (hot-set.words e) && (isF64 (e .demand) && magnitude (e .demand))
-
 -- 'ids strictly ascending', 'counts keep their bounds', 'hot and shadow keys are tracked'
 unfoldable pub validKeys : Units → Config → List KeyRecord → Bool
 validKeys u c ks = leb (length ks) (c .«table_size») && (all (validKey u) ks && ascending 1 (map (keyWords u) ks))
@@ -249,8 +247,7 @@ validKeys u c ks = leb (length ks) (c .«table_size») && (all (validKey u) ks &
 unfoldable pub validHot : Config → List KeyRecord → List HotEntry → Bool
 validHot c ks es =
     leb (length es) (c .«hot_set_size»)
-    && (all validHotEntry es
-    && (ascending 1 (map hot-set.words es) && all (λ (e : HotEntry). isTracked ks (e .key)) es))
+    && (hot-set.validEntries es && all (λ (e : HotEntry). isTracked ks (e .key)) es)
 
 unfoldable pub validShadows : Units → Config → List KeyRecord → List ShadowRecord → Bool
 validShadows u c ks ss =

@@ -7,6 +7,7 @@ use lib.Dec.{ltb, eqb}
 use lib.Ieee.{Float, binary64, mul, div, le}
 use lib.ListN.{length, take}
 use Rattle.float.specs.Order.{minimumNumber, totalLess}
+use Rattle.gcra.specs.declared.Units.{Units}
 use Rattle.gcra.specs.declared.Quota.{Quota}
 use Rattle.gcra.specs.Rate.{perSecond, setQuota}
 use Rattle.gcra.specs.Meter.{hasDebt}
@@ -16,14 +17,15 @@ use Rattle.demand.specs.declared.demand.Demand.{Demand}
 use Rattle.demand.specs.declared.allocation.View.{View}
 use Rattle.demand.specs.declared.hot_set.HotEntry.{HotEntry}
 use Rattle.demand.specs.declared.hot_set.HotSet.{HotSet}
-use Rattle.demand.specs.Estimator.{whole, ticked, unbiased}
+use Rattle.demand.specs.Estimators.Estimator.{whole, ticked, unbiased}
 use Rattle.demand.specs.Allocation.{shared}
-use Rattle.demand.specs.HotSet.{Outcome, updateWith, isHot}
-use Rattle.demand.specs.PeerLists.{only}
-use Rattle.demand.specs.PeerState.{PeersState}
-use Rattle.demand.specs.PeerReaders.{total, hotElsewhere}
+use Rattle.demand.specs.HotSet.Set.{Outcome, updateWith, isHot}
+use Rattle.questions.specs.Lists.{only}
+use Rattle.demand.specs.Peers.State.{PeersState}
+use Rattle.demand.specs.Peers.Readers.{total, hotElsewhere}
 use Rattle.limiter.specs.declared.Limit.{Limit}
-use Rattle.limiter.specs.State.{Parameters, Settings, Estimate, KeyRecord, ShadowRecord, LimiterState, floatWord, isTracked}
+use Rattle.limiter.specs.declared.Parameters.{Parameters}
+use Rattle.limiter.specs.State.{Settings, Estimate, KeyRecord, ShadowRecord, LimiterState, floatWord, isTracked}
 use Rattle.limiter.specs.Checks.{capOrNone}
 
 -- ---- estimators as 004 has them
@@ -89,7 +91,7 @@ pub record Settled : Type 0 where
 module _ (par : Parameters) (s : Settings) (o : Others) (now n : ℕ) where
   -- `elsewhere` of 000: a key with a demand of at least the silent level that a peer holds hot
   abbrev pub isElsewhere : KeyRecord → Bool
-  isElsewhere k = le (par .silentLevel) (k .demand .rate) && o .elsewhere (k .key)
+  isElsewhere k = le (par .«silent_level») (k .demand .rate) && o .elsewhere (k .key)
 
   -- ---- 'Pass one folds estimators, updates the hot set and drops idle keys'
 
@@ -99,9 +101,9 @@ module _ (par : Parameters) (s : Settings) (o : Others) (now n : ℕ) where
         key = k .key;
         limit = k .limit;
         demand = folded (s .config .«demand_time_constant») now (k .demand);
-        requests = folded (par .denialTimeConstant) now (k .requests);
-        denials = folded (par .denialTimeConstant) now (k .denials);
-        shadowDenials = folded (par .denialTimeConstant) now (k .shadowDenials);
+        requests = folded (par .«denial_time_constant») now (k .requests);
+        denials = folded (par .«denial_time_constant») now (k .denials);
+        shadowDenials = folded (par .«denial_time_constant») now (k .shadowDenials);
         gcra = k .gcra;
       }
 
@@ -113,11 +115,11 @@ module _ (par : Parameters) (s : Settings) (o : Others) (now n : ℕ) where
   hotSet es = record { cooldown = s .config .cooldown; «max_size» = s .config .«hot_set_size»; len = length es }
 
   abbrev pub updated : KeyRecord → List HotEntry → Outcome
-  updated k es = updateWith (par .evictionMargin) (hotSet es) (k .key) (k .demand .rate) (coldRate (k .limit)) now (isElsewhere k) es
+  updated k es = updateWith (par .«eviction_margin») (hotSet es) (k .key) (k .demand .rate) (coldRate (k .limit)) now (isElsewhere k) es
 
   -- a key stays that is hot, has debt, a demand of at least the silent level, or attempts that no tick has folded
   abbrev pub stays : KeyRecord → Bool → Bool
-  stays k hot = hot || (hasDebt (k .gcra) now || (le (par .silentLevel) (k .demand .rate) || ltb 0 (k .demand .attempts)))
+  stays k hot = hot || (hasDebt (k .gcra) now || (le (par .«silent_level») (k .demand .rate) || ltb 0 (k .demand .attempts)))
 
   unfoldable pub passOne : List KeyRecord → List HotEntry → Settled
   passOne [] es = record { keys = []; hot = es }
@@ -143,12 +145,12 @@ module _ (par : Parameters) (s : Settings) (o : Others) (now n : ℕ) where
       (cond (isElsewhere k) (underCap (k .limit) (minimumNumber (floorRate (k .limit)) (coldRate (k .limit))))
       (underCap (k .limit) (coldRate (k .limit))))
 
-  abbrev pub quotaOf : List HotEntry → KeyRecord → Quota
-  quotaOf es k = perSecond (par .units) (rateOf es k) (k .limit .burst)
+  abbrev pub quotaOf : Units → List HotEntry → KeyRecord → Quota
+  quotaOf u es k = perSecond u (rateOf es k) (k .limit .burst)
 
   -- `set_quota` with the quota it has changes nothing
-  abbrev pub withQuota : List HotEntry → KeyRecord → KeyRecord
-  withQuota es k =
+  abbrev pub withQuota : Units → List HotEntry → KeyRecord → KeyRecord
+  withQuota u es k =
       record {
         key = k .key;
         limit = k .limit;
@@ -156,11 +158,11 @@ module _ (par : Parameters) (s : Settings) (o : Others) (now n : ℕ) where
         requests = k .requests;
         denials = k .denials;
         shadowDenials = k .shadowDenials;
-        gcra = setQuota (k .gcra) (quotaOf es k) now;
+        gcra = setQuota (k .gcra) (quotaOf u es k) now;
       }
 
-  abbrev pub passTwo : List HotEntry → List KeyRecord → List KeyRecord
-  passTwo es ks = map (withQuota es) ks
+  abbrev pub passTwo : Units → List HotEntry → List KeyRecord → List KeyRecord
+  passTwo u es ks = map (withQuota u es) ks
 
   -- ---- 'then the tracked-key cap removes non-hot keys, lowest unbiased rate first by totalOrder, ties to the smaller key'
 
@@ -177,25 +179,25 @@ module _ (par : Parameters) (s : Settings) (o : Others) (now n : ℕ) where
 
   -- ---- the whole tick
 
-  abbrev pub keysAfter : Settled → List KeyRecord
-  keysAfter p = capped (p .hot) (passTwo (p .hot) (p .keys))
+  abbrev pub keysAfter : Units → Settled → List KeyRecord
+  keysAfter u p = capped (p .hot) (passTwo u (p .hot) (p .keys))
 
-  abbrev pub afterPasses : List ShadowRecord → Settled → LimiterState
-  afterPasses ss p =
+  abbrev pub afterPasses : Units → List ShadowRecord → Settled → LimiterState
+  afterPasses u ss p =
       record {
         settings = record { config = s .config; cap = s .cap; lastTick = some now };
-        keys = keysAfter p;
+        keys = keysAfter u p;
         hot = p .hot;
-        shadows = only (λ (x : ShadowRecord). isTracked (keysAfter p) (x .key)) ss;
+        shadows = only (λ (x : ShadowRecord). isTracked (keysAfter u p) (x .key)) ss;
       }
 
-unfoldable pub tickWith : Parameters → Others → (now n : ℕ) → LimiterState → LimiterState
-tickWith par o now n s = afterPasses par (s .settings) o now n (s .shadows) (passOne par (s .settings) o now n (s .keys) (s .hot))
+unfoldable pub tickWith : Parameters → Units → Others → (now n : ℕ) → LimiterState → LimiterState
+tickWith par u o now n s = afterPasses par (s .settings) o now n u (s .shadows) (passOne par (s .settings) o now n (s .keys) (s .hot))
 
 -- 000, `tick`
-abbrev pub tick : Parameters → (now n : ℕ) → LimiterState → LimiterState
-tick par now n s = tickWith par (noOthers n) now n s
+abbrev pub tick : Parameters → Units → (now n : ℕ) → LimiterState → LimiterState
+tick par u now n s = tickWith par u (noOthers n) now n s
 
 -- 000, `tick_with_shares`
-abbrev pub tickWithShares : Parameters → PeersState → (now n : ℕ) → LimiterState → LimiterState
-tickWithShares par p now n s = tickWith par (peersOthers (s .settings) p n) now n s
+abbrev pub tickWithShares : Parameters → Units → PeersState → (now n : ℕ) → LimiterState → LimiterState
+tickWithShares par u p now n s = tickWith par u (peersOthers (s .settings) p n) now n s

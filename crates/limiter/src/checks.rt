@@ -29,15 +29,15 @@ ghost use Rattle.gcra.specs.Packed.{validBurst, validQuota};
 ghost use Rattle.gcra.specs.Meter.{decision, check};
 ghost use Rattle.gcra.specs.Rate.{perSecond};
 ghost use Rattle.gcra.specs.Calls.{checkAnswer};
-ghost use Rattle.gcra.specs.Questions.{firstNo};
+ghost use Rattle.questions.specs.Questions.{firstNo};
 ghost use Rattle.demand.specs.Allocation.{isRate};
-ghost use Rattle.demand.specs.PeerCalls.{changeAnswer};
+ghost use Rattle.demand.specs.Peers.Calls.{changeAnswer};
 ghost use Rattle.limiter.specs.State as State;
 ghost use Rattle.limiter.specs.Checks as Checks;
 ghost use Rattle.limiter.specs.Calls as Calls;
 ghost use Rattle.limiter.specs.Steps.KeySteps.{units, keyRecord};
-ghost use Rattle.limiter.specs.Steps.CheckSteps.{Ready, Placed, Enters, Asks, Puts, Raises};
-ghost use Rattle.limiter.specs.Steps.CheckSteps.{counting, answered, ChecksKey, RecordsKey};
+ghost use Rattle.limiter.specs.Steps.CheckSteps.{Ready, Placed, Enters, Asks, Puts, Raises, counting};
+ghost use Rattle.limiter.specs.Steps.CheckSteps.{answered, ChecksKey, RecordsKey};
 
 // The key of a call: whether it is tracked, its place among the records or where it would go, and
 // its state.
@@ -154,7 +154,7 @@ pub(crate) fn quota_for(rate: f64, burst: u32) -> Quota
 
 // A new key's quota: the cold one.
 pub(crate) fn cold_quota(limiter: Limiter, limit: Limit, cluster_size: usize) -> Quota
-    ensures { λ r. ⌜ r ≡ Checks.coldQuota State.base (State.settingsOf limiter) limit «cluster_size» ⌝ }
+    ensures { λ r. ⌜ r ≡ Checks.coldQuota (State.unitsOf (State.settingsOf limiter)) (State.settingsOf limiter) limit «cluster_size» ⌝ }
 {
     let factor = new_key_factor(limiter, cluster_size);
     quota_for(limit.rate * factor, limit.burst)
@@ -174,7 +174,7 @@ fn start_of(last_tick: LastTick, reading: u64) -> u64
 
 // A key not seen before.
 fn new_key(limiter: Limiter, key: u64, limit: Limit, reading: u64, cluster_size: usize) -> KeyState
-    ensures { λ r. ⌜ keyRecord r ≡ Checks.newKey State.base (State.settingsOf limiter) key limit reading «cluster_size» ⌝ }
+    ensures { λ r. ⌜ keyRecord r ≡ Checks.newKey (State.unitsOf (State.settingsOf limiter)) (State.settingsOf limiter) key limit reading «cluster_size» ⌝ }
 {
     let last_tick = limiter.last_tick;
     let started = Estimator::starting_at(start_of(last_tick, reading));

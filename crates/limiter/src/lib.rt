@@ -15,6 +15,7 @@ mod traces;
 use demand::allocation::is_floor_factor;
 use demand::allocation::is_rate;
 use demand::peer_demand::ChangeAnswer;
+use demand::peer_demand::IMPLAUSIBLE_JUMP;
 use gcra::CheckAnswer;
 use gcra::Decision;
 use gcra::Quota;
@@ -22,11 +23,12 @@ ghost use mathlib.Core.Path.{_≡_};
 ghost use mathlib.Core.Bool.{true, _&&_};
 ghost use Prim.Native.Nat.{min};
 ghost use Rattle.demand.specs.Allocation.{isFloorFactor};
-ghost use Rattle.limiter.specs.State.{base, validLimit, capOf, validCap, isAlpha, areSizes, settingsOf, validSettings};
-ghost use Rattle.limiter.specs.State.{lent, atEntry, lengths, roomFor, haveRoom, isValid};
+ghost use Rattle.limiter.specs.State.{parametersOf, unitsOf, validLimit, capOf, validCap, isAlpha};
+ghost use Rattle.limiter.specs.State.{areSizes, settingsOf, validSettings, lent, atEntry, lengths};
+ghost use Rattle.limiter.specs.State.{roomFor, haveRoom, isValid};
 ghost use Rattle.limiter.specs.Steps.Scan.{hasRoom};
 ghost use mathlib.Core.List.{_++_};
-ghost use Rattle.gcra.specs.Questions.{firstNo};
+ghost use Rattle.questions.specs.Questions.{firstNo};
 ghost use Rattle.limiter.specs.Checks as Checks;
 ghost use Rattle.limiter.specs.Calls as Calls;
 ghost use Rattle.limiter.specs.Steps.ReaderSteps.{withCap};
@@ -47,6 +49,28 @@ pub struct Config {
     pub max_tracked_keys: usize,
     pub demand_time_constant: u64,
     pub table_size: usize,
+}
+
+// The rate below which a key is silent, the time constant of the estimators of requests and denials,
+// by how much a demand must beat the least in a full hot set, and from how many rounds on a jump of a
+// peer's is implausible.
+pub struct Parameters {
+    pub silent_level: f64,
+    pub denial_time_constant: u64,
+    pub eviction_margin: f64,
+    pub implausible_jump: u16,
+}
+
+// The parameters of a limiter's settings: 000's, 002's and 003's numbers.
+pub(crate) fn parameters_of(limiter: Limiter) -> Parameters
+    ensures { λ r. ⌜ r ≡ parametersOf (settingsOf limiter) ⌝ }
+{
+    Parameters {
+        silent_level: 0.001,
+        denial_time_constant: 10_000_000_000,
+        eviction_margin: 1.1,
+        implausible_jump: IMPLAUSIBLE_JUMP,
+    }
 }
 
 // A part of each key's rate that no key gets more than, or none.
@@ -275,7 +299,7 @@ impl Limiter {
     // Question 2: whether the value and its records could stand in a valid image.
     fn is_valid(self, keys: &[u64], hot: &[u64], shadows: &[u64]) -> bool
         requires { ⌜ haveRoom (self .config) (lengths (lent keys hot shadows)) ≡ true ⌝ }
-        ensures { λ r. ⌜ r ≡ isValid (base .units) self (atEntry keys hot shadows) ⌝ }
+        ensures { λ r. ⌜ r ≡ isValid (unitsOf (settingsOf self)) self (atEntry keys hot shadows) ⌝ }
     {
         if !self.has_valid_settings() {
             return false;

@@ -10,7 +10,7 @@ ghost use mathlib.Core.Path.{_≡_};
 ghost use Prim.Native.Nat.{_+_, _≤_};
 ghost use lib.ListN.{length};
 ghost use Rattle.records.specs.Words.{paste};
-ghost use Rattle.gcra.specs.Questions.{given, firstNo};
+ghost use Rattle.questions.specs.Questions.{given, firstNo};
 ghost use Rattle.gcra.specs.Calls.{checkAnswer};
 ghost use Rattle.limiter.specs.State as State;
 ghost use Rattle.limiter.specs.Calls as Calls;

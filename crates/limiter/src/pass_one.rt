@@ -3,6 +3,7 @@
 use crate::KEY_WORDS;
 use crate::Limiter;
 use crate::key_record;
+use crate::parameters_of;
 use crate::ticks;
 use demand::hot_set::EachAnswer;
 use demand::hot_set::HotSet;
@@ -14,12 +15,10 @@ ghost use Prim.Native.Nat.{_*_, _≤_};
 ghost use lib.ListN.{length, take};
 ghost use Rattle.gcra.specs.Packed.{unitNanos, validQuota};
 ghost use Rattle.gcra.specs.Meter.{hasDebt};
+ghost use Rattle.limiter.specs.State.{parametersOf, settingsOf};
 ghost use Rattle.limiter.specs.Steps.TickSteps.{flagged, keyRecord, HeldKeys, HeldKey};
 ghost use Rattle.limiter.specs.Steps.PassOneSteps.{isDemand, staysIf, Measured, HeldHot, HotUpdated};
 ghost use Rattle.limiter.specs.Steps.PassOneSteps.{stayingKeys, IdleDropped, Passable, PassesOne};
-
-// A key whose demand is below this is silent.
-const SILENT_DEMAND: f64 = 0.001;
 
 // How many keys and hot entries are left.
 pub(crate) struct Passed {
@@ -27,19 +26,19 @@ pub(crate) struct Passed {
     pub hot: usize,
 }
 
-// Whether a key with this rate is in demand.
-fn is_demand(rate: f64) -> bool
-    ensures { λ r. ⌜ r ≡ isDemand rate ⌝ }
+// Whether a key with this rate is in demand: at least at the silent level.
+fn is_demand(silent: f64, rate: f64) -> bool
+    ensures { λ r. ⌜ r ≡ isDemand silent rate ⌝ }
 {
-    SILENT_DEMAND <= rate
+    silent <= rate
 }
 
 // Whether a key with this demand, which a peer holds or not, counts as hot elsewhere.
-fn is_elsewhere(rate: f64, held: bool) -> bool
-    ensures { λ r. ⌜ r ≡ (isDemand rate && held) ⌝ }
+fn is_elsewhere(silent: f64, rate: f64, held: bool) -> bool
+    ensures { λ r. ⌜ r ≡ (isDemand silent rate && held) ⌝ }
 {
     if held {
-        return is_demand(rate);
+        return is_demand(silent, rate);
     }
     false
 }
@@ -49,6 +48,7 @@ fn is_elsewhere(rate: f64, held: bool) -> bool
 fn measure_keys(
     keys: &[u64],
     n: usize,
+    silent: f64,
     alpha: f64,
     cluster_size: f64,
     elsewhere: &[bool],
@@ -59,7 +59,7 @@ fn measure_keys(
     requires { ⌜ (n * 22 ≤ length (now keys)) × (n ≤ length (now elsewhere)) ⌝ }
     requires { ⌜ (n ≤ length (now demands)) × (n ≤ length (now thresholds)) × (n ≤ length (now flags)) ⌝ }
     ensures { λ _. ⌜
-        Measured n (now (keys .entry)) alpha «cluster_size» (now (elsewhere .entry)) (now (demands .exit))
+        Measured silent n (now (keys .entry)) alpha «cluster_size» (now (elsewhere .entry)) (now (demands .exit))
         (now (thresholds .exit)) (now (flags .exit))
         ⌝ }
 {
@@ -69,7 +69,7 @@ fn measure_keys(
         let rate = float::from_bits(keys[at + 3]);
         demands[i] = rate;
         thresholds[i] = float::from_bits(keys[at + 1]) / cluster_size * alpha;
-        flags[i] = is_elsewhere(rate, elsewhere[i]);
+        flags[i] = is_elsewhere(silent, rate, elsewhere[i]);
         i += 1;
     }
 }
@@ -78,6 +78,7 @@ fn measure_keys(
 // each key that is in demand and that a peer holds, and that of each key that is hot.
 fn update_hot(
     limiter: Limiter,
+    silent: f64,
     keys: &[u64],
     hot: &mut [u64],
     elsewhere: &[bool],
@@ -92,7 +93,7 @@ fn update_hot(
         (limiter .keys ≤ length (now hots))
         ⌝ }
     ensures { λ r. ⌜
-        HotUpdated limiter reading «cluster_size» (now (keys .entry)) (now (hot .entry)) (now (elsewhere .entry)) r
+        HotUpdated silent limiter reading «cluster_size» (now (keys .entry)) (now (hot .entry)) (now (elsewhere .entry)) r
         (now (hot .exit)) (now (flags .exit)) (now (hots .exit))
         ⌝ }
 {
@@ -104,6 +105,7 @@ fn update_hot(
     measure_keys(
         keys,
         n,
+        silent,
         config.alpha,
         size,
         elsewhere,
@@ -145,14 +147,14 @@ fn has_debt(meter: Gcra, reading: u64) -> bool
 
 // Whether the key in these words stays: it is hot, or has debt, demand or attempts not folded in
 // yet.
-fn key_stays(r: &[u64], reading: u64, hot: bool) -> bool
+fn key_stays(r: &[u64], silent: f64, reading: u64, hot: bool) -> bool
     requires { ⌜ HeldKey (now r) ⌝ }
-    ensures { λ b. ⌜ b ≡ staysIf reading (keyRecord (now (r .entry))) hot ⌝ }
+    ensures { λ b. ⌜ b ≡ staysIf silent reading (keyRecord (now (r .entry))) hot ⌝ }
 {
     if hot {
         return true;
     }
-    if is_demand(float::from_bits(r[3])) {
+    if is_demand(silent, float::from_bits(r[3])) {
         return true;
     }
     if 0 < r[4] {
@@ -162,14 +164,16 @@ fn key_stays(r: &[u64], reading: u64, hot: bool) -> bool
 }
 
 // Sets the flag of each key that stays.
-fn mark_busy(keys: &[u64], n: usize, reading: u64, hots: &[bool], stays: &mut [bool])
+fn mark_busy(keys: &[u64], n: usize, silent: f64, reading: u64, hots: &[bool], stays: &mut [bool])
     requires { ⌜ HeldKeys n (now keys) × (n ≤ length (now hots)) × (n ≤ length (now stays)) ⌝ }
-    ensures { λ _. ⌜ take n (now (stays .exit)) ≡ stayingKeys reading n (now (keys .entry)) (now (hots .entry)) ⌝ }
+    ensures { λ _. ⌜
+        take n (now (stays .exit)) ≡ stayingKeys silent reading n (now (keys .entry)) (now (hots .entry))
+        ⌝ }
 {
     let mut i = 0;
     while i < n {
         let at = i * KEY_WORDS;
-        stays[i] = key_stays(&keys[at..at + KEY_WORDS], reading, hots[i]);
+        stays[i] = key_stays(&keys[at..at + KEY_WORDS], silent, reading, hots[i]);
         i += 1;
     }
 }
@@ -198,6 +202,7 @@ fn copy_flagged(from: &[bool], n: usize, stays: &[bool], to: &mut [bool])
 fn drop_idle(
     keys: &mut [u64],
     n: usize,
+    silent: f64,
     reading: u64,
     hots: &[bool],
     flags: &[bool],
@@ -206,12 +211,12 @@ fn drop_idle(
     requires { ⌜ HeldKeys n (now keys) × (n ≤ 4096) × (n ≤ length (now hots)) ⌝ }
     requires { ⌜ (n ≤ length (now flags)) × (n ≤ length (now elsewhere)) ⌝ }
     ensures { λ r. ⌜
-        IdleDropped reading n (now (keys .entry)) (now (hots .entry)) (now (flags .entry)) r (now (keys .exit))
+        IdleDropped silent reading n (now (keys .entry)) (now (hots .entry)) (now (flags .entry)) r (now (keys .exit))
         (now (elsewhere .exit))
         ⌝ }
 {
     let mut stays = [false; 4096];
-    mark_busy(keys, n, reading, hots, &mut stays);
+    mark_busy(keys, n, silent, reading, hots, &mut stays);
     copy_flagged(flags, n, &stays, elsewhere);
     ticks::keep_flagged(keys, KEY_WORDS, n, &stays)
 }
@@ -229,17 +234,21 @@ pub(crate) fn pass_one(
 ) -> Passed
     requires { ⌜ Passable limiter (now keys) (now hot) (now elsewhere) ⌝ }
     ensures { λ r. ⌜
-        PassesOne limiter reading «cluster_size» (now (keys .entry)) (now (hot .entry)) (now (elsewhere .entry)) r
-        (now (keys .exit)) (now (hot .exit)) (now (elsewhere .exit))
+        PassesOne (parametersOf (settingsOf limiter)) limiter reading «cluster_size» (now (keys .entry))
+        (now (hot .entry)) (now (elsewhere .entry)) r (now (keys .exit)) (now (hot .exit)) (now (elsewhere .exit))
         ⌝ }
 {
     let config = limiter.config;
     let n = limiter.keys;
-    ticks::fold_keys(keys, n, reading, config.demand_time_constant);
+    let par = parameters_of(limiter);
+    let silent = par.silent_level;
+    let denials = par.denial_time_constant;
+    ticks::fold_keys(keys, n, reading, config.demand_time_constant, denials);
     let mut flags = [false; 4096];
     let mut hots = [false; 4096];
     let entries = update_hot(
         limiter,
+        silent,
         keys,
         hot,
         elsewhere,
@@ -248,7 +257,7 @@ pub(crate) fn pass_one(
         &mut flags,
         &mut hots,
     );
-    let left = drop_idle(keys, n, reading, &hots, &flags, elsewhere);
+    let left = drop_idle(keys, n, silent, reading, &hots, &flags, elsewhere);
     Passed {
         keys: left,
         hot: entries,

@@ -16,11 +16,12 @@ ghost use Rattle.records.specs.Records.{table};
 ghost use Rattle.gcra.specs.Packed.{unitNanos, validQuota};
 ghost use Rattle.gcra.specs.Rate.{setQuota};
 ghost use Rattle.demand.specs.Allocation.{isRate};
-ghost use Rattle.demand.specs.HotSet.{entries};
-ghost use Rattle.demand.specs.Steps.HotSetSteps.{Held};
+ghost use Rattle.demand.specs.HotSet.Set.{entries};
+ghost use Rattle.demand.specs.HotSet.Steps.{EntriesReady};
 ghost use Rattle.limiter.specs.State.{keyWords};
 ghost use Rattle.limiter.specs.Steps.TickSteps.{keyRecord, keyRecords, HeldKeys, HeldKey};
-ghost use Rattle.limiter.specs.Steps.PassTwoSteps.{GoodTerms, shareBy, hotRate, coldRate, rateBy, quotaRow, requoted};
+ghost use Rattle.limiter.specs.Steps.PassTwoSteps.{GoodTerms, shareBy, hotRate, coldRate, rateBy};
+ghost use Rattle.limiter.specs.Steps.PassTwoSteps.{quotaRow, requoted};
 
 // What the rates of a tick are worked out from: whether hot keys share evenly, there being no peers;
 // the settings' parts of a limit; and the cluster's size.
@@ -85,7 +86,7 @@ fn key_rate(
     totals: &[f64],
     terms: RateTerms,
 ) -> f64
-    requires { ⌜ HeldKey (now r) × Held h (now hot) × (h ≤ length (now totals)) × GoodTerms terms ⌝ }
+    requires { ⌜ HeldKey (now r) × EntriesReady h (now hot) × (h ≤ length (now totals)) × GoodTerms terms ⌝ }
     ensures { λ x. ⌜
         x ≡ rateBy terms (entries h (now (hot .entry))) (now (totals .entry)) elsewhere (keyRecord (now (r .entry)))
         ⌝ }
@@ -133,7 +134,7 @@ fn set_key_quota(
     terms: RateTerms,
     reading: u64,
 )
-    requires { ⌜ HeldKey (now r) × Held h (now hot) × (h ≤ length (now totals)) × GoodTerms terms ⌝ }
+    requires { ⌜ HeldKey (now r) × EntriesReady h (now hot) × (h ≤ length (now totals)) × GoodTerms terms ⌝ }
     ensures { λ _. ⌜
         now (r .exit) ≡
         quotaRow reading
@@ -157,7 +158,7 @@ pub(crate) fn set_quotas(
     reading: u64,
 )
     requires { ⌜
-        HeldKeys n (now keys) × Held h (now hot) × (n ≤ length (now elsewhere)) × (h ≤ length (now totals)) ×
+        HeldKeys n (now keys) × EntriesReady h (now hot) × (n ≤ length (now elsewhere)) × (h ≤ length (now totals)) ×
         GoodTerms terms
         ⌝ }
     ensures { λ _. ⌜

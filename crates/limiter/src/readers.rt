@@ -6,23 +6,25 @@ use crate::KeyRates;
 use crate::Limit;
 use crate::LimitAnswer;
 use crate::Limiter;
+use crate::Parameters;
 use crate::RatesAnswer;
 use crate::checks;
 use crate::key_record::Estimator;
 use crate::key_record::KeyState;
+use crate::parameters_of;
 use crate::ticks;
+use demand::answers::FlagAnswer;
+use demand::answers::LenAnswer;
 use demand::demand::Demand;
 use demand::demand::Times;
 use demand::hot_set::HotSet;
 use demand::hot_set::SinceAnswer;
-use demand::peer_demand::FlagAnswer;
-use demand::peer_demand::LenAnswer;
 use gcra::QuotaAnswer;
 use gcra::RateAnswer;
 ghost use mathlib.Core.Path.{_≡_};
 ghost use mathlib.Core.Bool.{true};
 ghost use Rattle.float.specs.Magnitude.{magnitude};
-ghost use Rattle.limiter.specs.State.{base, atEntry, keyWith, validKey};
+ghost use Rattle.limiter.specs.State.{atEntry, keyWith, validKey};
 ghost use Rattle.limiter.specs.Ticks.{unbiasedRate};
 ghost use Rattle.limiter.specs.Readers.{ratesOf};
 ghost use Rattle.limiter.specs.Calls as Calls;
@@ -69,17 +71,18 @@ pub(crate) fn unbiased_rate(estimator: Estimator, time_constant: u64) -> f64
 }
 
 // A key's three rates.
-pub(crate) fn rates_of(state: KeyState) -> KeyRates
+pub(crate) fn rates_of(par: Parameters, state: KeyState) -> KeyRates
     requires { ⌜ validKey units (keyRecord state) ≡ true ⌝ }
-    ensures { λ r. ⌜ r ≡ ratesOf base (keyRecord state) ⌝ }
+    ensures { λ r. ⌜ r ≡ ratesOf par (keyRecord state) ⌝ }
 {
+    let time_constant = par.denial_time_constant;
     let requests = state.requests;
     let denials = state.denials;
     let shadow_denials = state.shadow_denials;
     KeyRates {
-        requests_per_sec: unbiased_rate(requests, ticks::DENIAL_TIME_CONSTANT),
-        denied_per_sec: unbiased_rate(denials, ticks::DENIAL_TIME_CONSTANT),
-        shadow_denied_per_sec: unbiased_rate(shadow_denials, ticks::DENIAL_TIME_CONSTANT),
+        requests_per_sec: unbiased_rate(requests, time_constant),
+        denied_per_sec: unbiased_rate(denials, time_constant),
+        shadow_denied_per_sec: unbiased_rate(shadow_denials, time_constant),
     }
 }
 
@@ -94,7 +97,7 @@ impl Limiter {
         }
         match find_key(self, keys, key) {
             TrackedKey::Untracked => RatesAnswer::Untracked,
-            TrackedKey::Is(state) => RatesAnswer::Is(rates_of(state)),
+            TrackedKey::Is(state) => RatesAnswer::Is(rates_of(parameters_of(self), state)),
         }
     }
 

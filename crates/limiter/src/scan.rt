@@ -4,18 +4,19 @@ use crate::HOT_WORDS;
 use crate::KEY_WORDS;
 use crate::SHADOW_WORDS;
 use demand::hot_set;
-use demand::words::is_time;
 use gcra::Quota;
+use records::fields::is_time;
 ghost use mathlib.Core.Path.{_≡_};
 ghost use Prim.Native.Nat.{_+_, _*_, _≤_, _<_};
 ghost use lib.ListN.{length, drop};
 ghost use Rattle.records.specs.Records.{records};
 ghost use Rattle.gcra.specs.Packed.{unitNanos, validBurst};
 ghost use Rattle.demand.specs.Allocation.{isRate};
-ghost use Rattle.demand.specs.HotSet.{isEntry};
+ghost use Rattle.demand.specs.HotSet.Steps.{areEntryWords};
 ghost use Rattle.limiter.specs.State.{floatOf};
 ghost use Rattle.limiter.specs.Steps.Scan.{isLimit, areRates, isMeter, areKeyWords, areWords, IsWidth};
-ghost use Rattle.limiter.specs.Steps.Scan.{follows, areRecords, keysBelow, merges, areKeys, areOf, KeysReady};
+ghost use Rattle.limiter.specs.Steps.Scan.{follows, areRecords, keysBelow, merges, areKeys, areOf};
+ghost use Rattle.limiter.specs.Steps.Scan.{KeysReady};
 
 // Whether the word is that of a rate: finite and above 0.
 fn is_rate(word: u64) -> bool
@@ -180,7 +181,7 @@ pub(crate) fn are_keys(t: &[u64], n: usize, size: usize) -> bool
 // keys, which are among m keys.
 pub(crate) fn are_hot(t: &[u64], n: usize, size: usize, keys: &[u64], m: usize) -> bool
     requires { ⌜ KeysReady m (now keys) × (size * 6 ≤ length (now t)) ⌝ }
-    ensures { λ r. ⌜ r ≡ areOf isEntry size (records 22 m (now (keys .entry))) (records 6 n (now (t .entry))) ⌝ }
+    ensures { λ r. ⌜ r ≡ areOf areEntryWords size (records 22 m (now (keys .entry))) (records 6 n (now (t .entry))) ⌝ }
 {
     if size < n {
         return false;

@@ -26,24 +26,23 @@ ghost use Rattle.float.specs.Magnitude.{magnitude};
 ghost use Rattle.float.specs.Order.{place};
 ghost use Rattle.records.specs.Words.{paste};
 ghost use Rattle.records.specs.Records.{records, table};
-ghost use Rattle.demand.specs.Estimator.{foldedBy};
-ghost use Rattle.demand.specs.HotSet.{isHot, entries};
-ghost use Rattle.demand.specs.PeerLists.{only};
-ghost use Rattle.gcra.specs.Questions.{firstNo, passes};
-ghost use Rattle.demand.specs.PeerState as PeerState;
-ghost use Rattle.demand.specs.Steps.HotSetSteps.{Held};
-ghost use Rattle.demand.specs.Steps.PeerRuns.{Tabled};
+ghost use Rattle.demand.specs.Estimators.Estimator.{foldedBy};
+ghost use Rattle.demand.specs.HotSet.Set.{isHot, entries};
+ghost use Rattle.questions.specs.Lists.{only};
+ghost use Rattle.questions.specs.Questions.{firstNo, passes};
+ghost use Rattle.demand.specs.Peers.State as PeerState;
+ghost use Rattle.demand.specs.HotSet.Steps.{EntriesReady};
+ghost use Rattle.records.specs.Typed.{Tabled};
 ghost use Rattle.limiter.specs.State as State;
 ghost use Rattle.limiter.specs.State.{isTracked, estimateWords, estimateOf};
 ghost use Rattle.limiter.specs.Checks as Checks;
 ghost use Rattle.limiter.specs.Calls as Calls;
 ghost use Rattle.limiter.specs.Ticks.{folded, tickWithShares};
-ghost use Rattle.limiter.specs.Steps.TickSteps.{flagged, below, Cut, staying, top, ratePlaceOf, keyRecord, keyRecords, keyRank};
-ghost use Rattle.limiter.specs.Steps.TickSteps.{staysUnder, HeldKeys, alphaOf, IsAlpha, AreAlphas, foldedRow, HeldKey, shadowKey};
+ghost use Rattle.limiter.specs.Steps.TickSteps.{flagged, below, Cut, staying, top, ratePlaceOf};
+ghost use Rattle.limiter.specs.Steps.TickSteps.{keyRecord, keyRecords, keyRank, staysUnder, HeldKeys};
+ghost use Rattle.limiter.specs.Steps.TickSteps.{alphaOf, IsAlpha, AreAlphas, foldedRow, HeldKey};
+ghost use Rattle.limiter.specs.Steps.TickSteps.{shadowKey};
 ghost use Rattle.limiter.specs.Steps.PassTwoSteps.{termsOf, requoted, Finishing, Finished, Ticked};
-
-// The time constant of the estimators of requests and denials: ten seconds.
-pub(crate) const DENIAL_TIME_CONSTANT: u64 = 10_000_000_000;
 
 // Keeps the records whose flag is set, in their order, at the front of their table; tells how many.
 pub(crate) fn keep_flagged(t: &mut [u64], w: usize, n: usize, stays: &[bool]) -> usize
@@ -142,7 +141,7 @@ fn mark_staying(ranks: &[u64], n: usize, limit: u64, room: usize, stays: &mut [b
 
 // Whether the key is hot.
 pub(crate) fn is_hot(hot: &[u64], h: usize, key: u64) -> bool
-    requires { ⌜ Held h (now hot) ⌝ }
+    requires { ⌜ EntriesReady h (now hot) ⌝ }
     ensures { λ r. ⌜ r ≡ isHot key (entries h (now (hot .entry))) ⌝ }
 {
     let found = records::find(hot, HOT_WORDS, 1, h, key, 0);
@@ -183,7 +182,7 @@ fn rate_place(rate: u64, last_tick: u64, since: u64, time_constant: u64) -> u64
 
 // The rank of key i in the order in which keys go: a hot one has none.
 fn key_rank(keys: &[u64], n: usize, i: usize, hot: &[u64], h: usize, time_constant: u64) -> u64
-    requires { ⌜ HeldKeys n (now keys) × Held h (now hot) × (i < n) ⌝ }
+    requires { ⌜ HeldKeys n (now keys) × EntriesReady h (now hot) × (i < n) ⌝ }
     ensures { λ r. ⌜
         r ≡ keyRank «time_constant» (entries h (now (hot .entry))) (keyRecord (getD (records 22 n (now (keys .entry))) i []))
         ⌝ }
@@ -197,7 +196,7 @@ fn key_rank(keys: &[u64], n: usize, i: usize, hot: &[u64], h: usize, time_consta
 
 // Works out the rank of each key once.
 fn rank_keys(keys: &[u64], n: usize, hot: &[u64], h: usize, time_constant: u64, ranks: &mut [u64])
-    requires { ⌜ HeldKeys n (now keys) × Held h (now hot) × (n ≤ length (now ranks)) ⌝ }
+    requires { ⌜ HeldKeys n (now keys) × EntriesReady h (now hot) × (n ≤ length (now ranks)) ⌝ }
     ensures { λ _. ⌜
         take n (now (ranks .exit)) ≡
         map (λ x. keyRank «time_constant» (entries h (now (hot .entry))) (keyRecord x))
@@ -221,7 +220,7 @@ pub(crate) fn enforce_cap(
     most: usize,
     time_constant: u64,
 ) -> usize
-    requires { ⌜ HeldKeys n (now keys) × Held h (now hot) × (n ≤ 4096) ⌝ }
+    requires { ⌜ HeldKeys n (now keys) × EntriesReady h (now hot) × (n ≤ 4096) ⌝ }
     ensures { λ r. ⌜
         Tabled r
         (only
@@ -316,10 +315,16 @@ fn first_alpha(time_constant: u64) -> Alpha
 }
 
 // Folds the four estimators in the words of one key.
-fn fold_key(r: &mut [u64], reading: u64, known: Alphas, time_constant: u64) -> Alphas
-    requires { ⌜ HeldKey (now r) × AreAlphas «time_constant» known ⌝ }
-    ensures { λ a. ⌜ AreAlphas «time_constant» a ⌝ }
-    ensures { λ _. ⌜ now (r .exit) ≡ foldedRow «time_constant» reading (now (r .entry)) ⌝ }
+fn fold_key(
+    r: &mut [u64],
+    reading: u64,
+    known: Alphas,
+    time_constant: u64,
+    denial_time_constant: u64,
+) -> Alphas
+    requires { ⌜ HeldKey (now r) × AreAlphas «time_constant» «denial_time_constant» known ⌝ }
+    ensures { λ a. ⌜ AreAlphas «time_constant» «denial_time_constant» a ⌝ }
+    ensures { λ _. ⌜ now (r .exit) ≡ foldedRow «time_constant» «denial_time_constant» reading (now (r .entry)) ⌝ }
 {
     let known_demand = known.demand;
     let known_denials = known.denials;
@@ -333,22 +338,36 @@ fn fold_key(r: &mut [u64], reading: u64, known: Alphas, time_constant: u64) -> A
     }
 }
 
-// Folds the estimators of all keys in place.
-pub(crate) fn fold_keys(keys: &mut [u64], n: usize, reading: u64, time_constant: u64)
+// Folds the estimators of all keys in place, with the time constant of demand and that of requests
+// and denials.
+pub(crate) fn fold_keys(
+    keys: &mut [u64],
+    n: usize,
+    reading: u64,
+    time_constant: u64,
+    denial_time_constant: u64,
+)
     requires { ⌜ HeldKeys n (now keys) ⌝ }
     ensures { λ _. ⌜
         now (keys .exit) ≡
-        table (map (foldedRow «time_constant» reading) (records 22 n (now (keys .entry)))) (now (keys .entry))
+        table (map (foldedRow «time_constant» «denial_time_constant» reading) (records 22 n (now (keys .entry))))
+        (now (keys .entry))
         ⌝ }
 {
     let mut known = Alphas {
         demand: first_alpha(time_constant),
-        denials: first_alpha(DENIAL_TIME_CONSTANT),
+        denials: first_alpha(denial_time_constant),
     };
     let mut i = 0;
     while i < n {
         let at = i * KEY_WORDS;
-        known = fold_key(&mut keys[at..at + KEY_WORDS], reading, known, time_constant);
+        known = fold_key(
+            &mut keys[at..at + KEY_WORDS],
+            reading,
+            known,
+            time_constant,
+            denial_time_constant,
+        );
         i += 1;
     }
 }
@@ -545,9 +564,9 @@ impl Limiter {
             (PeerState.lent «peer_table» «snapshot_keys» contested) ++ Checks.clusterQuestions «cluster_size») ≡ true
             ⌝ }
         ensures { λ r. ⌜
-            Ticked (tickWithShares State.base (PeerState.stateOf peers (PeerState.atEntry «peer_table» «snapshot_keys» contested))
-            reading «cluster_size» (Calls.here self (State.atEntry keys hot shadows))) (State.atEntry keys hot shadows) r
-            (State.atExit keys hot shadows)
+            Ticked (tickWithShares (State.parametersOf (State.settingsOf self)) (State.unitsOf (State.settingsOf self))
+            (PeerState.stateOf peers (PeerState.atEntry «peer_table» «snapshot_keys» contested)) reading «cluster_size»
+            (Calls.here self (State.atEntry keys hot shadows))) (State.atEntry keys hot shadows) r (State.atExit keys hot shadows)
             ⌝ }
     {
         let mut elsewhere = [false; 4096];

@@ -24,13 +24,14 @@ ghost use Prim.Native.Nat.{_*_, _≤_};
 ghost use lib.ListN.{length};
 ghost use Rattle.gcra.specs.Packed.{validBurst, validQuota};
 ghost use Rattle.gcra.specs.Rate.{setQuota};
-ghost use Rattle.gcra.specs.Questions.{firstNo};
+ghost use Rattle.questions.specs.Questions.{firstNo};
 ghost use Rattle.limiter.specs.State as State;
 ghost use Rattle.limiter.specs.Checks as Checks;
 ghost use Rattle.limiter.specs.Calls as Calls;
 ghost use Rattle.limiter.specs.Steps.KeySteps.{units};
-ghost use Rattle.limiter.specs.Steps.TraceSteps.{ShadowsReady, ShadowPlaced, EntersShadow, withShadow, withoutShadow, HoldsShadows};
-ghost use Rattle.limiter.specs.Steps.TraceSteps.{Tries, countingShadows, Roomy, Traces};
+ghost use Rattle.limiter.specs.Steps.TraceSteps.{ShadowsReady, ShadowPlaced, EntersShadow, withShadow};
+ghost use Rattle.limiter.specs.Steps.TraceSteps.{withoutShadow, HoldsShadows, Tries, countingShadows};
+ghost use Rattle.limiter.specs.Steps.TraceSteps.{Roomy, Traces};
 ghost use Rattle.limiter.specs.Steps.CheckSteps.{Ready};
 
 // The shadow of a call: whether the key has one, its place among the records or where it would go,
@@ -50,7 +51,7 @@ pub(crate) struct Tried {
 // The shadow's quota: the key's rate times shadow limit ÷ limit, and the shadow's burst.
 pub(crate) fn shadow_quota(quota: Quota, limit: Limit, shadow: Limit) -> Quota
     requires { ⌜ validQuota units quota ≡ true ⌝ }
-    ensures { λ r. ⌜ r ≡ Checks.shadowQuota State.base quota limit shadow ⌝ }
+    ensures { λ r. ⌜ r ≡ Checks.shadowQuota units quota limit shadow ⌝ }
 {
     match quota.rate_per_sec() {
         RateAnswer::Is(rate) => checks::quota_for(rate * shadow.rate / limit.rate, shadow.burst),

@@ -9,12 +9,12 @@ use borrow.Author.Tests.{leb-true}
 use lib.Dec.{leb, lit<}
 use lib.Ieee.{Float}
 use lib.ListN.{length, getD}
-use Rattle.records.proofs.TestLaws.{split, contradiction, both}
+use Rattle.questions.proofs.Tests.{split, contradiction, both}
 use Rattle.records.specs.Words.{paste}
 use Rattle.gcra.specs.declared.Decision.{Decision}
 use Rattle.gcra.specs.declared.Decision.the-variants.{Allow, Deny}
-use Rattle.gcra.specs.Questions.{Question, Answer, given, passes, firstNo}
-use Rattle.gcra.proofs.Answers.{passed-none, none-passed}
+use Rattle.questions.specs.Questions.{Question, Answer, given, passes, firstNo}
+use Rattle.questions.proofs.Answers.{passed-none, none-passed}
 use Rattle.limiter.specs.declared.Limit.{Limit}
 use Rattle.nultiway.specs.Values.{isLimiter, limiterAsked, roomAsked}
 use Rattle.nultiway.specs.Calls.{Called, Changes, Answers, Tells, numberOf, answerPut, decisionWords}

@@ -14,10 +14,10 @@ use Rattle.gcra.specs.declared.Gcra.{Gcra}
 use Rattle.gcra.specs.declared.Decision.{Decision}
 use Rattle.gcra.specs.declared.Decision.the-variants.{Allow, Deny}
 use Rattle.gcra.specs.declared.Stepped.{Stepped}
-use Rattle.gcra.specs.Questions.{passes, firstNo}
-use Rattle.gcra.proofs.Cases.{and-both, and-true}
-use Rattle.gcra.proofs.Answers.{first-no, first-yes, first-none, passed-none}
-use Rattle.demand.specs.Words.{timeFlag, timeWord, timeWords, timeOf, isTime}
+use Rattle.questions.specs.Questions.{passes, firstNo}
+use Rattle.questions.proofs.Tests.{both, and-intro}
+use Rattle.questions.proofs.Answers.{first-no, first-yes, first-none, passed-none}
+use Rattle.records.specs.Fields.{timeFlag, timeWord, timeWords, timeOf, isTime}
 use Rattle.limiter.specs.State.{tatTime, tatFrom}
 use Rattle.nultiway.specs.Calls.{decisionWords}
 use Rattle.nultiway.specs.LoneCalls.{gcraWords, gcraOf, isGcra, gcraAsked, steppedWords}
@@ -40,10 +40,10 @@ module _ (ws : List ℕ) (room : Bool) where
   asked-small e = first-no 1 _ (rw e (and-false (leb 4 (length ws))))
 
   pub asked-other : 4 ≤ length ws → room ≡ true → isGcra ws ≡ false → 2 ≡ firstNo (gcraAsked ws room)
-  asked-other h e n = first-yes 1 _ (and-true (le-leb 4 (length ws) h) e) (first-no 2 [] n)
+  asked-other h e n = first-yes 1 _ (and-intro _ _ (le-leb 4 (length ws) h) e) (first-no 2 [] n)
 
   pub asked-none : 4 ≤ length ws → room ≡ true → isGcra ws ≡ true → 0 ≡ firstNo (gcraAsked ws room)
-  asked-none h e y = first-yes 1 _ (and-true (le-leb 4 (length ws) h) e) (first-yes 2 [] y first-none)
+  asked-none h e y = first-yes 1 _ (and-intro _ _ (le-leb 4 (length ws) h) e) (first-yes 2 [] y first-none)
 
 -- what holds where both are passed
 pub record Passed (ws : List ℕ) (room : Bool) : Type 0 where
@@ -55,9 +55,9 @@ pub record Passed (ws : List ℕ) (room : Bool) : Type 0 where
 pub gcra-all : (ws : List ℕ) (room : Bool) → passes (gcraAsked ws room) ≡ true → Passed ws room
 unfolding passes
 gcra-all ws room p =
-    let a = and-both (leb 4 (length ws) && room) _ p in
-    let b = and-both (leb 4 (length ws)) room (a .0) in
-    record { all = p; long = leb-true 4 (length ws) (b .0); fits = b .1; gcra = and-both (isGcra ws) true (a .1) .0 }
+    let a = both (leb 4 (length ws) && room) _ p in
+    let b = both (leb 4 (length ws)) room (a .0) in
+    record { all = p; long = leb-true 4 (length ws) (b .0); fits = b .1; gcra = both (isGcra ws) true (a .1) .0 }
 
 pub gcra-passed : (ws : List ℕ) (room : Bool) {n : ℕ} → n ≡ firstNo (gcraAsked ws room) → n ≡ 0 → Passed ws room
 gcra-passed ws room {n} e z = gcra-all ws room (passed-none (gcraAsked ws room) n (omega arith, omega arith) e z)
@@ -73,7 +73,7 @@ tat-set zero time h = absurd (h refl)
 tat-set (suc flag) time h = refl
 
 pub gcra-burst : (ws : List ℕ) → isGcra ws ≡ true → getD ws 1 0 < 2 ^ 32
-gcra-burst ws e = ltb-true (getD ws 1 0) (2 ^ 32) (and-both (ltb (getD ws 1 0) (2 ^ 32)) _ e .0)
+gcra-burst ws e = ltb-true (getD ws 1 0) (2 ^ 32) (both (ltb (getD ws 1 0) (2 ^ 32)) _ e .0)
 
 pub gcra-read :
     (ws : List ℕ) {t : Tat}
@@ -116,7 +116,7 @@ gcra-kept (a ∷ []) h e = absurd (omega arith)
 gcra-kept (a ∷ b ∷ []) h e = absurd (omega arith)
 gcra-kept (a ∷ b ∷ flag ∷ []) h e = absurd (omega arith)
 gcra-kept (a ∷ b ∷ flag ∷ time ∷ rest) h e =
-    ap (λ (ws : List ℕ). a ∷ b ∷ ws ++ rest) (time-back flag time (and-both (ltb b (2 ^ 32)) _ e .1))
+    ap (λ (ws : List ℕ). a ∷ b ∷ ws ++ rest) (time-back flag time (both (ltb b (2 ^ 32)) _ e .1))
 
 -- two with the same words are equal
 pub gcra-same : (g h : Gcra) → gcraWords g ≡ gcraWords h → g ≡ h

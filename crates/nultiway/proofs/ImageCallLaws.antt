@@ -1,13 +1,10 @@
 -- Laws: the calls on the saved image.
-use Prim.Native.Nat.{ℕ, _≤_, _<_}
+use Prim.Native.Nat.{ℕ}
 use mathlib.Core.Path.{_≡_, sym, ap, _∙_}
-use mathlib.Core.Bool.{Bool, true, false, _&&_}
+use mathlib.Core.Bool.{Bool}
 use mathlib.Core.List.{List}
-use borrow.Author.Tests.{leb-true, le-leb, lt-leb}
-use lib.Dec.{leb}
 use Rattle.records.specs.Words.{paste}
-use Rattle.gcra.specs.Questions.{Answer, refused, given, firstNo}
-use Rattle.gcra.proofs.Cases.{and-both}
+use Rattle.questions.specs.Questions.{Answer, refused, given, firstNo}
 use Rattle.demand.specs.declared.peer_demand.PeerDemand.{PeerDemand}
 use Rattle.limiter.specs.declared.Limiter.{Limiter}
 use Rattle.image.specs.declared.Loaded.{Loaded}
@@ -15,17 +12,6 @@ use Rattle.nultiway.specs.Values.{limiterAsked}
 use Rattle.nultiway.specs.Calls.{numberOf, answerPut}
 use Rattle.nultiway.specs.ImageCalls.{loadedLimiter, loadedPeers, PutLoaded}
 use Rattle.nultiway.proofs.CallLaws.{said-put}
-
--- ---- two lengths
-
-pub long-yes : (least first : ℕ) (r : Bool) → least ≤ first → r ≡ (leb least first && r)
-long-yes least first r h = rw (le-leb least first h)
-
-pub long-no : (least first : ℕ) (r : Bool) → first < least → false ≡ (leb least first && r)
-long-no least first r h = rw (lt-leb least first h)
-
-pub both-long : (a b m n : ℕ) → (leb a b && leb m n) ≡ true → (a ≤ b) × (m ≤ n)
-both-long a b m n e = let p = and-both (leb a b) (leb m n) e in (leb-true a b (p .0), leb-true m n (p .1))
 
 -- the limiter's questions, with a test that the code worked out
 pub asked-with : (ws : List ℕ) {n : ℕ} {b d : Bool} → n ≡ firstNo (limiterAsked ws b) → b ≡ d → n ≡ firstNo (limiterAsked ws d)

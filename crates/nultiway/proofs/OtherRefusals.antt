@@ -10,16 +10,17 @@ use lib.ListN.{length}
 use Rattle.records.specs.Words.{paste}
 use Rattle.gcra.specs.declared.Quota.{Quota}
 use Rattle.gcra.specs.declared.Gcra.{Gcra}
-use Rattle.gcra.specs.Questions.{Question, passes}
+use Rattle.questions.specs.Questions.{Question, passes}
 use Rattle.gcra.specs.Calls as gcra
 use Rattle.gcra.specs.Meter.{decision}
-use Rattle.gcra.proofs.Cases.{and-both}
+use Rattle.questions.proofs.Tests.{both}
 use Rattle.demand.specs.declared.peer_demand.PeerDemand.{PeerDemand}
 use Rattle.demand.specs.declared.peer_demand.ChangeAnswer.{ChangeAnswer}
 use Rattle.demand.specs.declared.peer_demand.PeersChanged.{PeersChanged}
 use Rattle.demand.specs.declared.peer_demand.DemandReport.{DemandReport}
-use Rattle.demand.specs.PeerState.{PeersState, PeerTables}
-use Rattle.demand.specs.PeerCalls as demand
+use Rattle.demand.specs.Peers.State.{PeersState, PeerTables}
+use Rattle.demand.specs.Answers.{lenAnswer}
+use Rattle.demand.specs.Peers.Calls as demand
 use Rattle.limiter.specs.State.{LimiterTables}
 use Rattle.image.specs.Image.{image}
 use Rattle.image.specs.Calls as image-calls
@@ -82,8 +83,8 @@ save-unmoved ws t ps pt out answer r out′ answer′ h c =
     let x = a .result in
     let qs : List Question = image-calls.saveQuestions (limiterOf ws) t (peersOf ps) pt out in
     let v : ℕ = length (image (image-calls.here (limiterOf ws) t (peersOf ps) pt)) in
-    let n : passes qs ≡ false = not-all v qs (demand.lenAnswer x) (a .kept .answered) (λ z. h (a .number ∙ z)) in
-    (kept qs _ _ out′ (a .kept .output) n, no-words (demand.lenAnswer x) oneWord answer answer′ (λ z. h (a .number ∙ z)) (a .answer)))
+    let n : passes qs ≡ false = not-all v qs (lenAnswer x) (a .kept .answered) (λ z. h (a .number ∙ z)) in
+    (kept qs _ _ out′ (a .kept .output) n, no-words (lenAnswer x) oneWord answer answer′ (λ z. h (a .number ∙ z)) (a .answer)))
 
 pub load-unmoved :
     (bs ws : List ℕ) (t : LimiterTables) (ps : List ℕ) (pt : PeerTables) (r : ℕ) (ws′ : List ℕ) (t′ : LimiterTables) (ps′ : List ℕ) (pt′ : PeerTables)
@@ -123,7 +124,7 @@ change-unmoved ps t r ps′ t′ qs change x h l k e w =
 -- the peers' words are there
 three : (ps : List ℕ) → passes (peersAsked ps) ≡ true → 3 ≤ length ps
 unfolding passes
-three ps p = leb-true 3 (length ps) (and-both (leb 3 (length ps)) true p .0)
+three ps p = leb-true 3 (length ps) (both (leb 3 (length ps)) true p .0)
 
 module _ (ps : List ℕ) (t : PeerTables) (r : ℕ) (ps′ : List ℕ) (t′ : PeerTables) (h : r ≡ 0 → ⊥) where
   pub apply-unmoved : (peer : ℕ) (report : DemandReport) (ws : List ℕ) (now : ℕ) → Apply ps t peer report ws now r ps′ t′ → (ps′ ≡ ps) × (t′ ≡ t)

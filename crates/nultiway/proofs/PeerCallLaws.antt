@@ -1,10 +1,10 @@
 -- Laws: the calls on the peers.
 use Prim.Native.Nat.{ℕ}
 use mathlib.Core.Path.{_≡_, ap, _∙_, subst}
-use Rattle.gcra.specs.Questions.{Answer, firstNo}
+use Rattle.questions.specs.Questions.{Answer, firstNo}
 use Rattle.demand.specs.declared.peer_demand.PeerDemand.{PeerDemand}
-use Rattle.demand.specs.PeerState.{PeerTables}
-use Rattle.demand.specs.PeerCalls.{Asks, peersQuestions}
+use Rattle.demand.specs.Peers.State.{PeerTables}
+use Rattle.demand.specs.Peers.Calls.{Asks, peersQuestions}
 use Rattle.nultiway.specs.Calls.{numberOf}
 use Rattle.nultiway.specs.PeerCalls.{Named, Says}
 

@@ -8,12 +8,13 @@ use lib.Dec.{leb}
 use lib.Ieee.{Float}
 use lib.ListN.{length}
 use Rattle.records.specs.Words.{paste}
-use Rattle.records.proofs.TestLaws.{split, contradiction}
-use Rattle.gcra.specs.Questions.{Question, Answer, refused, given, answer, passes, firstNo, changed}
-use Rattle.gcra.proofs.Answers.{answer-passed}
-use Rattle.demand.specs.declared.peer_demand.LenAnswer.{LenAnswer}
-use Rattle.demand.specs.PeerState.{PeerTables}
-use Rattle.demand.specs.PeerCalls.{changeAnswer, lenAnswer}
+use Rattle.questions.proofs.Tests.{split, contradiction}
+use Rattle.questions.specs.Questions.{Question, Answer, refused, given, answer, passes, firstNo, changed}
+use Rattle.questions.proofs.Answers.{answer-passed}
+use Rattle.demand.specs.declared.answers.LenAnswer.{LenAnswer}
+use Rattle.demand.specs.Peers.State.{PeerTables}
+use Rattle.demand.specs.Peers.Calls.{changeAnswer}
+use Rattle.demand.specs.Answers.{lenAnswer}
 use Rattle.limiter.specs.declared.Limit.{Limit}
 use Rattle.limiter.specs.declared.Limiter.{Limiter}
 use Rattle.limiter.specs.declared.Changed.{Changed}
@@ -22,8 +23,7 @@ use Rattle.limiter.specs.State.{LimiterState, LimiterTables}
 use Rattle.limiter.specs.Calls.{Acts, Ticking, Lists, stateQuestions, eachAsked, outputQuestions}
 use Rattle.nultiway.specs.Values.{limiterWords, limiterOf, limiterAsked}
 use Rattle.nultiway.specs.Calls.{Called, Tells, numberOf, answerPut, decisionWords, oneWord}
-use Rattle.nultiway.specs.LimiterCalls.{tracedWords, SetCap, Record, Tick, TickWithShares, CheckEach, Check, CheckIn, CheckInTraced}
-use Rattle.nultiway.specs.LimiterCalls.{HotDemand, MostDenied, MostShadowDenied}
+use Rattle.nultiway.specs.LimiterCalls.{tracedWords, SetCap, Record, Tick, TickWithShares, CheckEach, Check, CheckIn, CheckInTraced, HotDemand, MostDenied, MostShadowDenied}
 use Rattle.nultiway.proofs.CallLaws.{by-questions, Open, was-open}
 use Rattle.nultiway.proofs.ValueLaws.{limiter-back}
 

@@ -11,14 +11,14 @@ use lib.ListN.{length, getD, set, take, drop, replicate, length-map}
 use lib.Seq.{set-at}
 use Rattle.records.specs.Records.{records}
 use Rattle.records.proofs.RecordLaws.{length-records, records-split}
-use Rattle.gcra.specs.Questions.{passes, firstNo}
-use Rattle.gcra.proofs.Cases.{and-both}
-use Rattle.gcra.proofs.Answers.{first-no, first-yes, first-none, passed-none}
+use Rattle.questions.specs.Questions.{passes, firstNo}
+use Rattle.questions.proofs.Tests.{both}
+use Rattle.questions.proofs.Answers.{first-no, first-yes, first-none, passed-none}
 use Rattle.demand.specs.declared.peer_demand.KeyDemand.{KeyDemand}
 use Rattle.demand.specs.declared.peer_demand.DemandReport.{DemandReport}
 use Rattle.demand.specs.declared.peer_demand.PeerDemand.{PeerDemand}
-use Rattle.demand.specs.PeerLists.{all}
-use Rattle.demand.proofs.WordLaws.{flag-is}
+use Rattle.questions.specs.Lists.{all}
+use Rattle.records.proofs.FieldLaws.{flag-is}
 use Rattle.nultiway.specs.PeerCalls.{isListed, listedOf, blankKey, keysOf, reportOf, reportAsked, Sent}
 
 -- ---- a key
@@ -117,8 +117,8 @@ module _ (peers : ℕ) (ws : List ℕ) (count : ℕ) where
   pub report-all : passes (reportAsked peers ws count) ≡ true → Taken
   unfolding passes
   report-all p =
-      let a = and-both (leb 3 peers && leb (min count 65 * 3) (length ws)) _ p in
-      let b = and-both (leb 3 peers) (leb (min count 65 * 3) (length ws)) (a .0) in
+      let a = both (leb 3 peers && leb (min count 65 * 3) (length ws)) _ p in
+      let b = both (leb 3 peers) (leb (min count 65 * 3) (length ws)) (a .0) in
       record { all-passed = p; three = leb-true 3 peers (b .0); long = leb-true (min count 65 * 3) (length ws) (b .1) }
 
   pub report-passed : {n : ℕ} → n ≡ firstNo (reportAsked peers ws count) → n ≡ 0 → Taken

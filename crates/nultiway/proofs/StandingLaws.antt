@@ -11,24 +11,25 @@ use lib.Dec.{leb, lit<}
 use lib.Ieee.{Float}
 use lib.ListN.{length}
 use Rattle.records.specs.Words.{paste}
-use Rattle.records.proofs.TestLaws.{split, both, and-intro, contradiction}
-use Rattle.gcra.specs.Questions.{Question, answer, given, passes, firstNo}
-use Rattle.gcra.proofs.Answers.{answer-passed, none-passed, first-rest, passed-none}
-use Rattle.demand.specs.PeerLists.{all}
-use Rattle.demand.specs.PeerState.{PeerTables, isWord}
+use Rattle.questions.proofs.Tests.{split, both, and-intro, contradiction}
+use Rattle.questions.specs.Questions.{Question, answer, given, passes, firstNo}
+use Rattle.questions.proofs.Answers.{answer-passed, none-passed, first-rest, passed-none}
+use Rattle.gcra.specs.Packed.{unitNanos}
+use Rattle.questions.specs.Lists.{all}
+use Rattle.demand.specs.Peers.State.{PeerTables}
+use Rattle.records.specs.Typed.{isWord}
 use Rattle.limiter.specs.declared.Limit.{Limit}
 use Rattle.limiter.specs.declared.Config.{Config}
 use Rattle.limiter.specs.declared.Limiter.{Limiter}
 use Rattle.limiter.specs.declared.LimiterAnswer.{LimiterAnswer}
 use Rattle.limiter.specs.declared.Tally.{Tally}
-use Rattle.limiter.specs.State.{base, LimiterTables, isF64, capOf, capFits, validCap, stateOf, valueOf}
+use Rattle.limiter.specs.State.{LimiterTables, isF64, capOf, capFits, validCap, stateOf, valueOf}
 use Rattle.limiter.specs.Calls.{here, stateQuestions, newState, newQuestions, limiterAnswer}
 use Rattle.limiter.proofs.States.RecordValidLaws.{limit-rate, limit-burst}
 use Rattle.limiter.proofs.States.StateValidLaws.{valid-says}
 use Rattle.limiter.proofs.Calls.CheckValidLaws.{Given}
 use Rattle.limiter.proofs.Calls.NewValidLaws.{GivenConfig}
-use Rattle.limiter.proofs.LimiterTheorems.{Sound, passes-sound, sound-passes, here-valid, new-passes, cap-again, recorded-again}
-use Rattle.limiter.proofs.LimiterTheorems.{plain-tick-again, shares-tick-again, checked-again, checked-in-again, traced-again, checked-each-again}
+use Rattle.limiter.proofs.LimiterTheorems.{Sound, passes-sound, sound-passes, here-valid, new-passes, cap-again, recorded-again, plain-tick-again, shares-tick-again, checked-again, checked-in-again, traced-again, checked-each-again}
 use Rattle.image.proofs.PutLaws.{length-pasted}
 use Rattle.image.proofs.JudgeLaws.{small-burst}
 use Rattle.nultiway.specs.Values.{limiterWords, limiterOf, isLimiter, limiterAsked, peersOf, roomAsked}
@@ -67,7 +68,7 @@ cap-fits (some x) e = both (isF64 x) _ e .0
 sound-typed : (l : Limiter) (t : LimiterTables) → Sound l t → Typed l
 unfolding stateOf
 sound-typed l t s =
-    let g = valid-says (base .units) (here l t) (here-valid l t s) .settings in
+    let g = valid-says unitNanos (here l t) (here-valid l t s) .settings in
     record {
       rate = limit-rate (l .config .limit) (g .config .limit);
       burst = small-burst (l .config .limit .burst) (limit-burst (l .config .limit) (g .config .limit));

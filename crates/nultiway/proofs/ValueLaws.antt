@@ -13,11 +13,11 @@ use lib.ListN.{length, take, drop, getD, length-append, take-append-drop, drop-o
 use lib.Seq.{length-take-le, take-at}
 use Rattle.records.specs.Words.{paste}
 use Rattle.records.specs.Records.{records, flat, table, fits, splice, overwriteAt, removable, overwritable, overwritten}
-use Rattle.records.proofs.TestLaws.{and-intro, eqb-self}
+use Rattle.questions.proofs.Tests.{and-intro, eqb-self}
 use Rattle.records.proofs.OrderLaws.{same-eq, eq-same}
 use Rattle.demand.specs.declared.peer_demand.PeerDemand.{PeerDemand}
-use Rattle.demand.specs.Words.{timeOf}
-use Rattle.demand.proofs.WordLaws.{time-of-words}
+use Rattle.records.specs.Fields.{timeOf}
+use Rattle.records.proofs.FieldLaws.{time-of-words}
 use Rattle.limiter.specs.declared.Config.{Config}
 use Rattle.limiter.specs.declared.Cap.{Cap}
 use Rattle.limiter.specs.declared.LastTick.{LastTick}

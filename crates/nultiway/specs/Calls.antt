@@ -8,8 +8,8 @@ use Rattle.records.specs.Words.{paste}
 use Rattle.gcra.specs.declared.Quota.{Quota}
 use Rattle.gcra.specs.declared.Decision.{Decision}
 use Rattle.gcra.specs.declared.Decision.the-variants.{Allow, Deny}
-use Rattle.gcra.specs.Questions.{Question, Answer, refused, given, passes, firstNo}
-use Rattle.demand.specs.Words.{flagWord}
+use Rattle.questions.specs.Questions.{Question, Answer, refused, given, passes, firstNo}
+use Rattle.records.specs.Fields.{flagWord}
 use Rattle.limiter.specs.State.{floatWord}
 
 -- ---- the number and the words of an answer

@@ -5,10 +5,10 @@ use mathlib.Core.Bool.{_&&_}
 use mathlib.Core.List.{List}
 use lib.Dec.{leb}
 use lib.ListN.{length}
-use Rattle.demand.specs.declared.peer_demand.LenAnswer.{LenAnswer}
-use Rattle.demand.specs.PeerCalls.{lenAnswer}
-use Rattle.demand.specs.PeerState.{PeerTables}
-use Rattle.gcra.specs.Questions.{Answer}
+use Rattle.demand.specs.declared.answers.LenAnswer.{LenAnswer}
+use Rattle.demand.specs.Answers.{lenAnswer}
+use Rattle.demand.specs.Peers.State.{PeerTables}
+use Rattle.questions.specs.Questions.{Answer}
 use Rattle.limiter.specs.State.{LimiterTables}
 use Rattle.image.specs.declared.Loaded.{Loaded}
 use Rattle.image.specs.declared.LoadAnswer.{LoadAnswer}

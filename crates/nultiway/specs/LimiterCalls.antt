@@ -12,16 +12,17 @@ use Rattle.gcra.specs.declared.Decision.{Decision}
 use Rattle.gcra.specs.declared.Quota.{Quota}
 use Rattle.gcra.specs.declared.QuotaAnswer.{QuotaAnswer}
 use Rattle.gcra.specs.declared.RateAnswer.{RateAnswer}
-use Rattle.gcra.specs.Questions.{Answer, firstNo}
+use Rattle.questions.specs.Questions.{Answer, firstNo}
 use Rattle.gcra.specs.Calls.{checkAnswer, quotaAnswer, rateAnswer}
 use Rattle.demand.specs.declared.hot_set.SinceAnswer.{SinceAnswer}
 use Rattle.demand.specs.declared.peer_demand.PeerDemand.{PeerDemand}
-use Rattle.demand.specs.declared.peer_demand.FlagAnswer.{FlagAnswer}
-use Rattle.demand.specs.declared.peer_demand.LenAnswer.{LenAnswer}
-use Rattle.demand.specs.Words.{timeWords}
-use Rattle.demand.specs.HotSetCalls.{sinceAnswer}
-use Rattle.demand.specs.PeerState.{PeerTables}
-use Rattle.demand.specs.PeerCalls.{changeAnswer, flagAnswer, lenAnswer}
+use Rattle.demand.specs.declared.answers.FlagAnswer.{FlagAnswer}
+use Rattle.demand.specs.declared.answers.LenAnswer.{LenAnswer}
+use Rattle.records.specs.Fields.{timeWords}
+use Rattle.demand.specs.HotSet.Calls.{sinceAnswer}
+use Rattle.demand.specs.Peers.State.{PeerTables}
+use Rattle.demand.specs.Peers.Calls.{changeAnswer}
+use Rattle.demand.specs.Answers.{flagAnswer, lenAnswer}
 use Rattle.limiter.specs.declared.Limit.{Limit}
 use Rattle.limiter.specs.declared.Config.{Config}
 use Rattle.limiter.specs.declared.Limiter.{Limiter}

@@ -13,11 +13,11 @@ use Rattle.gcra.specs.declared.DebtAnswer.{DebtAnswer}
 use Rattle.gcra.specs.declared.RetryAnswer.{RetryAnswer}
 use Rattle.gcra.specs.declared.Checked.{Checked}
 use Rattle.gcra.specs.declared.QuotaSet.{QuotaSet}
-use Rattle.gcra.specs.Questions.{Question, _asks_, Answer, given}
+use Rattle.questions.specs.Questions.{Question, _asks_, Answer, given}
 use Rattle.gcra.specs.Packed.{unitNanos}
 use Rattle.gcra.specs.Meter.{step}
 use Rattle.gcra.specs.Calls as gcra
-use Rattle.demand.specs.Words.{timeWords, timeOf, isTime}
+use Rattle.records.specs.Fields.{timeWords, timeOf, isTime}
 use Rattle.limiter.specs.State.{tatTime, tatFrom}
 use Rattle.nultiway.specs.Values.{roomAsked}
 use Rattle.nultiway.specs.Calls.{Called, Changes, Answers, Tells, decisionWords, oneWord, floatWords, flagWords, quotaWords}

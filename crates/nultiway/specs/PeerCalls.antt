@@ -17,13 +17,14 @@ use Rattle.demand.specs.declared.peer_demand.ChangeAnswer.{ChangeAnswer}
 use Rattle.demand.specs.declared.peer_demand.Heard.{Heard}
 use Rattle.demand.specs.declared.peer_demand.HeardAnswer.{HeardAnswer}
 use Rattle.demand.specs.declared.peer_demand.TotalAnswer.{TotalAnswer}
-use Rattle.demand.specs.declared.peer_demand.FlagAnswer.{FlagAnswer}
-use Rattle.demand.specs.declared.peer_demand.LenAnswer.{LenAnswer}
-use Rattle.demand.specs.Words.{flagWord, flagOf}
-use Rattle.demand.specs.PeerLists.{all}
-use Rattle.demand.specs.PeerState.{PeerTables}
-use Rattle.demand.specs.PeerCalls as demand
-use Rattle.gcra.specs.Questions.{Question, _asks_, Answer}
+use Rattle.demand.specs.declared.answers.FlagAnswer.{FlagAnswer}
+use Rattle.demand.specs.declared.answers.LenAnswer.{LenAnswer}
+use Rattle.records.specs.Fields.{flagWord, flagOf}
+use Rattle.questions.specs.Lists.{all}
+use Rattle.demand.specs.Peers.State.{PeerTables}
+use Rattle.demand.specs.Answers.{flagAnswer, lenAnswer}
+use Rattle.demand.specs.Peers.Calls as demand
+use Rattle.questions.specs.Questions.{Question, _asks_, Answer}
 use Rattle.nultiway.specs.Values.{peersWords, peersOf, roomAsked}
 use Rattle.nultiway.specs.Calls.{Called, Changes, Tells, numberOf, oneWord, floatWords, flagWords}
 
@@ -158,16 +159,16 @@ Total t key ps = TellsPeers (λ (p : PeerDemand) (x : TotalAnswer). demand.Total
 
 -- `nultiway_peers_hot_elsewhere`
 abbrev pub HotElsewhere : PeerTables → (key : ℕ) (ps answer : List ℕ) (r : ℕ) (answer′ : List ℕ) → Type 0
-HotElsewhere t key ps = TellsPeers (λ (p : PeerDemand) (x : FlagAnswer). demand.TellsHotElsewhere p t key x) (peersOf ps) demand.flagAnswer
+HotElsewhere t key ps = TellsPeers (λ (p : PeerDemand) (x : FlagAnswer). demand.TellsHotElsewhere p t key x) (peersOf ps) flagAnswer
     flagWords 1 ps
 
 -- `nultiway_peers_len`
 abbrev pub Len : PeerTables → (ps answer : List ℕ) (r : ℕ) (answer′ : List ℕ) → Type 0
-Len t ps = TellsPeers (λ (p : PeerDemand) (x : LenAnswer). demand.Counts p t x) (peersOf ps) demand.lenAnswer oneWord 1 ps
+Len t ps = TellsPeers (λ (p : PeerDemand) (x : LenAnswer). demand.Counts p t x) (peersOf ps) lenAnswer oneWord 1 ps
 
 -- `nultiway_peers_is_empty`
 abbrev pub IsEmpty : PeerTables → (ps answer : List ℕ) (r : ℕ) (answer′ : List ℕ) → Type 0
-IsEmpty t ps = TellsPeers (λ (p : PeerDemand) (x : FlagAnswer). demand.TellsEmpty p t x) (peersOf ps) demand.flagAnswer flagWords 1 ps
+IsEmpty t ps = TellsPeers (λ (p : PeerDemand) (x : FlagAnswer). demand.TellsEmpty p t x) (peersOf ps) flagAnswer flagWords 1 ps
 
 -- ---- calls that read of many keys
 

@@ -5,9 +5,9 @@ use mathlib.Core.List.{List, [], _∷_, _++_}
 use lib.Dec.{leb}
 use lib.ListN.{length, take, getD}
 use Rattle.records.specs.Records.{same}
-use Rattle.gcra.specs.Questions.{Question, _asks_}
+use Rattle.questions.specs.Questions.{Question, _asks_}
 use Rattle.demand.specs.declared.peer_demand.PeerDemand.{PeerDemand}
-use Rattle.demand.specs.Words.{timeOf}
+use Rattle.records.specs.Fields.{timeOf}
 use Rattle.limiter.specs.declared.Limiter.{Limiter}
 use Rattle.limiter.specs.State.{settingsWords, settingsOf, capFrom, lastTickFrom}
 use Rattle.image.specs.Reader as reader

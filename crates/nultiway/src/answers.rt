@@ -2,10 +2,10 @@
 // function answers the number of a 'no', and then writes nothing, or 0.
 use crate::values::put;
 use crate::values::put_limiter;
+use demand::answers::FlagAnswer;
+use demand::answers::LenAnswer;
 use demand::hot_set::SinceAnswer;
 use demand::peer_demand::ChangeAnswer;
-use demand::peer_demand::FlagAnswer;
-use demand::peer_demand::LenAnswer;
 use gcra::CheckAnswer;
 use gcra::Decision;
 use gcra::QuotaAnswer;
@@ -20,22 +20,24 @@ use limiter::RatesAnswer;
 use limiter::ShadowDecision;
 use limiter::Traced;
 use limiter::TracedAnswer;
+use records::fields::flag_word;
 ghost use mathlib.Core.Path.{_≡_};
 ghost use mathlib.Core.List.{_++_};
 ghost use mathlib.Core.Option.{some};
 ghost use Prim.Native.Nat.{_≤_};
 ghost use lib.ListN.{length};
 ghost use Rattle.gcra.specs.Calls.{checkAnswer, quotaAnswer, rateAnswer};
-ghost use Rattle.demand.specs.Words.{timeWords, flagWord};
-ghost use Rattle.demand.specs.HotSetCalls.{sinceAnswer};
-ghost use Rattle.demand.specs.PeerCalls.{changeAnswer, lenAnswer, flagAnswer};
+ghost use Rattle.records.specs.Fields.{timeWords};
+ghost use Rattle.demand.specs.HotSet.Calls.{sinceAnswer};
+ghost use Rattle.demand.specs.Answers.{flagAnswer, lenAnswer};
+ghost use Rattle.demand.specs.Peers.Calls.{changeAnswer};
 ghost use Rattle.limiter.specs.Calls.{limiterAnswer, shadowsDecision, tracedAnswer, ratesAnswer};
 ghost use Rattle.limiter.specs.Calls.{keyQuotaAnswer, limitAnswer, configAnswer};
 ghost use Rattle.nultiway.specs.Values.{limiterWords};
-ghost use Rattle.nultiway.specs.Calls.{numberOf, answerPut, oneWord, decisionWords};
-ghost use Rattle.nultiway.specs.Calls.{quotaWords, floatWords, flagWords};
-ghost use Rattle.nultiway.specs.LimiterCalls.{shadowWords, tracedWords, ratesWords};
-ghost use Rattle.nultiway.specs.LimiterCalls.{keyQuotaWords, limitWords, configWords};
+ghost use Rattle.nultiway.specs.Calls.{numberOf, answerPut, oneWord, decisionWords, quotaWords};
+ghost use Rattle.nultiway.specs.Calls.{floatWords, flagWords};
+ghost use Rattle.nultiway.specs.LimiterCalls.{shadowWords, tracedWords, ratesWords, keyQuotaWords};
+ghost use Rattle.nultiway.specs.LimiterCalls.{limitWords, configWords};
 
 // Whether it is denied, and the retry time.
 pub(crate) fn decision_words(decision: Decision) -> [u64; 2]
@@ -316,12 +318,6 @@ pub(crate) fn put_since(to: &mut [u64], said: SinceAnswer) -> u8
 }
 
 // A flag: 0 or 1.
-fn flag_word(flag: bool) -> u64
-    ensures { λ r. ⌜ r ≡ flagWord flag ⌝ }
-{
-    if flag { 1 } else { 0 }
-}
-
 pub(crate) fn put_flag(to: &mut [u64], said: FlagAnswer) -> u8
     requires { ⌜ 1 ≤ length (now to) ⌝ }
     ensures { λ r. ⌜ r ≡ numberOf (flagAnswer said) ⌝ }

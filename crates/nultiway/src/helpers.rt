@@ -4,7 +4,7 @@ ghost use lib.IntN.{pos};
 ghost use lib.Ieee as Ieee;
 ghost use lib.Ieee.{binary64};
 ghost use Prim.Native.Nat.{_*_, _/_, _^_};
-ghost use Rattle.demand.specs.Weight.{weight};
+ghost use Rattle.demand.specs.Decay.Weight.{weight};
 
 // Tells the double nearest to a whole number, ties to even.
 #[no_mangle]

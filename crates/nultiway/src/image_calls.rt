@@ -2,33 +2,20 @@
 use crate::answers::put_len;
 use crate::values::LIMITER_WORDS;
 use crate::values::PEERS_WORDS;
+use crate::values::are_long;
 use crate::values::ask_limiter;
 use crate::values::limiter_of;
 use crate::values::peers_of;
 use crate::values::put_limiter;
 use crate::values::put_peers;
 use image::LoadAnswer;
-ghost use mathlib.Core.Path.{_≡_};
-ghost use mathlib.Core.Bool.{_&&_};
 ghost use Prim.Native.Nat.{_≤_};
-ghost use lib.Dec.{leb};
 ghost use lib.ListN.{length};
-ghost use Rattle.demand.specs.PeerState as peer-state;
+ghost use Rattle.demand.specs.Peers.State as peer-state;
 ghost use Rattle.limiter.specs.State.{atEntry, atExit};
 ghost use Rattle.image.specs.Calls.{loadAnswer};
 ghost use Rattle.nultiway.specs.ImageCalls.{PutLoaded};
 ghost use Rattle.nultiway.specs.ImageCalls as Calls;
-
-// Whether two buffers of a fixed size have their words.
-pub(crate) fn are_long(first: usize, least: usize, second: usize, least_second: usize) -> bool
-    ensures { λ r. ⌜ r ≡ (leb least first && leb «least_second» second) ⌝ }
-{
-    if least <= first {
-        least_second <= second
-    } else {
-        false
-    }
-}
 
 // Writes what a load makes: the number of a 'no', or 0.
 fn put_loaded(limiter: &mut [u64], peers: &mut [u64], said: LoadAnswer) -> u8

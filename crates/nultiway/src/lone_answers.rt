@@ -1,15 +1,15 @@
 // The words of the meter's answers, at the front of a lent buffer that has room for them. Each
 // function answers the number of a 'no', and then writes nothing, or 0.
 use crate::values::put;
-use demand::words::flag_word;
 use gcra::DebtAnswer;
 use gcra::NumberAnswer;
 use gcra::RetryAnswer;
+use records::fields::flag_word;
 ghost use mathlib.Core.Path.{_≡_};
 ghost use Prim.Native.Nat.{_≤_};
 ghost use lib.ListN.{length};
 ghost use Rattle.gcra.specs.Calls.{numberAnswer, debtAnswer, retryAnswer};
-ghost use Rattle.demand.specs.Words.{timeWords};
+ghost use Rattle.records.specs.Fields.{timeWords};
 ghost use Rattle.nultiway.specs.Calls.{numberOf, answerPut, oneWord, flagWords};
 
 // A number.

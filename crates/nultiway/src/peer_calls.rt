@@ -2,13 +2,13 @@
 use crate::answers::change_number;
 use crate::answers::put_flag;
 use crate::answers::put_len;
-use crate::image_calls::are_long;
 use crate::peer_answers::put_heard;
 use crate::peer_answers::put_total;
 use crate::values::PEERS_WORDS;
+use crate::values::are_long;
 use crate::values::peers_of;
 use demand::boundary::PeerId;
-ghost use Rattle.demand.specs.PeerState.{atEntry};
+ghost use Rattle.demand.specs.Peers.State.{atEntry};
 ghost use Rattle.nultiway.specs.PeerCalls as Calls;
 
 // Asks questions 1 and 2 of the peers and their tables.

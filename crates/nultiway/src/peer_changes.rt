@@ -8,7 +8,7 @@ use crate::values::peers_of;
 use crate::values::put_peers;
 use demand::boundary::PeerId;
 use demand::peer_demand::PeerDemand;
-ghost use Rattle.demand.specs.PeerState.{atEntry, atExit};
+ghost use Rattle.demand.specs.Peers.State.{atEntry, atExit};
 ghost use Rattle.nultiway.specs.PeerCalls as Calls;
 
 // Makes the state of peers of which none is known.

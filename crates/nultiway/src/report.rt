@@ -1,7 +1,7 @@
 // A peer's report in lent words, three for each key that it lists: the key, its demand as the bits
 // of an f32 in the low half, and whether the sender has it as primary.
-use crate::image_calls::are_long;
 use crate::values::PEERS_WORDS;
+use crate::values::are_long;
 use demand::peer_demand::DemandReport;
 use demand::peer_demand::KeyDemand;
 use float::whole;
@@ -9,10 +9,9 @@ ghost use mathlib.Core.Path.{_≡_};
 ghost use Prim.Native.Nat.{_*_, _≤_, min};
 ghost use lib.ListN.{length};
 ghost use Rattle.records.specs.Records.{records};
-ghost use Rattle.gcra.specs.Questions.{firstNo};
-ghost use Rattle.demand.specs.PeerLists.{all};
-ghost use Rattle.nultiway.specs.PeerCalls.{isListed, listedOf, blankKey};
-ghost use Rattle.nultiway.specs.PeerCalls.{keysOf, reportOf, reportAsked};
+ghost use Rattle.questions.specs.Questions.{firstNo};
+ghost use Rattle.questions.specs.Lists.{all};
+ghost use Rattle.nultiway.specs.PeerCalls.{isListed, listedOf, blankKey, keysOf, reportOf, reportAsked};
 
 // The words of a key in a report.
 pub const REPORT_WORDS: usize = 3;

@@ -3,16 +3,17 @@ use demand::peer_demand::PeerDemand;
 use image::judge::cap_of;
 use image::judge::config_of;
 use image::judge::last_tick_of;
-use image::words::are_same;
 use image::writer::settings_words;
 use limiter::Limiter;
+use records::are_same;
 ghost use mathlib.Core.Path.{_≡_};
+ghost use mathlib.Core.Bool.{_&&_};
 ghost use Prim.Native.Nat.{_<_, _≤_};
+ghost use lib.Dec.{leb};
 ghost use lib.ListN.{length, take};
 ghost use Rattle.records.specs.Words.{paste};
-ghost use Rattle.gcra.specs.Questions.{firstNo};
-ghost use Rattle.nultiway.specs.Values.{limiterWords, limiterOf, isLimiter, limiterAsked};
-ghost use Rattle.nultiway.specs.Values.{peersWords, peersOf};
+ghost use Rattle.questions.specs.Questions.{firstNo};
+ghost use Rattle.nultiway.specs.Values.{limiterWords, limiterOf, isLimiter, limiterAsked, peersWords, peersOf};
 
 // The words of a limiter, and of the peers.
 pub const LIMITER_WORDS: usize = 16;
@@ -25,6 +26,17 @@ pub(crate) fn put(to: &mut [u64], from: &[u64])
     ensures { λ _. ⌜ now (to .exit) ≡ paste 0 (now (from .entry)) (now (to .entry)) ⌝ }
 {
     records::overwrite(to, from.len(), 1, 0, from);
+}
+
+// Whether two buffers of a fixed size have their words.
+pub(crate) fn are_long(first: usize, least: usize, second: usize, least_second: usize) -> bool
+    ensures { λ r. ⌜ r ≡ (leb least first && leb «least_second» second) ⌝ }
+{
+    if least <= first {
+        least_second <= second
+    } else {
+        false
+    }
 }
 
 // ---- the limiter

@@ -3,14 +3,14 @@ use mathlib.Core.Path.{_≡_, refl}
 use mathlib.Core.Bool.{true}
 use lib.Ieee.{ofInt, ofBits, toUnsigned, toBits, add, sub, mul, div, round, lt, le}
 use Rattle.float.specs.Integral.{roundAway}
-use Rattle.gcra.specs.Questions.{answer}
+use Rattle.questions.specs.Questions.{answer}
 use Rattle.gcra.specs.Packed.{encode, rounded, withInterval, validQuota, pack, ceiling}
 use Rattle.gcra.specs.Rate.{carryTat, debtSlots, slotNanos}
 use Rattle.gcra.specs.Calls.{quotaNew, quotaPack, quotaCeiling}
-use Rattle.demand.specs.Weight.{next, term, sum, series, power, weight}
+use Rattle.demand.specs.Decay.Weight.{next, term, sum, series, power, weight}
 use Rattle.demand.specs.Allocation.{isRate, isFloorFactor, isClusterSize, shared}
-use Rattle.demand.specs.HotSet.{updateWith, promote, promoteFrom, get, admit, evict, weakest, weakestOf, put, remove}
-use Rattle.demand.specs.PeerChanges.{newer}
+use Rattle.demand.specs.HotSet.Set.{updateWith, promote, promoteFrom, get, admit, evict, weakest, weakestOf, put, remove}
+use Rattle.demand.specs.Peers.Changes.{newer}
 use Rattle.points.specs.Points.{table, agree}
 
 pub marked-points : agree table ≡ true

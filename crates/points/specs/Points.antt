@@ -6,17 +6,17 @@ use lib.IntN.{pos}
 use lib.Dec.{eqb}
 use lib.Ieee.{Float, binary64, ofInt, toUnsigned, toBits, mul, div}
 use Rattle.gcra.specs.declared.Quota.{Quota}
-use Rattle.gcra.specs.Questions.{Answer, refused, given}
+use Rattle.questions.specs.Questions.{Answer, refused, given}
 use Rattle.gcra.specs.Packed.{unitNanos, maxBurst, maxInterval, encode, rounded}
 use Rattle.gcra.specs.Rate.{carryTat}
 use Rattle.gcra.specs.Calls.{quotaNew, quotaPack, quotaCeiling}
 use Rattle.demand.specs.declared.allocation.View.{View}
-use Rattle.demand.specs.Weight.{S, weight}
-use Rattle.demand.specs.Estimator.{whole}
+use Rattle.demand.specs.Decay.Weight.{S, weight}
+use Rattle.demand.specs.Estimators.Estimator.{whole}
 use Rattle.demand.specs.Allocation.{share}
-use Rattle.demand.specs.HotSet.{newEntry, updateWith}
-use Rattle.demand.specs.HotSetCalls.{evictionMargin}
-use Rattle.demand.specs.PeerChanges.{newer}
+use Rattle.demand.specs.HotSet.Set.{newEntry, updateWith}
+use Rattle.demand.specs.HotSet.Calls.{evictionMargin}
+use Rattle.demand.specs.Peers.Changes.{newer}
 
 pub record Point : Type 0 where
   pub computed : ℕ

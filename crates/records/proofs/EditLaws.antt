@@ -9,7 +9,7 @@ use lib.ListN.{length, take, drop, getD, length-append, length-drop}
 use lib.Seq.{length-take-le}
 use Rattle.records.specs.declared.Found.the-variants.{At}
 use Rattle.records.specs.Records.{key, before, leads, ascending, find, splice, insertAt, removeAt, overwriteAt}
-use Rattle.records.proofs.TestLaws.{both, and-intro}
+use Rattle.questions.proofs.Tests.{both, and-intro}
 use Rattle.records.proofs.OrderLaws.{keyAt, before-trans}
 use Rattle.records.proofs.PlaceLaws.{Place, find-at}
 

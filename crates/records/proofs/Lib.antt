@@ -1,4 +1,4 @@
-pub mod TestLaws
+-- Laws of records for every width: of their words, their order, searches and changes; and of typed tables (`TypedLaws`, `TabledLaws`, `TypedTableLaws`).
 pub mod WordLaws
 pub mod RecordLaws
 pub mod SpliceLaws
@@ -8,3 +8,14 @@ pub mod PlaceLaws
 pub mod EditLaws
 pub mod LookupLaws
 pub mod TableLaws
+pub mod FieldLaws
+pub mod RowLaws
+pub mod RangeLaws
+pub mod AscendingLaws
+pub mod FindLaws
+pub mod KeepLaws
+pub mod StepLaws
+pub mod TypedLaws
+pub mod TabledLaws
+pub mod RunLaws
+pub mod TypedTableLaws

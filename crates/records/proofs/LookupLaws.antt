@@ -10,7 +10,7 @@ use lib.Dec.{ltb}
 use lib.ListN.{length, getD}
 use Rattle.records.specs.declared.Found.the-variants.{At, Gap}
 use Rattle.records.specs.Records.{key, before, same, ascending, find, lookup, splice, insertAt, removeAt, overwriteAt}
-use Rattle.records.proofs.TestLaws.{split}
+use Rattle.questions.proofs.Tests.{split}
 use Rattle.records.proofs.OrderLaws.{keyAt, same-refl, eq-same, ne-same, same-before, same-after, asc-lt}
 use Rattle.records.proofs.PlaceLaws.{Place, at-says, gap-place}
 use Rattle.records.proofs.EditLaws.{asc-tail, ascending-insert, insert-here, find-inserted}

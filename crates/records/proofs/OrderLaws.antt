@@ -12,7 +12,7 @@ use lib.Dec.{ltb, leb, eqb}
 use lib.ListN.{length, take, drop, getD}
 use lib.Seq.{drop-cons}
 use Rattle.records.specs.Records.{fits, key, keyed, before, same, leads, ascending}
-use Rattle.records.proofs.TestLaws.{contradiction, split, both, and-second}
+use Rattle.questions.proofs.Tests.{contradiction, split, both, and-second}
 
 -- ---- words compared in turn
 module _ (x y : ℕ) (xs ys : List ℕ) where

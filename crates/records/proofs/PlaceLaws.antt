@@ -12,7 +12,7 @@ use lib.ListN.{length, take, getD}
 use Rattle.records.specs.declared.Found.{Found}
 use Rattle.records.specs.declared.Found.the-variants.{At, Gap}
 use Rattle.records.specs.Records.{before, same, ascending, isBelow, lowerBound, foundAt, find}
-use Rattle.records.proofs.TestLaws.{contradiction, split, both}
+use Rattle.questions.proofs.Tests.{contradiction, split, both}
 use Rattle.records.proofs.OrderLaws.{keyAt, before-less, before-more, before-equal, before-cases, before-irrefl, before-trans, before-total, before-asym, before-down, same-eq, eq-same, same-after, asc-lt}
 use Rattle.records.proofs.SearchLaws.{Cut, bisect-falls, lower-bound-cut, found-end, found-same, found-other}
 

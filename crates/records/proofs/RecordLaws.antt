@@ -10,7 +10,7 @@ use lib.Dec.{ltb, leb}
 use lib.ListN.{length, take, drop, getD}
 use lib.Seq.{take-add, drop-drop, take-take, take-at, drop-at}
 use Rattle.records.specs.Records.{records, flat, fits}
-use Rattle.records.proofs.TestLaws.{both, and-first, and-skip, leb-same}
+use Rattle.questions.proofs.Tests.{both, and-first, and-skip, leb-same}
 
 -- ---- sizes
 pub fits-pos : (len w n : ℕ) → fits len w n ≡ true → 0 < w

@@ -12,7 +12,7 @@ use lib.ListN.{length, take, drop, getD}
 use Rattle.records.specs.declared.Found.the-variants.{At, Gap, Unfit}
 use Rattle.records.specs.declared.Span.the-variants.{Between, NoSpan}
 use Rattle.records.specs.Records.{records, fits, key, keyed, before, same, bisect, isBelow, lowerBound, foundAt, find, findIn, rangeOf, rangeIn}
-use Rattle.records.proofs.TestLaws.{contradiction, split}
+use Rattle.questions.proofs.Tests.{contradiction, split}
 use Rattle.records.proofs.RecordLaws.{fits-pos, fits-le, row, length-records, key-at, sub-mul}
 use Rattle.records.proofs.OrderLaws.{keyed-is, keyed-says, key-one, keyAt, before-less, before-total, same-after, eq-same}
 

@@ -12,7 +12,7 @@ use lib.ListN.{length, take, drop, length-append}
 use lib.Seq.{take-add, slice, length-slice, length-take-le, drop-at, take-all}
 use Rattle.records.specs.Words.{copyWithin, paste}
 use Rattle.records.specs.Records.{records, flat, table, fits, splice, insertAt, removeAt, overwriteAt, spliceable, spliced, insertable, inserted, removable, removed, overwritable, overwritten}
-use Rattle.records.proofs.TestLaws.{both, and-second, and-intro, leb-same, same-truth, cond-same}
+use Rattle.questions.proofs.Tests.{both, and-second, and-intro, leb-same, same-truth, cond-same}
 use Rattle.records.proofs.WordLaws.{paste-copy}
 use Rattle.records.proofs.RecordLaws.{fits-pos, fits-le, fits-intro, row, sub-mul, take-records, drop-records, flat-append, flat-records}
 

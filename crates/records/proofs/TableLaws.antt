@@ -10,7 +10,7 @@ use lib.Dec.{ltb, leb, eqb}
 use lib.ListN.{length, take, drop, length-append, length-drop}
 use lib.Seq.{length-take-le, take-at, drop-at}
 use Rattle.records.specs.Records.{records, flat, table, splice, insertAt, removeAt, overwriteAt, spliceable, spliced, insertable, inserted, removable, removed, overwritable, overwritten}
-use Rattle.records.proofs.TestLaws.{both}
+use Rattle.questions.proofs.Tests.{both}
 use Rattle.records.proofs.RecordLaws.{fits-le, length-records}
 use Rattle.records.proofs.SpliceLaws.{splice-says}
 use Rattle.records.proofs.EditLaws.{length-splice, length-insert, length-remove, length-overwrite}

@@ -10,7 +10,7 @@ use lib.Dec.{leb}
 use lib.ListN.{length, take, drop, getD, set, length-append, take-append-drop, List·getD-append}
 use lib.Seq.{slice, slice-cons, slice-empty, length-slice, length-take-le, take-suc, take-take, take-append-le, drop-at, drop-cons, drop-append-le, set-at, getD-append-add, getD-drop, getD-take, append-snoc}
 use Rattle.records.specs.Words.{copyWithin, copyable, copied, paste}
-use Rattle.records.proofs.TestLaws.{split, both}
+use Rattle.questions.proofs.Tests.{split, both}
 
 -- one more at the end of a part
 pub slice-snoc : (f t : ℕ) (l : List ℕ) → f ≤ t → t < length l → slice f (suc t) l ≡ slice f t l ++ (getD l t 0 ∷ [])

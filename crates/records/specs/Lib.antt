@@ -1,2 +1,4 @@
 pub mod Words
 pub mod Records
+pub mod Fields
+pub mod Typed

@@ -31,7 +31,7 @@ use denote.Lend.{Held, lends-slice, lends-shr-slice, slice-back}
 use denote.Steps.{only, owned, peeks}
 use borrow.Rule.Slice.Shared.{parts-cells}
 use Rattle.demand.specs.declared.hot_set.HotEntry.{HotEntry}
-use Rattle.hot_lent.proofs.Rows.{R, vals, tells, makes, lawful, by-value}
+use Rattle.hot_lent.proofs.Rows.{R, entry-row, vals, tells, makes, lawful, by-value}
 
 abbrev pub Entries : RattleType
 Entries = Array R 64
@@ -40,13 +40,13 @@ abbrev pub entries-type : Ty
 entries-type = tyArray by-value 64
 
 abbrev pub entries-vals : List HotEntry → List Val
-entries-vals = array-vals vals
+entries-vals = array-vals (vals entry-row)
 
 abbrev pub entries-mach : List HotEntry → Val
 entries-mach es = only (entries-vals es)
 
 pub entries-tells : Tells Entries (Is Entries) entries-vals
-entries-tells = array-tells R vals tells 64
+entries-tells = array-tells R (vals entry-row) (tells entry-row) 64
 
 pub entries-room : Room R 64
 entries-room = (lit< tt, lit< tt)
@@ -57,10 +57,10 @@ entries-long es vs is = is .1 .0 .1
 
 module _ {M : Type 1} (𝓤 : URA M) (H : Heap 𝓤) (A : Atoms 𝓤) (W : Given 𝓤 H A) where
   pub entries-makes : Makes 𝓤 H A Entries (Is Entries)
-  entries-makes = array-makes 𝓤 H A W R (makes 𝓤 H A W) 64
+  entries-makes = array-makes 𝓤 H A W R (makes entry-row 𝓤 H A W) 64
 
   pub entries-lawful : Lawful 𝓤 H A Entries
-  entries-lawful = array-lawful 𝓤 H A W R (lawful 𝓤 H A W) 64
+  entries-lawful = array-lawful 𝓤 H A W R (lawful entry-row 𝓤 H A W) 64
 
   abbrev slice : ℕ → List HotEntry → GName → RefT (List HotEntry)
   slice b es γ = record { ptr = (b, 0); name = γ; now = es }

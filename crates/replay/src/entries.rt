@@ -1,10 +1,10 @@
 // The calls on the script's hot set over entries. They run beside those over words, and are to
 // answer the same and leave the same.
+use demand::answers::FlagAnswer;
+use demand::answers::LenAnswer;
 use demand::hot_set::HotEntry;
 use demand::hot_set::HotSet;
-use demand::hot_set::LenAnswer;
 use demand::hot_set::SinceAnswer;
-use demand::hot_set::TestAnswer;
 use demand::hot_set::UpdateAnswer;
 ghost use Prim.Native.Nat.{_<_};
 
@@ -16,8 +16,8 @@ pub(crate) struct Updated {
 
 // What the set says of a key, and how many entries it has.
 pub(crate) struct Readings {
-    pub(crate) is_hot: TestAnswer,
-    pub(crate) is_primary: TestAnswer,
+    pub(crate) is_hot: FlagAnswer,
+    pub(crate) is_primary: FlagAnswer,
     pub(crate) hot_since: SinceAnswer,
     pub(crate) len: LenAnswer,
 }
@@ -85,8 +85,8 @@ fn left_by(answer: UpdateAnswer, entries: [HotEntry; 64]) -> Updated {
 }
 
 fn all_four(
-    is_hot: TestAnswer,
-    is_primary: TestAnswer,
+    is_hot: FlagAnswer,
+    is_primary: FlagAnswer,
     hot_since: SinceAnswer,
     len: LenAnswer,
 ) -> Readings {

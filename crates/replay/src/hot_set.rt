@@ -7,11 +7,11 @@ use crate::calls;
 use crate::entries;
 use crate::entries::Updated;
 use crate::fields::Args;
+use demand::answers::FlagAnswer;
+use demand::answers::LenAnswer;
 use demand::hot_set::HotSet;
-use demand::hot_set::LenAnswer;
 use demand::hot_set::NewAnswer;
 use demand::hot_set::SinceAnswer;
-use demand::hot_set::TestAnswer;
 use demand::hot_set::UpdateAnswer;
 
 // The hot set of the script, once one is made.
@@ -68,10 +68,10 @@ fn of_update(answer: UpdateAnswer, hot: Hot) -> Done {
     }
 }
 
-fn of_test(answer: TestAnswer) -> Value {
+fn of_test(answer: FlagAnswer) -> Value {
     match answer {
-        TestAnswer::No(n) => Value::Refused(n),
-        TestAnswer::Is(yes) => answers::flag(yes),
+        FlagAnswer::No(n) => Value::Refused(n),
+        FlagAnswer::Is(yes) => answers::flag(yes),
     }
 }
 

@@ -1,6 +1,5 @@
 // The calls that save and load the image of limiter and peers. One image is kept: the first bytes
 // of a buffer, as many as the session says.
-use crate::answers;
 use crate::answers::Answer;
 use crate::answers::Value;
 use crate::calls;
@@ -11,7 +10,7 @@ use crate::lent;
 use crate::session;
 use crate::session::Done;
 use crate::session::Session;
-use demand::peer_demand::LenAnswer;
+use demand::answers::LenAnswer;
 use image::LoadAnswer;
 
 // Saves limiter and peers.
@@ -141,10 +140,7 @@ fn load_decoded(
     contested: &mut [u64],
 ) -> Done {
     if !bytes.good {
-        return Done {
-            answer: answers::unknown(),
-            session: s,
-        };
+        return session::said(Value::Unknown, s);
     }
     load(
         line,
@@ -274,7 +270,7 @@ fn save(
     of_save(answer, s, kept)
 }
 
-// A call that takes the state there is.
+// A call on the state there is, where it is; a dump is written with its answer.
 fn change_made(
     place: usize,
     args: Args,
@@ -287,6 +283,12 @@ fn change_made(
     contested: &mut [u64],
     kept: &mut [u8],
 ) -> Done {
+    if !session::has_both(s) {
+        return session::said(Value::NoState, s);
+    }
+    if place == calls::DUMP {
+        return session::said(Value::Dump, s);
+    }
     if place == calls::RELOAD {
         return reload(
             s,
@@ -301,45 +303,6 @@ fn change_made(
     }
     save(
         args.first,
-        s,
-        keys,
-        hot_keys,
-        shadows,
-        peer_table,
-        snapshots,
-        contested,
-        kept,
-    )
-}
-
-// A call on the state there is, where it is; a dump is written with its answer.
-fn change_if_made(
-    place: usize,
-    args: Args,
-    s: Session,
-    keys: &mut [u64],
-    hot_keys: &mut [u64],
-    shadows: &mut [u64],
-    peer_table: &mut [u64],
-    snapshots: &mut [u64],
-    contested: &mut [u64],
-    kept: &mut [u8],
-) -> Done {
-    if !session::has_both(s) {
-        return Done {
-            answer: answers::one(Value::NoState),
-            session: s,
-        };
-    }
-    if place == calls::DUMP {
-        return Done {
-            answer: answers::one(Value::Dump),
-            session: s,
-        };
-    }
-    change_made(
-        place,
-        args,
         s,
         keys,
         hot_keys,
@@ -391,7 +354,7 @@ pub(crate) fn change(
             contested,
         );
     }
-    change_if_made(
+    change_made(
         place,
         args,
         s,

@@ -8,7 +8,6 @@ use crate::fields::Args;
 use crate::lent;
 use crate::meter;
 use demand::peer_demand::ChangeAnswer;
-use demand::peer_demand::PeerDemand;
 use gcra::CheckAnswer;
 use limiter::Cap;
 use limiter::Changed;
@@ -98,7 +97,7 @@ fn tally_of(args: Args) -> Tally {
 }
 
 // What the limiter answers, as the script writes it.
-fn of_changed(changed: Changed, value: Value) -> Done {
+pub(crate) fn of_changed(changed: Changed, value: Value) -> Done {
     let answer = changed.answer;
     let limiter = changed.limiter;
     let node = Node {
@@ -252,38 +251,6 @@ fn change_one(
         );
     }
     checked(place, args, value, keys, hot, shadows)
-}
-
-// A tick with the peers' shares.
-pub(crate) fn tick_with_shares(
-    args: Args,
-    node: Node,
-    keys: &mut [u64],
-    hot: &mut [u64],
-    shadows: &mut [u64],
-    peers: PeerDemand,
-    peer_table: &[u64],
-    snapshot_keys: &[u64],
-    contested: &[u64],
-) -> Done {
-    if !node.made {
-        return no_state(node);
-    }
-    let value = node.value;
-    of_changed(
-        value.tick_with_shares(
-            keys,
-            hot,
-            shadows,
-            peers,
-            peer_table,
-            snapshot_keys,
-            contested,
-            args.first,
-            args.second as usize,
-        ),
-        Value::Done,
-    )
 }
 
 // What follows the limit of a traced check: the shadow's limit or `none`, the reading and the size

@@ -10,7 +10,7 @@ use crate::limiter_calls;
 use crate::limiter_calls::Node;
 use crate::meter;
 use crate::peers;
-use demand::peer_demand::LenAnswer;
+use demand::answers::LenAnswer;
 use limiter::Config;
 use limiter::ConfigAnswer;
 use limiter::KeyQuotaAnswer;

@@ -231,9 +231,10 @@ fn respond_lent(
     )
 }
 
-// Shows the state's image behind what is written of an answer, with as many words of the tables as
-// the script lends.
+// Where `wanted`, shows the state's image behind what is written of an answer, with as many words of
+// the tables as the script lends.
 fn show_lent(
+    wanted: bool,
     out: &mut [u8],
     at: usize,
     whole: bool,
@@ -245,6 +246,9 @@ fn show_lent(
     snapshots: &[u64],
     contested: &[u64],
 ) -> usize {
+    if !wanted {
+        return at;
+    }
     let lent = s.lent;
     let a = lent::at_most(lent.keys, keys.len());
     let b = lent::at_most(lent.hot, hot_keys.len());
@@ -271,37 +275,6 @@ fn is_dump(first: Value) -> bool {
     if let Value::Dump = first { true } else { false }
 }
 
-// Where `wanted`, shows the state's image, whole or not.
-fn show_if(
-    wanted: bool,
-    out: &mut [u8],
-    at: usize,
-    whole: bool,
-    s: Session,
-    keys: &[u64],
-    hot_keys: &[u64],
-    shadows: &[u64],
-    peer_table: &[u64],
-    snapshots: &[u64],
-    contested: &[u64],
-) -> usize {
-    if !wanted {
-        return at;
-    }
-    show_lent(
-        out,
-        at,
-        whole,
-        s,
-        keys,
-        hot_keys,
-        shadows,
-        peer_table,
-        snapshots,
-        contested,
-    )
-}
-
 // Writes the line of an answer, the image's length and hash behind it where the script is to show
 // images and there is one.
 fn put_line(
@@ -324,7 +297,7 @@ fn put_line(
         return at;
     }
     let end = answers::put(out, at, answer, list);
-    let dumped = show_if(
+    let dumped = show_lent(
         is_dump(first),
         out,
         end,
@@ -337,7 +310,7 @@ fn put_line(
         snapshots,
         contested,
     );
-    let all = show_if(
+    let all = show_lent(
         show && session::has_both(s),
         out,
         dumped,
@@ -559,6 +532,6 @@ fn start(input: &mut [u8], kept: &mut [u8]) {
 
 fn main() {
     let mut input = [0u8; 3_145_729];
-    let mut kept = [0u8; 1_372_566];
+    let mut kept = [0u8; image::LARGEST_IMAGE];
     start(&mut input, &mut kept);
 }

@@ -44,25 +44,26 @@ pub(crate) fn nothing() -> Session {
     }
 }
 
+// An answer of one value.
+pub(crate) fn said(value: Value, s: Session) -> Done {
+    Done {
+        answer: answers::one(value),
+        session: s,
+    }
+}
+
+pub(crate) fn refused(n: u8, s: Session) -> Done {
+    said(Value::Refused(n), s)
+}
+
 // A call on the lone hot set.
-pub(crate) fn change_hot(place: usize, args: Args, s: Session, table: &mut [u64]) -> Done {
+pub(crate) fn change_hot(place: usize, args: Args, mut s: Session, table: &mut [u64]) -> Done {
     let set = s.hot;
-    let node = s.node;
-    let peers = s.peers;
-    let lent = s.lent;
     let done = hot_set::change(place, args, set, table);
     let value = done.value;
     let hot = done.hot;
-    Done {
-        answer: answers::one(value),
-        session: Session {
-            hot,
-            node,
-            peers,
-            lent,
-            kept: s.kept,
-        },
-    }
+    s.hot = hot;
+    said(value, s)
 }
 
 // Peers that are made alone leave no limiter.
@@ -82,28 +83,19 @@ pub(crate) fn change_peers(
     line: &[u8],
     place: usize,
     args: Args,
-    s: Session,
+    mut s: Session,
     peer_table: &mut [u64],
     snapshots: &mut [u64],
     contested: &mut [u64],
 ) -> Done {
-    let hot = s.hot;
     let node = s.node;
-    let lent = s.lent;
     let state = s.peers;
     let done = peers::change(line, place, args, state, peer_table, snapshots, contested);
     let value = done.value;
     let peers = done.peers;
-    Done {
-        answer: answers::one(value),
-        session: Session {
-            hot,
-            node: node_after(place, value, node),
-            peers,
-            lent,
-            kept: s.kept,
-        },
-    }
+    s.node = node_after(place, value, node);
+    s.peers = peers;
+    said(value, s)
 }
 
 // A call that changes the limiter alone.
@@ -111,61 +103,30 @@ pub(crate) fn change_node(
     line: &[u8],
     place: usize,
     args: Args,
-    s: Session,
+    mut s: Session,
     keys: &mut [u64],
     hot_keys: &mut [u64],
     shadows: &mut [u64],
     list: &mut [u64],
 ) -> Done {
-    let hot = s.hot;
-    let peers = s.peers;
-    let lent = s.lent;
     let state = s.node;
     let done = limiter_calls::change(line, place, args, state, keys, hot_keys, shadows, list);
     let answer = done.answer;
     let node = done.node;
-    Done {
-        answer,
-        session: Session {
-            hot,
-            node,
-            peers,
-            lent,
-            kept: s.kept,
-        },
-    }
+    s.node = node;
+    Done { answer, session: s }
 }
 
 // How many words of each table calls are lent from now on.
-pub(crate) fn lend(args: Args, s: Session) -> Done {
-    let hot = s.hot;
-    let node = s.node;
-    let peers = s.peers;
-    Done {
-        answer: answers::one(Value::Done),
-        session: Session {
-            hot,
-            node,
-            peers,
-            lent: lent::lent_of(args),
-            kept: s.kept,
-        },
-    }
+pub(crate) fn lend(args: Args, mut s: Session) -> Done {
+    s.lent = lent::lent_of(args);
+    said(Value::Done, s)
 }
 
 // The same with so many bytes of an image kept.
-pub(crate) fn keeping(s: Session, kept: usize) -> Session {
-    let hot = s.hot;
-    let node = s.node;
-    let peers = s.peers;
-    let lent = s.lent;
-    Session {
-        hot,
-        node,
-        peers,
-        lent,
-        kept,
-    }
+pub(crate) fn keeping(mut s: Session, kept: usize) -> Session {
+    s.kept = kept;
+    s
 }
 
 // Whether there are limiter and peers.
@@ -173,33 +134,19 @@ pub(crate) fn has_both(s: Session) -> bool {
     s.node.made && s.peers.made
 }
 
-pub(crate) fn refused(n: u8, s: Session) -> Done {
-    Done {
-        answer: answers::refused(n),
-        session: s,
-    }
-}
-
 // These two in the place of what was there.
-pub(crate) fn made(limiter: Limiter, peers: PeerDemand, s: Session) -> Done {
-    let hot = s.hot;
-    let lent = s.lent;
-    Done {
-        answer: answers::one(Value::Done),
-        session: Session {
-            hot,
-            node: Node {
-                made: true,
-                value: limiter,
-            },
-            peers: Peers {
-                made: true,
-                value: peers,
-            },
-            lent,
-            kept: s.kept,
-        },
-    }
+pub(crate) fn made(limiter: Limiter, peers: PeerDemand, mut s: Session) -> Done {
+    let node = Node {
+        made: true,
+        value: limiter,
+    };
+    let known = Peers {
+        made: true,
+        value: peers,
+    };
+    s.node = node;
+    s.peers = known;
+    said(Value::Done, s)
 }
 
 // Limiter and peers, where both are made.
@@ -246,7 +193,7 @@ pub(crate) fn make(
 // A tick with the peers' shares.
 pub(crate) fn tick_with_shares(
     args: Args,
-    s: Session,
+    mut s: Session,
     keys: &mut [u64],
     hot_keys: &mut [u64],
     shadows: &mut [u64],
@@ -254,14 +201,14 @@ pub(crate) fn tick_with_shares(
     snapshots: &[u64],
     contested: &[u64],
 ) -> Done {
-    let hot = s.hot;
     let state = s.node;
     let peers = s.peers;
+    if !state.made {
+        return said(Value::NoState, s);
+    }
+    let limiter = state.value;
     let known = peers.value;
-    let lent = s.lent;
-    let done = limiter_calls::tick_with_shares(
-        args,
-        state,
+    let changed = limiter.tick_with_shares(
         keys,
         hot_keys,
         shadows,
@@ -269,19 +216,14 @@ pub(crate) fn tick_with_shares(
         peer_table,
         snapshots,
         contested,
+        args.first,
+        args.second as usize,
     );
+    let done = limiter_calls::of_changed(changed, Value::Done);
     let answer = done.answer;
     let node = done.node;
-    Done {
-        answer,
-        session: Session {
-            hot,
-            node,
-            peers,
-            lent,
-            kept: s.kept,
-        },
-    }
+    s.node = node;
+    Done { answer, session: s }
 }
 
 // The answer to a call that reads the peers; what it lists is left in the list.

@@ -5,7 +5,7 @@ use crate::digits;
 use crate::images;
 use crate::lent;
 use crate::session::Session;
-use demand::peer_demand::LenAnswer;
+use demand::answers::LenAnswer;
 
 // The length and the hash of an image, behind an answer.
 fn put_hash(out: &mut [u8], at: usize, bytes: &[u8]) -> usize {
@@ -42,8 +42,8 @@ fn put_saved(out: &mut [u8], at: usize, whole: bool, answer: LenAnswer, room: &[
 }
 
 // Room for every image.
-fn large_room() -> [u8; 1_372_566] {
-    [0; 1_372_566]
+fn large_room() -> [u8; image::LARGEST_IMAGE] {
+    [0; image::LARGEST_IMAGE]
 }
 
 // With room for every image.

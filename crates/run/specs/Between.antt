@@ -10,11 +10,11 @@ use lib.ListN.{getD, drop}
 use Rattle.gcra.specs.declared.Gcra.{Gcra}
 use Rattle.gcra.specs.declared.Decision.{Decision}
 use Rattle.gcra.specs.declared.Decision.the-variants.{Allow, Deny}
-use Rattle.gcra.specs.Questions.{Answer, refused, given}
+use Rattle.questions.specs.Questions.{Answer, refused, given}
 use Rattle.gcra.specs.Calls.{checkAnswer}
 use Rattle.gcra.specs.Meter as meter
 use Rattle.gcra.specs.Meter.{isAllow}
-use Rattle.demand.specs.PeerLists.{all}
+use Rattle.questions.specs.Lists.{all}
 use Rattle.limiter.specs.declared.Config.{Config}
 use Rattle.limiter.specs.State.{KeyRecord, keyWith}
 use Rattle.limiter.specs.Calls.{tracedAnswer}

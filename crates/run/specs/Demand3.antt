@@ -14,11 +14,11 @@ use mathlib.Core.Bool.{true, _&&_}
 use mathlib.Core.List.{List}
 use mathlib.Core.Option.{none}
 use lib.ListN.{length, take}
-use Rattle.demand.specs.declared.peer_demand.LenAnswer.{LenAnswer}
-use Rattle.demand.specs.declared.peer_demand.LenAnswer.the-variants as len-answer
-use Rattle.demand.specs.PeerLists.{all}
-use Rattle.demand.specs.PeerState as peer-state
-use Rattle.demand.specs.PeerState.{PeerTables}
+use Rattle.demand.specs.declared.answers.LenAnswer.{LenAnswer}
+use Rattle.demand.specs.declared.answers.LenAnswer.the-variants as len-answer
+use Rattle.questions.specs.Lists.{all}
+use Rattle.demand.specs.Peers.State as peer-state
+use Rattle.demand.specs.Peers.State.{PeerTables}
 use Rattle.limiter.specs.declared.Config.{Config}
 use Rattle.limiter.specs.State.{LimiterTables, lengths, haveRoom}
 use Rattle.image.specs.declared.Loaded.{Loaded}

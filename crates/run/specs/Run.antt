@@ -15,14 +15,14 @@ use Rattle.demand.specs.declared.peer_demand.PeerDemand.{PeerDemand}
 use Rattle.demand.specs.declared.peer_demand.PeersChanged.{PeersChanged}
 use Rattle.demand.specs.declared.peer_demand.PeersAnswer.the-variants as peers-answer
 use Rattle.demand.specs.declared.peer_demand.ChangeAnswer.{ChangeAnswer}
-use Rattle.demand.specs.declared.peer_demand.FlagAnswer.{FlagAnswer}
-use Rattle.demand.specs.declared.peer_demand.LenAnswer.{LenAnswer}
-use Rattle.demand.specs.declared.peer_demand.LenAnswer.the-variants as len-answer
+use Rattle.demand.specs.declared.answers.FlagAnswer.{FlagAnswer}
+use Rattle.demand.specs.declared.answers.LenAnswer.{LenAnswer}
+use Rattle.demand.specs.declared.answers.LenAnswer.the-variants as len-answer
 use Rattle.demand.specs.declared.peer_demand.HeardAnswer.{HeardAnswer}
 use Rattle.demand.specs.declared.peer_demand.TotalAnswer.{TotalAnswer}
-use Rattle.demand.specs.PeerState as peer-state
-use Rattle.demand.specs.PeerState.{PeerTables, PeerLengths}
-use Rattle.demand.specs.PeerCalls as peers
+use Rattle.demand.specs.Peers.State as peer-state
+use Rattle.demand.specs.Peers.State.{PeerTables, PeerLengths}
+use Rattle.demand.specs.Peers.Calls as peers
 use Rattle.limiter.specs.declared.Limit.{Limit}
 use Rattle.limiter.specs.declared.Config.{Config}
 use Rattle.limiter.specs.declared.Limiter.{Limiter}

@@ -7,19 +7,21 @@ use mathlib.Core.Option.{Option}
 use lib.Dec.{eqb}
 use lib.ListN.{length, getD, drop}
 use Rattle.records.specs.Records.{records, fits}
+use Rattle.gcra.specs.declared.Units.{Units}
 use Rattle.gcra.specs.declared.Gcra.{Gcra}
 use Rattle.gcra.specs.declared.Decision.{Decision}
-use Rattle.gcra.specs.Questions.{Question, _asks_, Answer, refused, given, changed}
+use Rattle.questions.specs.Questions.{Question, _asks_, Answer, refused, given, changed}
 use Rattle.gcra.specs.Meter.{isAllow}
 use Rattle.gcra.specs.Calls.{checkAnswer}
 use Rattle.demand.specs.declared.peer_demand.ChangeAnswer.{ChangeAnswer}
 use Rattle.demand.specs.declared.peer_demand.ChangeAnswer.the-variants as change-answer
-use Rattle.demand.specs.PeerState as peer-state
-use Rattle.demand.specs.PeerChanges as peer-changes
-use Rattle.demand.specs.PeerCalls as peer-calls
+use Rattle.demand.specs.Peers.State as peer-state
+use Rattle.demand.specs.Peers.Changes as peer-changes
+use Rattle.demand.specs.Peers.Calls as peer-calls
 use Rattle.limiter.specs.declared.Config.{Config}
+use Rattle.limiter.specs.declared.Parameters.{Parameters}
 use Rattle.limiter.specs.State as limiter-state
-use Rattle.limiter.specs.State.{base, KeyRecord, LimiterState, keyWith}
+use Rattle.limiter.specs.State.{KeyRecord, LimiterState, parametersOf, unitsOf, keyWith}
 use Rattle.limiter.specs.Checks as checks
 use Rattle.limiter.specs.Ticks as ticks
 use Rattle.limiter.specs.Readers.{ofKey}
@@ -40,10 +42,17 @@ limiterOnly s x = record { limiter = x; peers = s .peers }
 abbrev pub peersOnly : State → peer-state.PeersState → State
 peersOnly s x = record { limiter = s .limiter; peers = x }
 
+-- the parameters and the units of the limiter's settings
+abbrev pub parametersIn : State → Parameters
+parametersIn s = parametersOf (s .limiter .settings)
+
+abbrev pub unitsIn : State → Units
+unitsIn s = unitsOf (s .limiter .settings)
+
 -- questions 1 and 2 of a call on the limiter, on the peers, on both
 abbrev pub onLimiter : Lent → State → List Question
 onLimiter n s =
-    (1 asks limiter-state.haveRoom (s .limiter .settings .config) (n .limiter)) ∷ (2 asks limiter-state.valid (base .units) (s .limiter)) ∷ []
+    (1 asks limiter-state.haveRoom (s .limiter .settings .config) (n .limiter)) ∷ (2 asks limiter-state.valid (unitsIn s) (s .limiter)) ∷ []
 
 abbrev pub onPeers : Lent → State → List Question
 onPeers n s = (1 asks peer-state.haveRoom (n .peers)) ∷ (2 asks peer-state.valid (s .peers)) ∷ []
@@ -53,11 +62,11 @@ onBoth n s = (1 asks (limiter-state.haveRoom (s .limiter .settings .config) (n .
 
 -- the questions of each call
 unfoldable pub asked : Lent → Change → State → List Question
-asked n (Change.check key now m) s = onLimiter n s ++ checks.checkQuestions base (s .limiter) key now m
-asked n (Change.check-in key x now m) s = onLimiter n s ++ checks.checkInQuestions base (s .limiter) key x now m
-asked n (Change.check-traced key x y now m) s = onLimiter n s ++ checks.tracedQuestions base (s .limiter) key x y now m
+asked n (Change.check key now m) s = onLimiter n s ++ checks.checkQuestions (unitsIn s) (s .limiter) key now m
+asked n (Change.check-in key x now m) s = onLimiter n s ++ checks.checkInQuestions (unitsIn s) (s .limiter) key x now m
+asked n (Change.check-traced key x y now m) s = onLimiter n s ++ checks.tracedQuestions (unitsIn s) (s .limiter) key x y now m
 asked n (Change.check-each list count m out) s = (1 asks fits (length list) 2 count) ∷ (onLimiter n s ++ eachQuestions count m out)
-asked n (Change.tally key y x now m) s = onLimiter n s ++ checks.recordQuestions base (s .limiter) key y x now m
+asked n (Change.tally key y x now m) s = onLimiter n s ++ checks.recordQuestions (unitsIn s) (s .limiter) key y x now m
 asked n (Change.set-cap x) s = onLimiter n s
 asked n (Change.tick now m) s = onLimiter n s ++ checks.clusterQuestions m
 asked n (Change.tick-with-shares now m) s = onBoth n s ++ checks.clusterQuestions m
@@ -68,14 +77,14 @@ asked n (Change.expire now maxAge) s = onPeers n s
 
 -- what each call makes of the state where no question is answered 'no'
 unfoldable pub made : Change → State → State
-made (Change.check key now m) s = limiterOnly s (checks.checkIn base (s .limiter) key (checks.ownLimit (s .limiter)) now m)
-made (Change.check-in key x now m) s = limiterOnly s (checks.checkIn base (s .limiter) key x now m)
-made (Change.check-traced key x y now m) s = limiterOnly s (checks.checkTraced base (s .limiter) key x y now m)
-made (Change.check-each list count m out) s = limiterOnly s (checks.checkEach base m (records 2 count list) (s .limiter) .left)
-made (Change.tally key y x now m) s = limiterOnly s (checks.recordTally base (s .limiter) key y x now m)
+made (Change.check key now m) s = limiterOnly s (checks.checkIn (unitsIn s) (s .limiter) key (checks.ownLimit (s .limiter)) now m)
+made (Change.check-in key x now m) s = limiterOnly s (checks.checkIn (unitsIn s) (s .limiter) key x now m)
+made (Change.check-traced key x y now m) s = limiterOnly s (checks.checkTraced (unitsIn s) (s .limiter) key x y now m)
+made (Change.check-each list count m out) s = limiterOnly s (checks.checkEach (unitsIn s) m (records 2 count list) (s .limiter) .left)
+made (Change.tally key y x now m) s = limiterOnly s (checks.recordTally (unitsIn s) (s .limiter) key y x now m)
 made (Change.set-cap x) s = limiterOnly s (checks.setCap x (s .limiter))
-made (Change.tick now m) s = limiterOnly s (ticks.tick base now m (s .limiter))
-made (Change.tick-with-shares now m) s = limiterOnly s (ticks.tickWithShares base (s .peers) now m (s .limiter))
+made (Change.tick now m) s = limiterOnly s (ticks.tick (parametersIn s) (unitsIn s) now m (s .limiter))
+made (Change.tick-with-shares now m) s = limiterOnly s (ticks.tickWithShares (parametersIn s) (unitsIn s) (s .peers) now m (s .limiter))
 made (Change.report sender x now) s = peersOnly s (peer-changes.apply peer-changes.implausibleJump sender x now (s .peers))
 made (Change.forget peer) s = peersOnly s (peer-changes.forget peer (s .peers))
 made (Change.leave peer now hold) s = peersOnly s (peer-changes.leave peer now hold (s .peers))
@@ -167,7 +176,7 @@ module _ (key : ℕ) where
   unfoldable pub seenEach : ℕ → List (List ℕ) → List ℕ → LimiterState → List Seen
   seenEach n [] out s = []
   seenEach n (r ∷ rs) out s =
-      let s′ = checks.afterOne base n s (getD r 0 0) (getD r 1 0) in
+      let s′ = checks.afterOne (unitsOf (s .settings)) n s (getD r 0 0) (getD r 1 0) in
       seen (getD r 1 0) (ifKey (getD r 0 0) (allowedFirst out)) s′ ∷ seenEach n rs (drop 3 out) s′
 
   -- a call that is answered so and leaves s′ of s. One without a reading shows nothing: it leaves every key as it is. Nor does a refused call on many

@@ -3,9 +3,9 @@ use Prim.Native.Nat.{_^_}
 use mathlib.Core.Bool.{Bool, true, _&&_}
 use lib.Dec.{ltb}
 use Rattle.demand.specs.declared.peer_demand.DemandReport.{DemandReport}
-use Rattle.demand.specs.PeerLists.{all}
-use Rattle.demand.specs.PeerState.{isWord}
-use Rattle.demand.specs.PeerCalls.{fitsWidths}
+use Rattle.questions.specs.Lists.{all}
+use Rattle.records.specs.Typed.{isWord}
+use Rattle.demand.specs.Peers.Calls.{fitsWidths}
 use Rattle.limiter.specs.declared.Config.{Config}
 use Rattle.limiter.specs.State.{isF64, capFits}
 use Rattle.run.specs.Run.{Change, What, Move}

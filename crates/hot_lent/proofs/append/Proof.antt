@@ -4,9 +4,9 @@ use Prim.Native.Nat.{ℕ, _+_, _*_}
 use native.Mathlib.Omega.{arith}
 use lib.ListN.{take}
 use Rattle.records.specs.Records.{inserted}
-use Rattle.demand.specs.HotSet.{words}
+use Rattle.demand.specs.HotSet.Set.{words}
 use borrow.Author.Needs.{needs}
-use Rattle.demand.proofs.HotSetWords.{length-words}
+use Rattle.demand.proofs.HotSet.Words.{length-words}
 use Rattle.hot_lent.proofs.CopyLaws.{appended}
 use Rattle.hot_lent.proofs.Rows.{copied-long}
 use Rattle.hot_lent.proofs.append.Statement.{statement}

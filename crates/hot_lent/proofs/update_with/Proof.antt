@@ -36,7 +36,6 @@ use denote.Ref.{RefT}
 use denote.Slice.{sliceTy, sliceVal, ShrSlice, MutSlice, Room, finally, slice-vals, mut-slice-tells}
 use denote.Signature.{plain}
 use denote.Steps.{only, owned, peeks, heard, nothing}
-use denote.Struct.Laws as LL
 use denote.Triple.Entry.{Vals, onEntry}
 use denote.Triple.Spec.{Meets, tripleOf}
 use denote.Triple.Statement.{Contract, Triple}
@@ -49,30 +48,26 @@ use Rattle.demand.specs.declared.hot_set.HotEntry.{HotEntry}
 use Rattle.demand.specs.declared.hot_set.HotSet.{HotSet}
 use Rattle.demand.specs.declared.hot_set.UpdateAnswer.{UpdateAnswer}
 use Rattle.demand.proofs.hot_set.HotSet as S
-use Rattle.demand.proofs.hot_set.HotSet.Laws as S′
 use Rattle.demand.proofs.hot_set.UpdateAnswer as X
 use Rattle.hot_lent.specs.declared.Copied.{Copied}
 use Rattle.hot_lent.specs.declared.Turn.{Turn}
 use Rattle.hot_lent.specs.Steps.{wordsIn, Copies, Turns, Stored}
 use Rattle.hot_lent.proofs.CopyLaws.{lent-few, left-few, lent-update}
-use Rattle.hot_lent.proofs.Rows.{R, behind, copied-type, copied-vals, copied-mach, copied-tells, copied-makes, copied-lawful}
-use Rattle.hot_lent.proofs.Rows.{turn-type, turn-vals, turn-mach, turn-tells, turn-makes, turn-lawful, answer-type, answer-lawful}
 use Rattle.hot_lent.proofs.Shared.{LentShared, lends-shared, shared-back}
 use Rattle.hot_lent.proofs.Copied as C
 use Rattle.hot_lent.proofs.Turn as U
-use Rattle.hot_lent.proofs.load as load′
-use Rattle.hot_lent.proofs.load.Symbol as load-def
-use Rattle.hot_lent.proofs.load.Symbol.{name as #hot-lent·load}
-use Rattle.hot_lent.proofs.load.Met as load-thm
+use Rattle.hot_lent.proofs.LoadCalls.{Load, calls-load, load-cited}
+use Rattle.hot_lent.proofs.Rows.{R, set-row, copied-row, turn-row, vals, mach, tells, makes, lawful, behind, set-type, copied-type, turn-type, answer-type, answer-lawful}
 use Rattle.hot_lent.proofs.update_in as in′
 use Rattle.hot_lent.proofs.update_in.Symbol as in-def
 use Rattle.hot_lent.proofs.update_in.Symbol.{name as #hot-lent·update-in}
+use Rattle.hot_lent.proofs.load.Symbol.{name as #load}
+use Rattle.hot_lent.proofs.store.Symbol.{name as #hot-lent·store}
+use Rattle.hot_lent.proofs.update_with.Key.{name as #hot-lent·update-with}
 use Rattle.hot_lent.proofs.update_in.Met as in-thm
 use Rattle.hot_lent.proofs.store as store′
 use Rattle.hot_lent.proofs.store.Symbol as store-def
-use Rattle.hot_lent.proofs.store.Symbol.{name as #hot-lent·store}
 use Rattle.hot_lent.proofs.store.Met as store-thm
-use Rattle.hot_lent.proofs.update_with.Key.{name as #hot-lent·update-with}
 use Rattle.hot_lent.proofs.update_with as update-with
 use Rattle.hot_lent.proofs.update_with.Statement as stated
 use Rattle.hot_lent.proofs.update_with.Code as code
@@ -99,9 +94,6 @@ word = tyInt w64
 abbrev float : Ty
 float = tyFloat binary64
 
-abbrev set-type : Ty
-set-type = S′.mir
-
 abbrev given : Ty
 given = sliceTy (tyRef (named 0) mut behind)
 
@@ -110,9 +102,6 @@ shared = tyRef erased imm behind
 
 abbrev again : Ty
 again = tyRef erased mut behind
-
-abbrev set-vals : HotSet → List Val
-set-vals = LL.vals S.the-type S′.the-laws
 
 -- the MIR, with its locals' types by their names here: so that what a part of the walk starts from is what the part before it leaves, as written
 abbrev spelled : Fn
@@ -132,9 +121,6 @@ is-spelled = refl
 
 module _ {M : Type 1} (𝓤 : URA M) (H : Heap 𝓤) (A : Atoms 𝓤) (mem : Memory → SProp 𝓤) (run : Routine → Fun 𝓤) where
   -- the contracts that the proof cites
-  abbrev Load : Contract 𝓤
-  Load = tripleOf 𝓤 H A load′.signature (load′.spec 𝓤 H A mem run)
-
   abbrev In : Contract 𝓤
   In = tripleOf 𝓤 H A in′.signature (in′.spec 𝓤 H A mem run)
 
@@ -142,7 +128,7 @@ module _ {M : Type 1} (𝓤 : URA M) (H : Heap 𝓤) (A : Atoms 𝓤) (mem : Mem
   Store = tripleOf 𝓤 H A store′.signature (store′.spec 𝓤 H A mem run)
 
 module _ {M : Type 1} (𝓤 : URA M) (H : Heap 𝓤) (A : Atoms 𝓤) (W : Given 𝓤 H A) (mem : Memory → SProp 𝓤) (run : Routine → Fun 𝓤)
-    (κ : Lft) (q : Share) (b o : ℕ) (γ : GName) (ys : List HotEntry) (room : Room R (length ys)) (st : HotSet) (st-is : Is S.the-row st (set-vals
+    (κ : Lft) (q : Share) (b o : ℕ) (γ : GName) (ys : List HotEntry) (room : Room R (length ys)) (st : HotSet) (st-is : Is S.the-row st (vals set-row
     st)) (k : ℕ) (k-fits : k < 2 ^ 64)
     (d : Float) (d-is : Is f64 d (float-vals binary64 d)) (h : Float) (h-is : Is f64 h (float-vals binary64 h)) (at-time : ℕ) (time-fits : at-time
     < 2 ^ 64) (e : Bool) (e-is : Is bool e (bool-vals e)) where
@@ -153,14 +139,11 @@ module _ {M : Type 1} (𝓤 : URA M) (H : Heap 𝓤) (A : Atoms 𝓤) (W : Given
   abbrev s : Val
   s = sliceVal (b, o) (length ys)
 
-  abbrev set-mach : Val
-  set-mach = LL.val S.the-type S′.the-laws st
-
   abbrev x : HotSet × (RefT (List HotEntry) × (ℕ × (Float × (Float × (ℕ × (Bool × Unit {0}))))))
   x = (st, (slice γ, (k, (d, (h, (at-time, (e, tt)))))))
 
   abbrev at : Vals update-with.signature (κ, tt)
-  at = (set-vals st, (s ∷ [], (vint w64 k ∷ [], (float-vals binary64 d, (float-vals binary64 h, (vint w64 at-time ∷ [], (bool-vals e, tt)))))))
+  at = (vals set-row st, (s ∷ [], (vint w64 k ∷ [], (float-vals binary64 d, (float-vals binary64 h, (vint w64 at-time ∷ [], (bool-vals e, tt)))))))
 
   abbrev Post : Val → SProp 𝓤
   Post = walkOf 𝓤 H A update-with.ended stayed (update-with.clauses 𝓤 H A mem run) .post (((κ, tt), (q, tt), tt, x, at), tt)
@@ -169,20 +152,6 @@ module _ {M : Type 1} (𝓤 : URA M) (H : Heap 𝓤) (A : Atoms 𝓤) (W : Given
   Own = MutSlice (named 0) κ R .own (slice γ) (s ∷ [])
 
   -- what each callee's triple binds outside, that the caller has what it asks, and what it says of its result
-  abbrev to-load : ℕ → GName → Load 𝓤 H A mem run .Ghost
-  to-load α δ = (((α ∷ [], tt), (fullShare, tt), tt, (slice δ, tt), (s ∷ [], tt)), tt)
-
-  goes-load : (α : ℕ) (δ : GName) → ent 𝓤 (sep 𝓤 (A .lft (α ∷ []) fullShare) (sem 𝓤 H A (ShrSlice (named 0) (α ∷ []) R .own (slice δ) (s ∷ []))))
-      (Load 𝓤 H A mem run .pre (to-load α δ))
-  goes-load α δ =
-      qed W (‵ (flft (α ∷ []) fullShare) ∷ ‵ (ShrSlice (named 0) (α ∷ []) R .own (slice δ) (s ∷ [])) ∷ []) ∵ nothing ! $ move ! (1 ∷ 0 ∷ []) $
-      join ! $
-      nothing ! $ move ! (2 ∷ 0 ∷ []) $ fjoin ! $ move ! (1 ∷ 0 ∷ []) $ join ! $ frame ! $ done !
-
-  loaded : (α : ℕ) (δ : GName) (c : Copied) → ent 𝓤 (ensured 𝓤 H A load′.ended (load′.clauses 𝓤 H A mem run) (α ∷ [], tt) (slice δ, tt) tt c) (fact
-      𝓤 (Copies (take 64 ys) c))
-  loaded α δ c = exE 𝓤 _ (λ ws. snd∗ 𝓤 (sem 𝓤 H A (lasts load′.ended (α ∷ [], tt) (slice δ, tt) ws)) (fact 𝓤 (Copies (take 64 ys) c)))
-
   abbrev in-args : Copied → HotSet × (Copied × (ℕ × (Float × (Float × (ℕ × (Bool × Unit {0}))))))
   in-args c = (st, (c, (k, (d, (h, (at-time, (e, tt)))))))
 
@@ -194,9 +163,9 @@ module _ {M : Type 1} (𝓤 : URA M) (H : Heap 𝓤) (A : Atoms 𝓤) (W : Given
       tt,
       in-args c,
       (
-        set-vals st,
+        vals set-row st,
         (
-          copied-vals c,
+          vals copied-row c,
           (
             vint w64 k ∷ [],
             (
@@ -217,29 +186,29 @@ module _ {M : Type 1} (𝓤 : URA M) (H : Heap 𝓤) (A : Atoms 𝓤) (W : Given
     tt,
   )
 
-  goes-in : (c : Copied) → Is C.the-row c (copied-vals c) → Copies (take 64 ys) c → ent 𝓤 (emp 𝓤) (In 𝓤 H A mem run .pre (to-in c))
+  goes-in : (c : Copied) → Is C.the-row c (vals copied-row c) → Copies (take 64 ys) c → ent 𝓤 (emp 𝓤) (In 𝓤 H A mem run .pre (to-in c))
   goes-in c is p =
       qed W [] ∵ says ! (lent-few ys c p) $ nothing ! $ frame ! $ nothing ! $ owned ! bool (Is bool) (bool-makes 𝓤 H A W) e _ e-is $ fjoin ! $
       owned ! u64 (Is u64) (uint-makes 𝓤 H A W w64) at-time _ (refl, time-fits) $ fjoin ! $
       owned ! f64 (Is f64) (float-makes 𝓤 H A W binary64) h _ h-is $ fjoin ! $ owned ! f64 (Is f64) (float-makes 𝓤 H A W binary64) d _ d-is $
       fjoin ! $ owned ! u64 (Is u64) (uint-makes 𝓤 H A W w64) k _ (refl, k-fits) $ fjoin ! $
-      owned ! C.the-row (Is C.the-row) (copied-makes 𝓤 H A W) c _ is $ fjoin ! $
-      owned ! S.the-row (Is S.the-row) (LL.makes S.the-type S′.the-plain 𝓤 H A) st _ st-is $ fjoin ! $ done !
+      owned ! C.the-row (Is C.the-row) (makes copied-row 𝓤 H A W) c _ is $ fjoin ! $
+      owned ! S.the-row (Is S.the-row) (makes set-row 𝓤 H A W) st _ st-is $ fjoin ! $ done !
 
   turned : (c : Copied) (t : Turn) → ent 𝓤 (ensured 𝓤 H A in′.ended (in′.clauses 𝓤 H A mem run) tt (in-args c) tt t) (fact 𝓤 (Turns st (wordsIn c)
       k d h at-time e t))
   turned c t = exE 𝓤 _ (λ ws. snd∗ 𝓤 (sem 𝓤 H A (lasts in′.ended tt (in-args c) ws)) (fact 𝓤 (Turns st (wordsIn c) k d h at-time e t)))
 
   abbrev to-store : Turn → Store 𝓤 H A mem run .Ghost
-  to-store t = (((κ, tt), (q, tt), tt, (slice γ, (t, tt)), (s ∷ [], (turn-vals t, tt))), tt)
+  to-store t = (((κ, tt), (q, tt), tt, (slice γ, (t, tt)), (s ∷ [], (vals turn-row t, tt))), tt)
 
-  module _ (c : Copied) (p : Copies (take 64 ys) c) (t : Turn) (t-is : Is U.the-row t (turn-vals t)) (told : Turns st (wordsIn c) k d h at-time e
+  module _ (c : Copied) (p : Copies (take 64 ys) c) (t : Turn) (t-is : Is U.the-row t (vals turn-row t)) (told : Turns st (wordsIn c) k d h at-time e
       t) where
     goes-store : ent 𝓤 (sep 𝓤 (sem 𝓤 H A Own) (A .lft κ q)) (Store 𝓤 H A mem run .pre (to-store t))
     goes-store =
         qed W (‵ Own ∷ ‵ (flft κ q) ∷ []) ∵ says ! (left-few st ys k d h at-time e (fits-true _ (d-is .1)) c p t told) $ nothing ! $
         move ! (2 ∷ 0 ∷ []) $ join ! $ frame ! $
-        nothing ! $ owned ! U.the-row (Is U.the-row) (turn-makes 𝓤 H A W) t _ t-is $ fjoin ! $ move ! (1 ∷ 0 ∷ []) $ fjoin ! $ done !
+        nothing ! $ owned ! U.the-row (Is U.the-row) (makes turn-row 𝓤 H A W) t _ t-is $ fjoin ! $ move ! (1 ∷ 0 ∷ []) $ fjoin ! $ done !
 
     exits : (r : UpdateAnswer) (w : Val) (zs : List HotEntry) → Stored t ys r zs → length zs ≡ length ys
         → ent 𝓤 (⋆ 𝓤 H A ((‵ (flft κ q) ⊛ ‵ ftrue) ∷ ‵ (finally R γ zs) ∷ ‵ (X.the-row .own r (w ∷ [])) ∷ [])) (Post w)
@@ -252,7 +221,7 @@ module _ {M : Type 1} (𝓤 : URA M) (H : Heap 𝓤) (A : Atoms 𝓤) (W : Given
         owned ! u64 (Is u64) (uint-makes 𝓤 H A W w64) at-time _ (refl, time-fits) $ fjoin ! $
         owned ! f64 (Is f64) (float-makes 𝓤 H A W binary64) h _ h-is $ fjoin ! $ owned ! f64 (Is f64) (float-makes 𝓤 H A W binary64) d _ d-is $
         fjoin ! $ owned ! u64 (Is u64) (uint-makes 𝓤 H A W w64) k _ (refl, k-fits) $ fjoin ! $
-        move ! (1 ∷ 0 ∷ []) $ fjoin ! $ owned ! S.the-row (Is S.the-row) (LL.makes S.the-type S′.the-plain 𝓤 H A) st _ st-is $ fjoin ! $ done !
+        move ! (1 ∷ 0 ∷ []) $ fjoin ! $ owned ! S.the-row (Is S.the-row) (makes set-row 𝓤 H A W) st _ st-is $ fjoin ! $ done !
 
   module _ (𝓣 : Tables 𝓤 H) (fm : FmC 𝓤 H (W .laws) (𝓣 .C)) (known-store : Triple 𝓤 (𝓣 .C #hot-lent·store) (Store 𝓤 H A mem run)) (l₀ l₁ l₂ l₃ l₄
       l₅ l₆ l₇ l₈ l₉ l₁₀ l₁₁ l₁₂ l₁₃ : ℕ) where
@@ -269,7 +238,7 @@ module _ {M : Type 1} (𝓤 : URA M) (H : Heap 𝓤) (A : Atoms 𝓤) (W : Given
         (fat fullShare word l₆ 0 (vint w64 at-time)) ∷ ‵ (fdies word l₆)
         ∷ ‵ (fat fullShare float l₅ 0 (vfloat binary64 h)) ∷ ‵ (fdies float l₅) ∷ ‵ (fat fullShare float l₄ 0 (vfloat binary64 d)) ∷ ‵ (fdies float
         l₄) ∷ ‵ (fat fullShare word l₃ 0 (vint w64 k)) ∷ ‵ (fdies word l₃)
-        ∷ ‵ (fat fullShare given l₂ 0 s) ∷ ‵ (fdies given l₂) ∷ ‵ (fat fullShare set-type l₁ 0 set-mach) ∷ ‵ (fdies set-type l₁) ∷ ‵ (froom
+        ∷ ‵ (fat fullShare given l₂ 0 s) ∷ ‵ (fdies given l₂) ∷ ‵ (fat fullShare set-type l₁ 0 (mach set-row st)) ∷ ‵ (fdies set-type l₁) ∷ ‵ (froom
         answer-type l₀ 0) ∷ ‵ (fdies answer-type l₀) ∷ had ∷ had′ ∷ []
 
     abbrev Lent : Item 𝓤 → Item 𝓤 → List (Item 𝓤)
@@ -277,11 +246,11 @@ module _ {M : Type 1} (𝓤 : URA M) (H : Heap 𝓤) (A : Atoms 𝓤) (W : Given
         q))
 
     -- `store`
-    stores : (c : Copied) → Copies (take 64 ys) c → (t : Turn) → Is U.the-row t (turn-vals t) → Turns st (wordsIn c) k d h at-time e t
-        → ent 𝓤 (⋆ 𝓤 H A (Lent (‵ (fat fullShare copied-type l₈ 0 (copied-mach c))) (‵ (fat fullShare turn-type l₉ 0 (turn-mach t))))) (Wp 𝓤 H (𝓣
+    stores : (c : Copied) → Copies (take 64 ys) c → (t : Turn) → Is U.the-row t (vals turn-row t) → Turns st (wordsIn c) k d h at-time e t
+        → ent 𝓤 (⋆ 𝓤 H A (Lent (‵ (fat fullShare copied-type l₈ 0 (mach copied-row c))) (‵ (fat fullShare turn-type l₉ 0 (mach turn-row t))))) (Wp 𝓤 H (𝓣
         .C) (𝓣 .Λ) En mir′.t-5 (atReturn 𝓤 H En Post))
     stores c p t t-is told =
-        qed W (Lent (‵ (fat fullShare copied-type l₈ 0 (copied-mach c))) (‵ (fat fullShare turn-type l₉ 0 (turn-mach t)))) ∵ exec ! (𝓣 .C) (𝓣 .Λ)
+        qed W (Lent (‵ (fat fullShare copied-type l₈ 0 (mach copied-row c))) (‵ (fat fullShare turn-type l₉ 0 (mach turn-row t)))) ∵ exec ! (𝓣 .C) (𝓣 .Λ)
         En mir′.t-5 (atRet En Post) $
         assigns ! (addr ! (from ! (fld ! refl (hop ! (look-in ! 22 (sub ! 0 refl (whole !))) (stop !))))) (from ! (stop !)) (init ! 2 refl (
           tt,
@@ -310,11 +279,11 @@ module _ {M : Type 1} (𝓤 : URA M) (H : Heap 𝓤) (A : Atoms 𝓤) (W : Given
         keep ! (1 ∷ 2 ∷ 0 ∷ []) $ by ! (exits c p t t-is told r w (zs .0) g l)))))))
 
     -- `update_in`
-    updates : (c : Copied) → Copies (take 64 ys) c → Is C.the-row c (copied-vals c) → Triple 𝓤 (𝓣 .C #hot-lent·update-in) (In 𝓤 H A mem run)
-        → ent 𝓤 (⋆ 𝓤 H A (Lent (‵ (fat fullShare copied-type l₈ 0 (copied-mach c))) (‵ (froom turn-type l₉ 0)))) (Wp 𝓤 H (𝓣 .C) (𝓣 .Λ) En mir′.t-4
+    updates : (c : Copied) → Copies (take 64 ys) c → Is C.the-row c (vals copied-row c) → Triple 𝓤 (𝓣 .C #hot-lent·update-in) (In 𝓤 H A mem run)
+        → ent 𝓤 (⋆ 𝓤 H A (Lent (‵ (fat fullShare copied-type l₈ 0 (mach copied-row c))) (‵ (froom turn-type l₉ 0)))) (Wp 𝓤 H (𝓣 .C) (𝓣 .Λ) En mir′.t-4
         (atReturn 𝓤 H En Post))
     updates c p is known-in =
-        qed W (Lent (‵ (fat fullShare copied-type l₈ 0 (copied-mach c))) (‵ (froom turn-type l₉ 0))) ∵ exec ! (𝓣 .C) (𝓣 .Λ) En mir′.t-4 (atRet En
+        qed W (Lent (‵ (fat fullShare copied-type l₈ 0 (mach copied-row c))) (‵ (froom turn-type l₉ 0))) ∵ exec ! (𝓣 .C) (𝓣 .Λ) En mir′.t-4 (atRet En
         Post) $
         use0 W (raw (In 𝓤 H A mem run .pre (to-in c))) (goes-in c is p) $
         calls-at ! fm (In 𝓤 H A mem run) known-in (to-in c) (and-then ! (load ! (from ! (stop !)) (look ! 25 refl)) (and-then ! (load ! (from !
@@ -326,13 +295,13 @@ module _ {M : Type 1} (𝓤 : URA M) (H : Heap 𝓤) (A : Atoms 𝓤) (W : Given
         split ! $ move ! (1 ∷ []) $ use1 W (raw (fact 𝓤 (Turns st (wordsIn c) k d h at-time e t))) (turned c t) $
         heard ! (Turns st (wordsIn c) k d h at-time e t) (λ told. split ! $ drop ! $
         peeks ! U.the-row (Is U.the-row) (shows 𝓤 H A U.the-row) t (u ∷ []) (λ t-is. drop ! $
-        let same = turn-tells t (u ∷ []) t-is in
-        land ! (from ! (stop !)) (init ! 8 refl (turn-lawful 𝓤 H A W .typed t _ t-is .0)) $
+        let same = tells turn-row t (u ∷ []) t-is in
+        land ! (from ! (stop !)) (init ! 8 refl (lawful turn-row 𝓤 H A W .typed t _ t-is .0)) $
         rewrite ! 8 (λ (v : Val). ‵ (fat fullShare turn-type l₉ 0 v)) (ap only same) refl $
         by ! (stores c p t (subst (Is U.the-row t) same t-is) told)))))
 
     -- `load`, with the borrow lent as a `&` for a lifetime that is made for it
-    loads : Triple 𝓤 (𝓣 .C #hot-lent·load) (Load 𝓤 H A mem run) → Triple 𝓤 (𝓣 .C #hot-lent·update-in) (In 𝓤 H A mem run)
+    loads : Triple 𝓤 (𝓣 .C #load) (Load 𝓤 H A mem run) → Triple 𝓤 (𝓣 .C #hot-lent·update-in) (In 𝓤 H A mem run)
         → ent 𝓤 (⋆ 𝓤 H A (Had (‵ (froom shared l₁₀ 0)) (‵ (froom (sliceTy shared) l₁₁ 0)) (‵ (froom copied-type l₈ 0)) (‵ (froom turn-type l₉ 0))
         (‵ (flft κ q) ⊛ ‵ ftrue) (‵ (owns (S.the-row ∷ MutSlice (named 0) κ R ∷ u64 ∷ f64 ∷ f64 ∷ u64 ∷ bool ∷ []) x at))))
         (Wp 𝓤 H (𝓣 .C) (𝓣 .Λ) En mir′.t-1 (atReturn 𝓤 H En Post))
@@ -351,31 +320,26 @@ module _ {M : Type 1} (𝓤 : URA M) (H : Heap 𝓤) (A : Atoms 𝓤) (W : Given
         lft-new ! tt (λ α. move ! (3 ∷ 1 ∷ []) $
         use2 W (later (some (λ (δ : GName). ‵ (ShrSlice (named 0) (α ∷ []) R .own (slice δ) (s ∷ [])) ⊛ ‵ (LentShared R κ (α ∷ []) q γ b o ys))))
         (lends-shared R κ (α ∷ []) q γ b o ys 𝓤 H A W (named 0) (named 0)) $ await ! tt $ pick ! (λ δ. split ! $
-        move ! (2 ∷ 0 ∷ []) $ use2 W (raw (Load 𝓤 H A mem run .pre (to-load α δ))) (goes-load α δ) $
-        calls-at ! fm (Load 𝓤 H A mem run) known-load (to-load α δ) (and-then ! (load ! (from ! (stop !)) (look ! 8 refl)) (no-more !)) (λ u.
-        use1 W (later (some (λ (c : Copied). ((‵ (flft (α ∷ []) fullShare) ⊛ ‵ ftrue) ⊛ ‵ (C.the-row .own c (u ∷ []))) ⊛ raw (ensured 𝓤 H A
-        load′.ended (load′.clauses 𝓤 H A mem run) (α ∷ [], tt) (slice δ, tt) tt c)))) (id⊢ 𝓤 _) $ await ! tt $ pick ! (λ c.
-        split ! $ move ! (1 ∷ []) $ use1 W (raw (fact 𝓤 (Copies (take 64 ys) c))) (loaded α δ c) $ heard ! (Copies (take 64 ys) c) (λ p. split ! $
-        move ! (1 ∷ []) $
-        peeks ! C.the-row (Is C.the-row) (shows 𝓤 H A C.the-row) c (u ∷ []) (λ is. drop ! $
-        let same = copied-tells c (u ∷ []) is in
-        land ! (from ! (stop !)) (init ! 14 refl (copied-lawful 𝓤 H A W .typed c _ is .0)) $
+        move ! (2 ∷ []) $ nothing ! $ move ! (1 ∷ 0 ∷ []) $ join ! $
+        calls-load ! mem run fm known-load (slice δ) (and-then ! (load ! (from ! (stop !)) (look ! 8 refl)) (no-more !)) (λ u c p is. drop ! $
+        let same = tells copied-row c (u ∷ []) is in
+        land ! (from ! (stop !)) (init ! 14 refl (lawful copied-row 𝓤 H A W .typed c _ is .0)) $
         rewrite ! 14 (λ (v : Val). ‵ (fat fullShare copied-type l₈ 0 v)) (ap only same) refl $
         split ! $ lft-end ! tt $ move ! (0 ∷ 2 ∷ []) $
         use2 W (later (‵ Own ⊛ ‵ (flft κ q))) (shared-back R κ (α ∷ []) q γ b o ys 𝓤 H A W (named 0) (named 0) room) $ await ! tt $ split ! $
         keep ! (5 ∷ 6 ∷ 7 ∷ 8 ∷ 9 ∷ 10 ∷ 11 ∷ 12 ∷ 13 ∷ 14 ∷ 15 ∷ 16 ∷ 17 ∷ 18 ∷ 19 ∷ 20 ∷ 21 ∷ 22 ∷ 23 ∷ 24 ∷ 25 ∷ 26 ∷ 27 ∷ 28 ∷ 29 ∷ 30 ∷ 31 ∷
-        32 ∷ 0 ∷ 1 ∷ []) $ by ! (updates c p (subst (Is C.the-row c) same is) known-in)))))))
+        32 ∷ 0 ∷ 1 ∷ []) $ by ! (updates c p (subst (Is C.the-row c) same is) known-in))))
 
-  walk : (𝓣 : Tables 𝓤 H) → FmC 𝓤 H (W .laws) (𝓣 .C) → Triple 𝓤 (𝓣 .C #hot-lent·load) (Load 𝓤 H A mem run) → Triple 𝓤 (𝓣 .C #hot-lent·update-in)
+  walk : (𝓣 : Tables 𝓤 H) → FmC 𝓤 H (W .laws) (𝓣 .C) → Triple 𝓤 (𝓣 .C #load) (Load 𝓤 H A mem run) → Triple 𝓤 (𝓣 .C #hot-lent·update-in)
       (In 𝓤 H A mem run) → Triple 𝓤 (𝓣 .C #hot-lent·store) (Store 𝓤 H A mem run)
       → ent 𝓤 (onEntry 𝓤 H A update-with.signature (κ, tt) (q, tt) x at)
-      (WpFn 𝓤 H (𝓣 .C) (𝓣 .Λ) spelled (set-mach ∷ s ∷ vint w64 k ∷ vfloat binary64 d ∷ vfloat binary64 h ∷ vint w64 at-time ∷ vbool e ∷ []) Post)
+      (WpFn 𝓤 H (𝓣 .C) (𝓣 .Λ) spelled (mach set-row st ∷ s ∷ vint w64 k ∷ vfloat binary64 d ∷ vfloat binary64 h ∷ vint w64 at-time ∷ vbool e ∷ []) Post)
   walk 𝓣 fm known-load known-in known-store =
       qed W ((‵ (flft κ q) ⊛ ‵ ftrue) ∷ ‵ (owns (S.the-row ∷ MutSlice (named 0) κ R ∷ u64 ∷ f64 ∷ f64 ∷ u64 ∷ bool ∷ []) x at) ∷ []) ∵
-      enter ! (𝓣 .C) (𝓣 .Λ) spelled (set-mach ∷ s ∷ vint w64 k ∷ vfloat binary64 d ∷ vfloat binary64 h ∷ vint w64 at-time ∷ vbool e ∷ []) _ $
+      enter ! (𝓣 .C) (𝓣 .Λ) spelled (mach set-row st ∷ s ∷ vint w64 k ∷ vfloat binary64 d ∷ vfloat binary64 h ∷ vint w64 at-time ∷ vbool e ∷ []) _ $
       alloc1 ! (λ l₀. alloc1 ! (λ l₁. alloc1 ! (λ l₂. alloc1 ! (λ l₃. alloc1 ! (λ l₄. alloc1 ! (λ l₅. alloc1 ! (λ l₆. alloc1 ! (λ l₇. alloc1 ! (λ
       l₈. alloc1 ! (λ l₉. alloc1 ! (λ l₁₀. alloc1 ! (λ l₁₁. alloc1 ! (λ l₁₂. alloc1 ! (λ l₁₃. alloc0 ! $ params1 ! $
-      pass1 ! (init ! 24 refl (LL.lawful S.the-type S′.the-laws 𝓤 H A W .typed st _ st-is .0)) $
+      pass1 ! (init ! 24 refl (lawful set-row 𝓤 H A W .typed st _ st-is .0)) $
       pass1 ! (init ! 22 refl (tt, (tt, (record { fits = room .0 }, tt)))) $ pass1 ! (init ! 20 refl (tt, record { fits = k-fits })) $
       pass1 ! (init ! 18 refl (float-lawful 𝓤 H A W binary64 .typed d _ d-is .0)) $
       pass1 ! (init ! 16 refl (float-lawful 𝓤 H A W binary64 .typed h _ h-is .0)) $
@@ -383,13 +347,13 @@ module _ {M : Type 1} (𝓤 : URA M) (H : Heap 𝓤) (A : Atoms 𝓤) (W : Given
       by ! (loads 𝓣 fm known-store l₀ l₁ l₂ l₃ l₄ l₅ l₆ l₇ l₈ l₉ l₁₀ l₁₁ l₁₂ l₁₃ known-load known-in)))))))))))))))
 
 module _ {M : Type 1} (𝓤 : URA M) (H : Heap 𝓤) (A : Atoms 𝓤) (W : Given 𝓤 H A) (mem : Memory → SProp 𝓤) (run : Routine → Fun 𝓤) (𝓣 : Tables 𝓤 H)
-    (known-load : Triple 𝓤 (𝓣 .C #hot-lent·load) (Load 𝓤 H A mem run)) (known-in : Triple 𝓤 (𝓣 .C #hot-lent·update-in) (In 𝓤 H A mem run))
+    (known-load : Triple 𝓤 (𝓣 .C #load) (Load 𝓤 H A mem run)) (known-in : Triple 𝓤 (𝓣 .C #hot-lent·update-in) (In 𝓤 H A mem run))
     (known-store : Triple 𝓤 (𝓣 .C #hot-lent·store) (Store 𝓤 H A mem run)) where
   update-with-walks : Walks 𝓤 H A update-with.ended stayed (WpFn 𝓤 H (𝓣 .C) (𝓣 .Λ) spelled) (update-with.clauses 𝓤 H A mem run)
   update-with-walks = walked 𝓤 H A update-with.ended stayed (update-with.clauses 𝓤 H A mem run) (WpFn 𝓤 H (𝓣 .C) (𝓣 .Λ) spelled)
-      (λ κs. (set-vals, (slice-vals, (uint-vals w64, (float-vals binary64, (float-vals binary64, (uint-vals w64, (bool-vals, tt))))))))
+      (λ κs. (vals set-row, (slice-vals, (uint-vals w64, (float-vals binary64, (float-vals binary64, (uint-vals w64, (bool-vals, tt))))))))
       (λ κs. (
-        LL.tells S.the-type S′.the-laws,
+        tells set-row,
         (
           mut-slice-tells (named 0) (κs .0) R,
           (
@@ -438,7 +402,7 @@ module _ {M : Type 1} (𝓤 : URA M) (H : Heap 𝓤) (A : Atoms 𝓤) (W : Given
 
 update-with-runs : {M : Type 1} (𝓤 : URA M) (H : Heap 𝓤) (A : Atoms 𝓤) → Given 𝓤 H A → (mem : Memory → SProp 𝓤) (run : Routine → Fun 𝓤) (𝓣 : Tables
     𝓤 H)
-    → Triple 𝓤 (𝓣 .C #hot-lent·load) (Load 𝓤 H A mem run) → Triple 𝓤 (𝓣 .C #hot-lent·update-in) (In 𝓤 H A mem run) → Triple 𝓤 (𝓣 .C
+    → Triple 𝓤 (𝓣 .C #load) (Load 𝓤 H A mem run) → Triple 𝓤 (𝓣 .C #hot-lent·update-in) (In 𝓤 H A mem run) → Triple 𝓤 (𝓣 .C
     #hot-lent·store) (Store 𝓤 H A mem run)
     → Meets 𝓤 H A update-with.signature (WpFn 𝓤 H (𝓣 .C) (𝓣 .Λ) code.function) (update-with.spec 𝓤 H A mem run)
 update-with-runs 𝓤 H A W mem run 𝓣 known-load known-in known-store =
@@ -451,7 +415,7 @@ update-with-spec 𝓤 H 𝓜 𝓖 𝓡 =
     entered 𝓤 H (tripleOf 𝓤 H (𝓖 .A) update-with.signature (update-with.spec 𝓤 H (𝓖 .A) (𝓜 .mem) (𝓡 .run)))
     (tables 𝓤 H 𝓜 𝓡 code.env .C) (tables 𝓤 H 𝓜 𝓡 code.env .Λ) #hot-lent·update-with code.function (code.unfolded 𝓤 H 𝓜 𝓡)
     (update-with-runs 𝓤 H (𝓖 .A) (givenOf 𝓤 H 𝓜 𝓖) (𝓜 .mem) (𝓡 .run) (tablesOf 𝓤 H 𝓜 (tables 𝓤 H 𝓜 𝓡 code.env))
-    (cited 𝓤 H (Load 𝓤 H (𝓖 .A) (𝓜 .mem) (𝓡 .run)) 𝓜 𝓡 code.env #hot-lent·load load-def.routine code.calls-hot-lent·load (load-thm.met 𝓤 H 𝓜 𝓖 𝓡))
+    (load-cited 𝓤 H 𝓜 𝓖 𝓡 code.env code.calls-hot-lent·load)
     (cited 𝓤 H (In 𝓤 H (𝓖 .A) (𝓜 .mem) (𝓡 .run)) 𝓜 𝓡 code.env #hot-lent·update-in in-def.routine code.calls-hot-lent·update-in (in-thm.met 𝓤 H 𝓜 𝓖
     𝓡))
     (cited 𝓤 H (Store 𝓤 H (𝓖 .A) (𝓜 .mem) (𝓡 .run)) 𝓜 𝓡 code.env #hot-lent·store store-def.routine code.calls-hot-lent·store (store-thm.met 𝓤 H 𝓜 𝓖

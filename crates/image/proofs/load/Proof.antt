@@ -4,10 +4,10 @@ use mathlib.Core.Bool.{true}
 use mathlib.Core.List.{List}
 use Prim.Native.Nat.{ℕ}
 use borrow.Author.Needs.{needs}
-use Rattle.gcra.specs.Questions.{refused, given, answer}
-use Rattle.gcra.proofs.Cases.{told-no, told-yes}
-use Rattle.demand.specs.PeerState as peer-state
-use Rattle.demand.specs.PeerState.{PeerTables}
+use Rattle.questions.specs.Questions.{refused, given, answer}
+use Rattle.questions.proofs.Tests.{told-no, told-yes}
+use Rattle.demand.specs.Peers.State as peer-state
+use Rattle.demand.specs.Peers.State.{PeerTables}
 use Rattle.limiter.specs.State.{LimiterTables, tables}
 use Rattle.image.specs.Calls.{haveRoom, loadAnswer, valuesOf}
 use Rattle.image.specs.Reader.{stateRead}

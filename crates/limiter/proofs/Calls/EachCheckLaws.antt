@@ -4,17 +4,18 @@ use mathlib.Core.Path.{_≡_, refl, sym, ap, _∙_, subst}
 use mathlib.Core.Bool.{Bool, true, false, cond, _&&_}
 use mathlib.Core.List.{List, [], _∷_, _++_}
 use lib.ListN.{getD}
-use Rattle.records.proofs.TestLaws.{split, both}
+use Rattle.questions.proofs.Tests.{split, both}
 use Rattle.gcra.specs.declared.Decision.{Decision}
-use Rattle.gcra.specs.Questions.{Question, Answer, passes}
+use Rattle.questions.specs.Questions.{Question, Answer, passes}
 use Rattle.gcra.specs.Calls.{checkAnswer}
 use Rattle.gcra.proofs.Encoding.{units-accepted}
+use Rattle.gcra.specs.Packed.{unitNanos}
 use Rattle.demand.specs.Allocation.{isClusterSize}
-use Rattle.demand.specs.PeerLists.{all}
-use Rattle.demand.specs.PeerState.{isWord}
+use Rattle.questions.specs.Lists.{all}
+use Rattle.records.specs.Typed.{isWord}
 use Rattle.limiter.specs.declared.Limiter.{Limiter}
 use Rattle.limiter.specs.declared.Checked.{Checked}
-use Rattle.limiter.specs.State.{base, LimiterState, LimiterTables, valueOf, written, valid}
+use Rattle.limiter.specs.State.{LimiterState, LimiterTables, valueOf, written, valid}
 use Rattle.limiter.specs.Checks.{ownLimit, keyDecision, checkIn, clusterQuestions, checkKeyQuestions, Answers, checkOne, afterOne, checkEach}
 use Rattle.limiter.specs.Calls.{here, stateQuestions, Acts, Checks}
 use Rattle.limiter.proofs.Calls.CheckValidLaws.{check-valid}
@@ -45,32 +46,32 @@ module _ (n : ℕ) (size : isClusterSize n ≡ true) where
     unfolding passes
     first-passed = passes-after (stateQuestions l t) (clusterQuestions n) (sound-passes l t sound) ∙ ap (λ (b : Bool). b && true) size
 
-    one-answer : checkAnswer (r .answer) ≡ checkOne base n s key now
-    one-answer = c .answered ∙ answer-after first (checkKeyQuestions base s key now n) (keyDecision base s key (ownLimit s) now n) first-passed
+    one-answer : checkAnswer (r .answer) ≡ checkOne unitNanos n s key now
+    one-answer = c .answered ∙ answer-after first (checkKeyQuestions unitNanos s key now n) (keyDecision unitNanos s key (ownLimit s) now n) first-passed
 
     -- 7, 8 and 9
-    all-passed : passes (checkKeyQuestions base s key now n) ≡ true → passes (clusterQuestions n ++ checkKeyQuestions base s key now n) ≡ true
+    all-passed : passes (checkKeyQuestions unitNanos s key now n) ≡ true → passes (clusterQuestions n ++ checkKeyQuestions unitNanos s key now n) ≡ true
     unfolding passes
     all-passed e = rw size e
 
-    one-left : here (r .limiter) t₁ ≡ afterOne base n s key now
+    one-left : here (r .limiter) t₁ ≡ afterOne unitNanos n s key now
     one-left =
         (λ i. here (c .limiter i) (c .words i))
-        ∙ ap (λ (b : Bool). here (cond b (valueOf x) l) (cond b (written (base .units) x t) t))
-        (passes-after first (checkKeyQuestions base s key now n) first-passed)
-        ∙ split (passes (checkKeyQuestions base s key now n))
+        ∙ ap (λ (b : Bool). here (cond b (valueOf x) l) (cond b (written unitNanos x t) t))
+        (passes-after first (checkKeyQuestions unitNanos s key now n) first-passed)
+        ∙ split (passes (checkKeyQuestions unitNanos s key now n))
         (λ e. rw e
-        (read-back (base .units) units-accepted x t (check-valid base units-accepted s (here-valid l t sound) key now n wk wn (all-passed e))))
+        (read-back unitNanos units-accepted x t (check-valid unitNanos units-accepted s (here-valid l t sound) key now n wk wn (all-passed e))))
         (λ e. rw e)
       where
         x : LimiterState
-        x = checkIn base s key (ownLimit s) now n
+        x = checkIn unitNanos s key (ownLimit s) now n
 
   -- ---- all of them
   pub one-by-one :
       {ps : List (List ℕ)} {l l′ : Limiter} {t t′ : LimiterTables} {ds : List (Answer Decision)} → OneByOne n ps l t ds l′ t′ → Sound l t
       → all (λ (p : List ℕ). isWord (getD p 0 0) && isWord (getD p 1 0)) ps ≡ true
-      → (ds ≡ checkEach base n ps (here l t) .answers) × (here l′ t′ ≡ checkEach base n ps (here l t) .left)
+      → (ds ≡ checkEach unitNanos n ps (here l t) .answers) × (here l′ t′ ≡ checkEach unitNanos n ps (here l t) .left)
   unfolding checkEach all
   one-by-one no-more sound w = (refl, refl)
   one-by-one (checked {p} {ps} {l} {l′} {t} {t₁} {t′} {ds} r c more) sound w =
@@ -79,6 +80,6 @@ module _ (n : ℕ) (size : isClusterSize n ≡ true) where
       let rest = one-by-one more (checked-again l t t₁ sound (getD p 0 0) (getD p 1 0) n r (k .0) (k .1) c) (b .1) in
       let left = one-left l t sound (getD p 0 0) (getD p 1 0) (k .0) (k .1) r t₁ c in (
         (λ i. one-answer l t sound (getD p 0 0) (getD p 1 0) (k .0) (k .1) r t₁ c i ∷
-            (rest .0 ∙ ap (λ (x : LimiterState). checkEach base n ps x .answers) left) i),
-        rest .1 ∙ ap (λ (x : LimiterState). checkEach base n ps x .left) left,
+            (rest .0 ∙ ap (λ (x : LimiterState). checkEach unitNanos n ps x .answers) left) i),
+        rest .1 ∙ ap (λ (x : LimiterState). checkEach unitNanos n ps x .left) left,
       )

@@ -7,28 +7,29 @@ use native.Mathlib.Omega.{arith}
 use borrow.Author.Tests.{eqb-true, not-true}
 use lib.Dec.{ltb, eqb}
 use lib.ListN.{length, length-map}
-use Rattle.records.proofs.TestLaws.{contradiction, split, both, and-intro, eqb-self}
+use Rattle.questions.proofs.Tests.{contradiction, split, both, and-intro, eqb-self, or-right}
 use Rattle.gcra.specs.declared.Units.{Units}
 use Rattle.gcra.specs.declared.Quota.{Quota}
 use Rattle.gcra.specs.Packed.{Accepted, validQuota}
 use Rattle.gcra.specs.Rate.{setQuota}
 use Rattle.gcra.proofs.Rates.{per-second-valid}
 use Rattle.demand.specs.declared.hot_set.HotEntry.{HotEntry}
-use Rattle.demand.specs.HotSet.{Outcome, isHot}
-use Rattle.demand.specs.PeerLists.{all, any, only}
-use Rattle.demand.specs.PeerState.{isWord}
-use Rattle.demand.proofs.HotSetMap.{Asc}
-use Rattle.demand.proofs.HotSetTests.{cooled-key}
-use Rattle.demand.proofs.HotSetTheorems.{Kept, kept-update}
-use Rattle.demand.proofs.PeerOrderLaws.{all-only, only-passes, all-imply, all-two, length-only}
-use Rattle.demand.proofs.PeerValidLaws.{all-take}
-use Rattle.limiter.specs.State.{Parameters, Settings, KeyRecord, ShadowRecord, LimiterState, isTracked, validKey, validShadow, validHotEntry, valid}
+use Rattle.demand.specs.HotSet.Set.{Outcome, validEntry, isHot}
+use Rattle.questions.specs.Lists.{all, any, only}
+use Rattle.records.specs.Typed.{isWord}
+use Rattle.demand.proofs.HotSet.Map.{Asc}
+use Rattle.demand.proofs.HotSet.Tests.{cooled-key}
+use Rattle.demand.proofs.HotSet.Theorems.{Kept, kept-update}
+use Rattle.demand.proofs.HotSet.ValidLaws.{updated-valid}
+use Rattle.questions.proofs.OnlyLaws.{all-only, only-passes, all-imply, all-two, length-only}
+use Rattle.demand.proofs.Peers.Validity.ValidLaws.{all-take}
+use Rattle.limiter.specs.declared.Parameters.{Parameters}
+use Rattle.limiter.specs.State.{Settings, KeyRecord, ShadowRecord, LimiterState, isTracked, validKey, validShadow, valid}
 use Rattle.limiter.specs.Ticks.{Others, Settled, insert, sorted, isElsewhere, foldedKey, coldRate, hotSet, updated, stays, passOne, rateOf, quotaOf, withQuota, passTwo, weakerKey, victims, capped, afterPasses, tickWith}
-use Rattle.limiter.proofs.States.KeyListLaws.{or-left, or-right, not-left, any-none, all-mapped, beyond, rising, rising-only, rising-map, has-only, has-map}
-use Rattle.limiter.proofs.States.RecordValidLaws.{held, limit-burst, folded-good, set-good, GoodKey, key-says, key-valid}
+use Rattle.limiter.proofs.States.KeyListLaws.{or-left, not-left, any-none, all-mapped, beyond, rising, rising-only, rising-map, has-only, has-map}
+use Rattle.limiter.proofs.States.RecordValidLaws.{limit-burst, folded-good, set-good, GoodKey, key-says, key-valid}
 use Rattle.limiter.proofs.States.StateValidLaws.{keyOfKey, keyOfShadow, ValidState, valid-says, valid-intro}
-use Rattle.demand.proofs.HotSetEntryLaws.{all-updated, cold-misses, all-hot}
-use Rattle.limiter.proofs.States.HotEntryLaws.{goods-of, new-entry-valid, renewed-valid, cooled-valid}
+use Rattle.demand.proofs.HotSet.EntryLaws.{all-updated, cold-misses, all-hot}
 
 -- ---- tests joined by 'or'
 or-without : (a b c : Bool) → ((a || b) || c) ≡ true → not b ≡ true → (a || c) ≡ true
@@ -42,7 +43,7 @@ or-middle a b c e = or-left (a || b) c (or-right a b e)
 
 -- ---- a list in an order has the same elements
 module _ {A : Type 0} (before : A → A → Bool) (p : A → Bool) where
-  all-insert : (x : A) (ys : List A) → p x ≡ true → all p ys ≡ true → all p (insert before x ys) ≡ true
+  pub all-insert : (x : A) (ys : List A) → p x ≡ true → all p ys ≡ true → all p (insert before x ys) ≡ true
   unfolding insert all
   all-insert x [] h a = and-intro (p x) true h refl
   all-insert x (y ∷ ys) h a =
@@ -76,10 +77,7 @@ quota-kept u a k q now w v =
       gcra = set-good u (k .gcra) q now w (g .gcra);
     })
 
-module _ (par : Parameters) (a : Accepted (par .units)) (s : Settings) (o : Others) (now n : ℕ) (hn : isWord now ≡ true) where
-  abbrev u : Units
-  u = par .units
-
+module _ (par : Parameters) (u : Units) (a : Accepted u) (s : Settings) (o : Others) (now n : ℕ) (hn : isWord now ≡ true) where
   -- the most hot keys
   abbrev size : ℕ
   size = s .config .«hot_set_size»
@@ -108,7 +106,7 @@ module _ (par : Parameters) (a : Accepted (par .units)) (s : Settings) (o : Othe
   pub record Ready (kept : ℕ → Bool) (ks : List KeyRecord) (es : List HotEntry) : Type 0 where
     pub keys : all (validKey u) ks ≡ true
     pub rise : rising keyOfKey ks ≡ true
-    pub hot : all validHotEntry es ≡ true
+    pub hot : all validEntry es ≡ true
     pub hot-rise : Asc es
     pub hot-few : length es ≤ size
     pub hot-tracked : all (λ (e : HotEntry). kept (e .key) || isTracked ks (e .key)) es ≡ true
@@ -132,23 +130,21 @@ module _ (par : Parameters) (a : Accepted (par .units)) (s : Settings) (o : Othe
     -- the hot set's own law of an update
     out-kept : Kept size (k .key) out
     out-kept =
-        kept-update (par .evictionMargin) (hotSet par s o now n es) (k .key) (fold k .demand .rate) (coldRate par s o now n (k .limit)) now (isElsewhere par s o now n (fold k))
-        (held (fold k .demand .rate) (good .demand .rate)) (good .demand .finite) es (r .hot-rise) (goods-of es (r .hot)) (r .hot-few)
+        kept-update (par .«eviction_margin») (hotSet par s o now n es) (k .key) (fold k .demand .rate) (coldRate par s o now n (k .limit)) now (isElsewhere par s o now n (fold k))
+        es (r .hot-rise) (r .hot-few)
 
     -- every entry stays valid
-    out-valid : all validHotEntry (out .left) ≡ true
+    out-valid : all validEntry (out .left) ≡ true
     out-valid =
-        all-updated validHotEntry (par .evictionMargin) (s .config .cooldown) size (k .key) (fold k .demand .rate) now
-        (new-entry-valid (k .key) (fold k .demand .rate) now (good .key) (good .demand .rate) (good .demand .finite) hn)
-        (renewed-valid (k .key) (fold k .demand .rate) now (good .key) (good .demand .rate) (good .demand .finite) hn)
-        (cooled-valid (k .key) (fold k .demand .rate) now (good .key) (good .demand .rate) (good .demand .finite) hn (s .config .cooldown))
-        (hotSet par s o now n es) refl refl (coldRate par s o now n (k .limit)) (isElsewhere par s o now n (fold k)) es (r .hot)
+        updated-valid (par .«eviction_margin») (hotSet par s o now n es) (k .key) (fold k .demand .rate) (coldRate par s o now n (k .limit)) now (isElsewhere par s o now n (fold k)) es
+        (record { key-word = good .key; demand-f64 = good .demand .rate; finite = good .demand .finite; now-word = hn })
+        (r .hot)
 
     -- each entry's key is kept before, this one, or still to come
     out-tracked : all (λ (e : HotEntry). (kept (e .key) || eqb (k .key) (e .key)) || isTracked ks (e .key)) (out .left) ≡ true
     unfolding isTracked any
     out-tracked =
-        all-updated (λ (e : HotEntry). (kept (e .key) || eqb (k .key) (e .key)) || isTracked ks (e .key)) (par .evictionMargin) (s .config .cooldown) size (k .key) (fold k .demand .rate) now
+        all-updated (λ (e : HotEntry). (kept (e .key) || eqb (k .key) (e .key)) || isTracked ks (e .key)) (par .«eviction_margin») (s .config .cooldown) size (k .key) (fold k .demand .rate) now
         (λ primary. or-middle (kept (k .key)) (eqb (k .key) (k .key)) (isTracked ks (k .key)) (eqb-self (k .key)))
         (λ primary e h. h)
         (λ e h. ap (λ (j : ℕ). (kept j || eqb (k .key) j) || isTracked ks j) (cooled-key (s .config .cooldown) (fold k .demand .rate) now e) ∙ h)
@@ -232,9 +228,9 @@ module _ (par : Parameters) (a : Accepted (par .units)) (s : Settings) (o : Othe
   -- ---- pass two
 
   -- every rate gives a valid quota, a NaN and an infinite one too
-  rate-kept : (es : List HotEntry) (k : KeyRecord) → validKey u k ≡ true → validKey u (withQuota par s o now n es k) ≡ true
+  rate-kept : (es : List HotEntry) (k : KeyRecord) → validKey u k ≡ true → validKey u (withQuota par s o now n u es k) ≡ true
   rate-kept es k v =
-      quota-kept u a k (quotaOf par s o now n es k) now
+      quota-kept u a k (quotaOf par s o now n u es k) now
       (per-second-valid u a (rateOf par s o now n es k) (k .limit .burst) (limit-burst (k .limit) (key-says u k v .limit))) v
 
   -- ---- the tracked-key cap
@@ -269,24 +265,24 @@ module _ (par : Parameters) (a : Accepted (par .units)) (s : Settings) (o : Othe
 
     -- the keys after pass two
     abbrev pub second : List KeyRecord
-    second = passTwo par s o now n (done .hot) (done .keys)
+    second = passTwo par s o now n u (done .hot) (done .keys)
 
     -- they are valid
     second-keys : all (validKey u) second ≡ true
-    second-keys = all-mapped (withQuota par s o now n (done .hot)) (validKey u) (validKey u) (done .keys) (rate-kept (done .hot)) (first .ready .keys)
+    second-keys = all-mapped (withQuota par s o now n u (done .hot)) (validKey u) (validKey u) (done .keys) (rate-kept (done .hot)) (first .ready .keys)
 
     -- they rise
     pub second-rise : rising keyOfKey second ≡ true
-    second-rise = rising-map keyOfKey (withQuota par s o now n (done .hot)) (λ k. refl) (done .keys) ∙ first .ready .rise
+    second-rise = rising-map keyOfKey (withQuota par s o now n u (done .hot)) (λ k. refl) (done .keys) ∙ first .ready .rise
 
     -- they are no more than before
     second-few : length second ≤ length keys
-    second-few = omega (arith, length-map (done .keys) (withQuota par s o now n (done .hot)), first .few)
+    second-few = omega (arith, length-map (done .keys) (withQuota par s o now n u (done .hot)), first .few)
 
     -- they have the keys of pass one
     second-tracks : (j : ℕ) → isTracked (done .keys) j ≡ true → isTracked second j ≡ true
     unfolding isTracked
-    second-tracks j h = has-map keyOfKey (withQuota par s o now n (done .hot)) (λ k. refl) j (done .keys) ∙ h
+    second-tracks j h = has-map keyOfKey (withQuota par s o now n u (done .hot)) (λ k. refl) j (done .keys) ∙ h
 
     -- the keys after the cap
     abbrev third : List KeyRecord
@@ -299,7 +295,7 @@ module _ (par : Parameters) (a : Accepted (par .units)) (s : Settings) (o : Othe
         (λ e h t. hot-stays (done .hot) second (e .key) h (second-tracks (e .key) t)) (all-hot (done .hot)) (first .ready .hot-tracked)
 
     -- all of it together
-    pub ticked-valid : ValidState u (afterPasses par s o now n shadows done)
+    pub ticked-valid : ValidState u (afterPasses par s o now n u shadows done)
     unfolding capped
     ticked-valid =
         let spare : KeyRecord → Bool = λ (k : KeyRecord). not (isTracked (victims par s o now n (done .hot) second) (k .key)) in
@@ -319,7 +315,7 @@ module _ (par : Parameters) (a : Accepted (par .units)) (s : Settings) (o : Othe
         }
 
 -- any others, any reading that is a word, any cluster size
-pub tick-valid : (par : Parameters) → Accepted (par .units) → (o : Others) (now n : ℕ) (s : LimiterState) → isWord now ≡ true → valid (par .units) s ≡ true → valid (par .units) (tickWith par o now n s) ≡ true
+pub tick-valid : (par : Parameters) (u : Units) → Accepted u → (o : Others) (now n : ℕ) (s : LimiterState) → isWord now ≡ true → valid u s ≡ true → valid u (tickWith par u o now n s) ≡ true
 unfolding tickWith
-tick-valid par a o now n s hn e =
-    valid-intro (par .units) (tickWith par o now n s) (ticked-valid par a (s .settings) o now n hn (s .keys) (s .hot) (s .shadows) (valid-says (par .units) s e))
+tick-valid par u a o now n s hn e =
+    valid-intro u (tickWith par u o now n s) (ticked-valid par u a (s .settings) o now n hn (s .keys) (s .hot) (s .shadows) (valid-says u s e))

@@ -4,11 +4,13 @@ use Prim.Native.Nat.{ℕ, _≤_}
 use mathlib.Core.Path.{_≡_}
 use mathlib.Core.Bool.{true}
 use lib.ListN.{length}
+use Rattle.gcra.specs.declared.Units.{Units}
 use Rattle.gcra.specs.Packed.{Accepted}
 use Rattle.demand.specs.declared.hot_set.HotEntry.{HotEntry}
-use Rattle.demand.specs.PeerLists.{all}
-use Rattle.demand.specs.PeerState.{isWord}
-use Rattle.limiter.specs.State.{Parameters, ShadowRecord, LimiterState, isTracked, valid}
+use Rattle.questions.specs.Lists.{all}
+use Rattle.records.specs.Typed.{isWord}
+use Rattle.limiter.specs.declared.Parameters.{Parameters}
+use Rattle.limiter.specs.State.{ShadowRecord, LimiterState, isTracked, valid}
 use Rattle.limiter.specs.Ticks.{Others, tickWith}
 use Rattle.limiter.proofs.States.StateValidLaws.{valid-says}
 use Rattle.limiter.proofs.Calls.TickValidLaws.{tick-valid}
@@ -19,15 +21,15 @@ pub record Tracks (s : LimiterState) : Type 0 where
   pub shadows : all (λ (x : ShadowRecord). isTracked (s .keys) (x .key)) (s .shadows) ≡ true
   pub few-hot : length (s .hot) ≤ s .settings .config .«hot_set_size»
 
-module _ (par : Parameters) where
+module _ (par : Parameters) (u : Units) where
   -- every valid state, and so every state that a call leaves
-  pub valid-tracks : (s : LimiterState) → valid (par .units) s ≡ true → Tracks s
+  pub valid-tracks : (s : LimiterState) → valid u s ≡ true → Tracks s
   valid-tracks s e =
-      let v = valid-says (par .units) s e in
+      let v = valid-says u s e in
       record { hot = v .hot-tracked; shadows = v .shadows-tracked; few-hot = v .hot-few }
 
   -- after a tick, whatever the others hold hot
   pub tick-tracks :
-      Accepted (par .units) → (o : Others) (now n : ℕ) (s : LimiterState) → isWord now ≡ true → valid (par .units) s ≡ true
-      → Tracks (tickWith par o now n s) × (length (tickWith par o now n s .keys) ≤ s .settings .config .«max_tracked_keys»)
-  tick-tracks a o now n s h e = (valid-tracks (tickWith par o now n s) (tick-valid par a o now n s h e), tick-tracks-few par a o now n s h e)
+      Accepted u → (o : Others) (now n : ℕ) (s : LimiterState) → isWord now ≡ true → valid u s ≡ true
+      → Tracks (tickWith par u o now n s) × (length (tickWith par u o now n s .keys) ≤ s .settings .config .«max_tracked_keys»)
+  tick-tracks a o now n s h e = (valid-tracks (tickWith par u o now n s) (tick-valid par u a o now n s h e), tick-tracks-few par u a o now n s h e)

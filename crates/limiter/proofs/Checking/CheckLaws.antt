@@ -10,24 +10,24 @@ use lib.Dec.{ltb, leb, lit<}
 use lib.Ieee.{Float, inf, binary64, ofBits}
 use lib.ListN.{length}
 use Rattle.records.specs.Records.{table}
-use Rattle.records.proofs.TestLaws.{split, both}
+use Rattle.questions.proofs.Tests.{split, both}
 use Rattle.gcra.specs.declared.Quota.{Quota}
 use Rattle.gcra.specs.declared.Tat.{Tat}
 use Rattle.gcra.specs.declared.Tat.the-variants.{At}
 use Rattle.gcra.specs.declared.Gcra.{Gcra}
 use Rattle.gcra.specs.declared.Decision.{Decision}
 use Rattle.gcra.specs.Packed.{validBurst, validQuota, withInterval}
-use Rattle.gcra.specs.Meter.{isAllow, moved, parameters, tatAt, decision, check}
+use Rattle.gcra.specs.Meter.{isAllow, moved, paceOf, tatAt, decision, check}
 use Rattle.gcra.specs.Rate.{perSecond}
-use Rattle.gcra.specs.Questions.{Question, _asks_, Answer, refused, answer, passes, firstNo}
-use Rattle.gcra.proofs.Answers.{answer-no, answer-passed, changed-passed, kept-no, passed-none}
-use Rattle.demand.specs.PeerState.{isWord}
+use Rattle.questions.specs.Questions.{Question, _asks_, Answer, refused, answer, passes, firstNo}
+use Rattle.questions.proofs.Answers.{answer-no, answer-passed, changed-passed, kept-no, passed-none}
+use Rattle.records.specs.Typed.{isWord}
 use Rattle.limiter.specs.declared.Limit.{Limit}
 use Rattle.limiter.specs.declared.Limiter.{Limiter}
 use Rattle.limiter.specs.declared.Tally.{Tally}
 use Rattle.limiter.specs.declared.checks.KeyEntry.{KeyEntry}
 use Rattle.limiter.specs.declared.checks.Raised.{Raised}
-use Rattle.limiter.specs.State.{base, KeyRecord, putKey, keyWords}
+use Rattle.limiter.specs.State.{KeyRecord, putKey, keyWords}
 use Rattle.limiter.specs.Checks.{entry, raised, checkedKey, talliedKey, denied, countersFit, hasPlace, keyQuestions}
 use Rattle.limiter.specs.Steps.KeySteps.{units, keyRecord}
 use Rattle.limiter.specs.Steps.CheckSteps.{keysIn, keysOnly, counting, Ready, Placed, Enters, placeQuestions, Puts, Raises, answered, Acts}
@@ -96,7 +96,7 @@ module _ (attempts denials shadowDenials : ℕ) (g : Gcra) (k : KeyRecord) where
 -- a check leaves the quota
 pub check-quota : (g : Gcra) (now : ℕ) → check g now .quota ≡ g .quota
 unfolding check
-check-quota g now = by (isAllow (decision g now)) (At (moved (parameters (g .quota)) (tatAt (g .tat) now) now))
+check-quota g now = by (isAllow (decision g now)) (At (moved (paceOf (g .quota)) (tatAt (g .tat) now) now))
   where
     by : (b : Bool) (t : Tat) → cond b (record { quota = g .quota; tat = t }) g .quota ≡ g .quota
     by true t = refl
@@ -172,8 +172,8 @@ module _ (l : Limiter) (xs : List ℕ) (r : Ready l xs) (key : ℕ) (limit : Lim
   pub check-acts : (d : Decision) (g : Gcra) (m : ℕ) (x : Raised) (said : Answer Decision) (l′ : Limiter) (ys : List ℕ)
       → d ≡ decision (e .state .gcra) now → g ≡ check (e .state .gcra) now → m ≡ denied d → said ≡ answered (x .no) d → l′ ≡ x .limiter
       → Raises (raised 1 m 0 g (keyRecord (e .state))) l xs x ys
-      → Acts said (decision (entry base (keysOnly l xs) key limit now n .gcra) now)
-      (checkedKey now none (entry base (keysOnly l xs) key limit now n)) l xs l′ ys
+      → Acts said (decision (entry units (keysOnly l xs) key limit now n .gcra) now)
+      (checkedKey now none (entry units (keysOnly l xs) key limit now n)) l xs l′ ys
   check-acts d g m x said l′ ys ed eg em es el er =
       let k = keyRecord (e .state) in
       subst (λ (y : KeyRecord). Acts said (decision (y .gcra) now) (checkedKey now none y) l xs l′ ys) (h .state)
@@ -182,7 +182,7 @@ module _ (l : Limiter) (xs : List ℕ) (r : Ready l xs) (key : ℕ) (limit : Lim
 
   -- a record of it
   pub record-acts : (y : Tally) (x : Raised) (said : Answer Unit) (l′ : Limiter) (ys : List ℕ) → said ≡ answered (x .no) tt → l′ ≡ x .limiter
-      → Raises (talliedKey y (keyRecord (e .state))) l xs x ys → Acts said tt (talliedKey y (entry base (keysOnly l xs) key limit now n)) l xs l′ ys
+      → Raises (talliedKey y (keyRecord (e .state))) l xs x ys → Acts said tt (talliedKey y (entry units (keysOnly l xs) key limit now n)) l xs l′ ys
   record-acts y x said l′ ys es el er =
       subst (λ (k : KeyRecord). Acts said tt (talliedKey y k) l xs l′ ys) (h .state)
       (raises-acts l xs (talliedKey y (keyRecord (e .state))) said tt x l′ ys es el er)

@@ -12,31 +12,29 @@ use lib.ListN.{length, getD, set, take, drop, length-map}
 use lib.Seq.{sets-eq, getD-take, getD-drop}
 use Rattle.records.specs.Records.{records, flat, table, ascending, fits}
 use Rattle.records.specs.Words.{paste}
-use Rattle.records.proofs.TestLaws.{both, and-intro}
+use Rattle.questions.proofs.Tests.{both, and-intro}
 use Rattle.records.proofs.RecordLaws.{length-records, records-split}
 use Rattle.records.proofs.TableLaws.{Wide, length-flat}
 use Rattle.gcra.specs.declared.Decision.{Decision}
 use Rattle.gcra.specs.declared.Decision.the-variants.{Allow, Deny}
 use Rattle.gcra.specs.Packed.{validBurst}
-use Rattle.gcra.specs.Questions.{Question, Answer, refused, given, passes, firstNo}
+use Rattle.questions.specs.Questions.{Question, Answer, refused, given, passes, firstNo}
 use Rattle.gcra.specs.Calls.{checkAnswer}
-use Rattle.gcra.proofs.Answers.{answer-no, answer-passed, changed-passed, kept-no, passed-none}
+use Rattle.questions.proofs.Answers.{answer-no, answer-passed, changed-passed, kept-no, passed-none}
 use Rattle.gcra.proofs.Encoding.{units-accepted}
+use Rattle.gcra.specs.declared.Units.{Units}
 use Rattle.demand.specs.declared.peer_demand.ChangeAnswer.the-variants.{No, Done}
 use Rattle.demand.specs.Allocation.{isClusterSize}
-use Rattle.demand.specs.PeerLists.{all}
-use Rattle.demand.specs.PeerState.{isWord, exact}
-use Rattle.demand.proofs.HotSetMap.{Asc}
-use Rattle.demand.proofs.PeerTableLaws.{table-same}
-use Rattle.demand.proofs.PeerRangeLaws.{map-append}
-use Rattle.demand.proofs.PeerWordLaws.{words-of-exact, wide-map}
+use Rattle.questions.specs.Lists.{all}
+use Rattle.records.specs.Typed.{isWord, exact}
+use Rattle.demand.proofs.HotSet.Map.{Asc}
+use Rattle.records.proofs.TabledLaws.{table-same}
+use Rattle.questions.proofs.OnlyLaws.{map-append}
+use Rattle.records.proofs.TypedLaws.{words-of-exact, wide-map, records-written, all-back, all-exact, length-written}
 use Rattle.limiter.specs.declared.Limiter.{Limiter}
 use Rattle.limiter.specs.declared.Checked.{Checked}
-use Rattle.limiter.specs.State.{base, Parameters, KeyRecord, LimiterState, LimiterTables, tables, lengths, haveRoom, keyWords, keyOf, putKey}
-use Rattle.limiter.specs.State.{settingsOf}
-use Rattle.limiter.specs.State.{validSettings, validKey, valid, stateOf, isValid, valueOf, written}
-use Rattle.limiter.specs.Checks.{holding, entry, checkedKey, keyDecision, checkIn, ownLimit, hasPlace, keyQuestions, checkKeyQuestions}
-use Rattle.limiter.specs.Checks.{Answers, checkOne, afterOne, checkEach}
+use Rattle.limiter.specs.State.{KeyRecord, LimiterState, LimiterTables, tables, lengths, haveRoom, keyWords, keyOf, putKey, settingsOf, validSettings, validKey, valid, stateOf, isValid, valueOf, written}
+use Rattle.limiter.specs.Checks.{holding, entry, checkedKey, keyDecision, checkIn, ownLimit, hasPlace, keyQuestions, checkKeyQuestions, Answers, checkOne, afterOne, checkEach}
 use Rattle.limiter.specs.Calls.{answerWords, here, eachAsked, ChecksEach}
 use Rattle.limiter.specs.Steps.KeySteps.{units}
 use Rattle.limiter.specs.Steps.CheckSteps.{keysIn, keysOnly, counting, Ready, ChecksKey}
@@ -45,23 +43,22 @@ use Rattle.limiter.proofs.Calls.CheckValidLaws.{check-each-valid}
 use Rattle.limiter.proofs.States.KeyListLaws.{rising, rising-says, rising-ascends}
 use Rattle.limiter.proofs.States.RecordValidLaws.{limit-burst}
 use Rattle.limiter.proofs.States.StateValidLaws.{keyOfKey, settings-say, ValidState, valid-says, valid-intro}
-use Rattle.limiter.proofs.States.TypedTableLaws.{records-written, all-back, all-exact, length-written}
 use Rattle.limiter.proofs.States.WrittenLaws.{key-back, key-long}
-use Rattle.demand.proofs.PeerKeepLaws.{drop-past, paste-more}
+use Rattle.records.proofs.KeepLaws.{drop-past, paste-more}
 use Rattle.limiter.proofs.Checking.KeyTableLaws.{counted-keys, no-fewer}
 use Rattle.limiter.proofs.Checking.LiftLaws.{state-valid, ready, shadows-counted, shadows-still, value-after, written-after}
 
 -- ---- lists of checks
-module _ (par : Parameters) (n : ℕ) where
+module _ (u : Units) (n : ℕ) where
   -- a check of a pair, and what it leaves
   abbrev one : LimiterState → List ℕ → Answer Decision
-  one s r = checkOne par n s (getD r 0 0) (getD r 1 0)
+  one s r = checkOne u n s (getD r 0 0) (getD r 1 0)
 
   abbrev next : LimiterState → List ℕ → LimiterState
-  next s r = afterOne par n s (getD r 0 0) (getD r 1 0)
+  next s r = afterOne u n s (getD r 0 0) (getD r 1 0)
 
   -- an answer for each
-  pub each-length : (rs : List (List ℕ)) (s : LimiterState) → length (checkEach par n rs s .answers) ≡ length rs
+  pub each-length : (rs : List (List ℕ)) (s : LimiterState) → length (checkEach u n rs s .answers) ≡ length rs
   unfolding checkEach
   each-length [] s = refl
   each-length (r ∷ rs) s = ap (λ (m : ℕ). suc m) (each-length rs (next s r))
@@ -69,8 +66,8 @@ module _ (par : Parameters) (n : ℕ) where
   -- one more
   pub each-snoc :
       (rs : List (List ℕ)) (r : List ℕ) (s : LimiterState)
-      → let a = checkEach par n rs s in
-      checkEach par n (rs ++ (r ∷ [])) s ≡ record { answers = a .answers ++ (one (a .left) r ∷ []); left = next (a .left) r }
+      → let a = checkEach u n rs s in
+      checkEach u n (rs ++ (r ∷ [])) s ≡ record { answers = a .answers ++ (one (a .left) r ∷ []); left = next (a .left) r }
   unfolding checkEach
   each-snoc [] r s = refl
   each-snoc (q ∷ rs) r s = ap (λ (a : Answers). record { answers = one s q ∷ a .answers; left = a .left }) (each-snoc rs r (next s q))
@@ -78,17 +75,17 @@ module _ (par : Parameters) (n : ℕ) where
   -- all but the keys is left
   next-holds : (s : LimiterState) (r : List ℕ) (ks : List KeyRecord) → holding (next s r) ks (next s r .shadows) ≡ holding s ks (s .shadows)
   unfolding checkIn
-  next-holds s r ks = by (passes (checkKeyQuestions par s (getD r 0 0) (getD r 1 0) n))
+  next-holds s r ks = by (passes (checkKeyQuestions u s (getD r 0 0) (getD r 1 0) n))
     where
       by : (b : Bool)
-          → let x = cond b (checkIn par s (getD r 0 0) (ownLimit s) (getD r 1 0) n) s in holding x ks (x .shadows) ≡ holding s ks (s .shadows)
+          → let x = cond b (checkIn u s (getD r 0 0) (ownLimit s) (getD r 1 0) n) s in holding x ks (x .shadows) ≡ holding s ks (s .shadows)
       by true = refl
       by false = refl
 
-  pub each-holds : (rs : List (List ℕ)) (s : LimiterState) → checkEach par n rs s .left ≡ holding s (checkEach par n rs s .left .keys) (s .shadows)
+  pub each-holds : (rs : List (List ℕ)) (s : LimiterState) → checkEach u n rs s .left ≡ holding s (checkEach u n rs s .left .keys) (s .shadows)
   unfolding checkEach
   each-holds [] s = refl
-  each-holds (r ∷ rs) s = each-holds rs (next s r) ∙ next-holds s r (checkEach par n rs (next s r) .left .keys)
+  each-holds (r ∷ rs) s = each-holds rs (next s r) ∙ next-holds s r (checkEach u n rs (next s r) .left .keys)
 
   -- hot entries and shadows are not read
   abbrev bare : LimiterState → LimiterState
@@ -96,11 +93,11 @@ module _ (par : Parameters) (n : ℕ) where
 
   next-bare : (s : LimiterState) (r : List ℕ) → next (bare s) r ≡ bare (next s r)
   unfolding checkIn entry hasPlace
-  next-bare s r = by (passes (checkKeyQuestions par s (getD r 0 0) (getD r 1 0) n))
+  next-bare s r = by (passes (checkKeyQuestions u s (getD r 0 0) (getD r 1 0) n))
     where
       by : (b : Bool)
-          → cond b (checkIn par (bare s) (getD r 0 0) (ownLimit s) (getD r 1 0) n) (bare s) ≡ bare
-          (cond b (checkIn par s (getD r 0 0) (ownLimit s) (getD r 1 0) n) s)
+          → cond b (checkIn u (bare s) (getD r 0 0) (ownLimit s) (getD r 1 0) n) (bare s) ≡ bare
+          (cond b (checkIn u s (getD r 0 0) (ownLimit s) (getD r 1 0) n) s)
       by true = refl
       by false = refl
 
@@ -109,17 +106,17 @@ module _ (par : Parameters) (n : ℕ) where
   one-bare s r = refl
 
   pub each-bare : (rs : List (List ℕ)) (s : LimiterState)
-      → checkEach par n rs (bare s) ≡ record { answers = checkEach par n rs s .answers; left = bare (checkEach par n rs s .left) }
+      → checkEach u n rs (bare s) ≡ record { answers = checkEach u n rs s .answers; left = bare (checkEach u n rs s .left) }
   unfolding checkEach
   each-bare [] s = refl
   each-bare (r ∷ rs) s =
       let more : Answers → Answers = (λ (a : Answers). record { answers = one s r ∷ a .answers; left = a .left }) in
       ap (λ (x : Answer Decision). record {
-        answers = x ∷ checkEach par n rs (next (bare s) r) .answers;
+        answers = x ∷ checkEach u n rs (next (bare s) r) .answers;
         left =
-            checkEach par n rs (next (bare s) r) .left;
+            checkEach u n rs (next (bare s) r) .left;
       }) (one-bare s r)
-      ∙ ap (λ (x : LimiterState). more (checkEach par n rs x)) (next-bare s r)
+      ∙ ap (λ (x : LimiterState). more (checkEach u n rs x)) (next-bare s r)
       ∙ ap more (each-bare rs (next s r))
 
 -- ---- tables
@@ -167,10 +164,10 @@ each-room len count = let e : count * 3 ≡ 3 * count = omega arith in ap (λ (m
 
 -- a check leaves a valid state
 after-valid : (s : LimiterState) → valid units s ≡ true → (key now n : ℕ) → isWord key ≡ true → isWord now ≡ true
-    → valid units (afterOne base n s key now) ≡ true
+    → valid units (afterOne units n s key now) ≡ true
 unfolding checkEach all
 after-valid s v key now n wk wn =
-    check-each-valid base units-accepted n ((key ∷ now ∷ []) ∷ []) s
+    check-each-valid units units-accepted n ((key ∷ now ∷ []) ∷ []) s
     (and-intro (isWord key && isWord now) true (and-intro (isWord key) (isWord now) wk wn) refl) v
 
 -- ---- the key table of a state whose keys are ks
@@ -231,16 +228,16 @@ module _ (l : Limiter) (xs : List ℕ) (room : l .config .«table_size» * 22 �
   -- a check of one key is that of the definitions
   module _ (key now n : ℕ) (r : Checked) (ys : List ℕ) (h : ChecksKey counts words key (l .config .limit) now n r ys) where
     abbrev after : LimiterState
-    after = afterOne base n (keysAs l ks) key now
+    after = afterOne units n (keysAs l ks) key now
 
     abbrev asked : List KeyRecord → List Question
-    asked js = checkKeyQuestions base (keysAs l js) key now n
+    asked js = checkKeyQuestions units (keysAs l js) key now n
 
     abbrev put : List KeyRecord → List KeyRecord
-    put js = putKey (checkedKey now none (entry base (keysAs l js) key (l .config .limit) now n)) js
+    put js = putKey (checkedKey now none (entry units (keysAs l js) key (l .config .limit) now n)) js
 
-    pub one-answer : checkAnswer (r .answer) ≡ checkOne base n (keysAs l ks) key now
-    one-answer = h .says ∙ ap (λ (js : List KeyRecord). checkOne base n (keysAs l js) key now) keys-back
+    pub one-answer : checkAnswer (r .answer) ≡ checkOne units n (keysAs l ks) key now
+    one-answer = h .says ∙ ap (λ (js : List KeyRecord). checkOne units n (keysAs l js) key now) keys-back
 
     pub one-limiter : r .limiter ≡ counting l (length (after .keys))
     unfolding checkIn
@@ -249,7 +246,7 @@ module _ (l : Limiter) (xs : List ℕ) (room : l .config .«table_size» * 22 �
       where
         by : (b : Bool)
             → cond b (counting l (length (put ks))) counts ≡ counting l
-            (length (cond b (checkIn base (keysAs l ks) key (l .config .limit) now n) (keysAs l ks) .keys))
+            (length (cond b (checkIn units (keysAs l ks) key (l .config .limit) now n) (keysAs l ks) .keys))
         by true = refl
         by false = refl
 
@@ -262,8 +259,8 @@ module _ (l : Limiter) (xs : List ℕ) (room : l .config .«table_size» * 22 �
       where
         by : (b : Bool)
             → cond b (table (map (keyWords units) (put ks)) words) words ≡ table
-            (map (keyWords units) (cond b (checkIn base (keysAs l ks) key (l .config .limit) now n) (keysAs l ks) .keys)) xs
-        by true = put-over (checkedKey now none (entry base (keysAs l ks) key (l .config .limit) now n))
+            (map (keyWords units) (cond b (checkIn units (keysAs l ks) key (l .config .limit) now n) (keysAs l ks) .keys)) xs
+        by true = put-over (checkedKey now none (entry units (keysAs l ks) key (l .config .limit) now n))
         by false = refl
 
 -- ---- the loop over the pairs
@@ -321,7 +318,7 @@ module _ (l : Limiter) (xs list : List ℕ) (count n : ℕ) (out : List ℕ) (p 
   module _ (i : ℕ) (l′ : Limiter) (xs′ out′ : List ℕ) (h : Reached l xs list n out i l′ xs′ out′) where
     -- all but the keys is as it was
     left-is : upTo i .left ≡ keysAt i
-    left-is = each-holds base n (records 2 i list) (keysOnly l xs)
+    left-is = each-holds units n (records 2 i list) (keysOnly l xs)
 
     at-valid : valid units (keysAt i) ≡ true
     at-valid = sym (ap (valid units) left-is) ∙ h .ok
@@ -334,7 +331,7 @@ module _ (l : Limiter) (xs list : List ℕ) (count n : ℕ) (out : List ℕ) (p 
 
     -- the tables are as long as they were
     answered : length (upTo i .answers) ≡ i
-    answered = each-length base n (records 2 i list) (keysOnly l xs) ∙ length-records 2 i list
+    answered = each-length units n (records 2 i list) (keysOnly l xs) ∙ length-records 2 i list
 
     pub reached-keys : length xs′ ≡ length xs
     reached-keys =
@@ -355,19 +352,19 @@ module _ (l : Limiter) (xs list : List ℕ) (count n : ℕ) (out : List ℕ) (p 
     now = getD list (i * 2 + 1) 0
 
     next-pair : upTo
-        (i + 1) ≡ record { answers = upTo i .answers ++ (checkOne base n (keysAt i) key now ∷ []); left = afterOne base n (keysAt i) key now }
+        (i + 1) ≡ record { answers = upTo i .answers ++ (checkOne units n (keysAt i) key now ∷ []); left = afterOne units n (keysAt i) key now }
     unfolding records
     next-pair =
         let row = take 2 (drop (i * 2) list) in
         let word : (j : ℕ) → j < 2
         → getD row j 0 ≡ getD list (i * 2 + j) 0 = (λ j b. getD-take 2 (drop (i * 2) list) j 0 b ∙ getD-drop (i * 2) list j 0) in
         let first : getD row 0 0 ≡ key = word 0 (lit< tt) ∙ ap (λ (m : ℕ). getD list m 0) (add-zero (i * 2)) in
-        ap (λ (rs : List (List ℕ)). checkEach base n rs (keysOnly l xs)) (records-split 2 i 1 list)
-        ∙ each-snoc base n (records 2 i list) row (keysOnly l xs)
+        ap (λ (rs : List (List ℕ)). checkEach units n rs (keysOnly l xs)) (records-split 2 i 1 list)
+        ∙ each-snoc units n (records 2 i list) row (keysOnly l xs)
         ∙ (λ j.
         record {
-          answers = upTo i .answers ++ (checkOne base n (left-is j) (first j) (word 1 (lit< tt) j) ∷ []);
-          left = afterOne base n (left-is j) (first j) (word 1 (lit< tt) j);
+          answers = upTo i .answers ++ (checkOne units n (left-is j) (first j) (word 1 (lit< tt) j) ∷ []);
+          left = afterOne units n (left-is j) (first j) (word 1 (lit< tt) j);
         })
 
     module _ (r : Checked) (ys out″ : List ℕ) (c : ChecksKey l′ xs′ key (l .config .limit) now n r ys)
@@ -383,7 +380,7 @@ module _ (l : Limiter) (xs list : List ℕ) (count n : ℕ) (out : List ℕ) (p 
       next-output : out″ ≡ table (map answerWords (upTo (i + 1) .answers)) out
       next-output =
           let said = upTo i .answers in
-          let a = checkOne base n (keysAt i) key now in
+          let a = checkOne units n (keysAt i) key now in
           let long : length (map answerWords said) ≡ i = length-map said answerWords ∙ answered in
           e
           ∙ (λ j. paste (sym long j * 3) (answerWords (one-answer l xs (p .keys .room) (upTo i .left .keys) at-valid key now n r ys checks j))
@@ -452,9 +449,9 @@ module _ (l : Limiter) (t : LimiterTables) (list : List ℕ) (count n : ℕ) (ou
   unfolding stateOf
   each-lifted a l′ xs′ out′ h =
       let s = here l t in
-      let x = checkEach base n (records 2 count list) s in
-      let bared = each-bare base n (records 2 count list) s in
-      let held = each-holds base n (records 2 count list) s in
+      let x = checkEach units n (records 2 count list) s in
+      let bared = each-bare units n (records 2 count list) s in
+      let held = each-holds units n (records 2 count list) s in
       record {
         acts = record {
           answered = answer-passed tt asks (a .all);

@@ -9,9 +9,9 @@ use lib.ListN.{getD, drop}
 use lib.Seq.{getD-drop, drop-drop}
 use Rattle.gcra.specs.declared.Tat.the-variants.{At}
 use Rattle.gcra.specs.Packed.{unpack}
-use Rattle.gcra.specs.Questions.{Question, Answer, refused, given, answer, passes}
-use Rattle.gcra.proofs.Answers.{given-passed, answer-passed}
-use Rattle.demand.specs.Words.{timeOf}
+use Rattle.questions.specs.Questions.{Question, Answer, refused, given, answer, passes}
+use Rattle.questions.proofs.Answers.{given-passed, answer-passed}
+use Rattle.records.specs.Fields.{timeOf}
 use Rattle.limiter.specs.State.{floatOf, estimateOf, gcraOf, tatFrom, keyOf}
 use Rattle.limiter.specs.Steps.KeySteps.{units}
 

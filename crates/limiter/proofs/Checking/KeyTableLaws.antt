@@ -13,27 +13,25 @@ use lib.Seq.{getD-take, getD-drop}
 use Rattle.records.specs.declared.Found.{Found}
 use Rattle.records.specs.declared.Found.the-variants.{At, Gap, Unfit}
 use Rattle.records.specs.Records.{records, findIn, overwritten, inserted}
-use Rattle.records.proofs.TestLaws.{both}
+use Rattle.questions.proofs.Tests.{both}
 use Rattle.gcra.specs.Packed.{pack, unpacks, validBurst, validQuota, validWord}
 use Rattle.gcra.proofs.Encoding.{units-accepted}
 use Rattle.gcra.proofs.Packing.{pack-valid}
 use Rattle.gcra.proofs.Validity.{valid-burst}
 use Rattle.gcra.proofs.Rates.{per-second-valid}
-use Rattle.demand.specs.PeerLists.{all, first, those}
-use Rattle.demand.proofs.PeerListLaws.{all-index}
-use Rattle.demand.proofs.PeerOrderLaws.{only-passes}
-use Rattle.demand.proofs.PeerRangeLaws.{any-number}
-use Rattle.demand.proofs.PeerRowLaws.{word-at}
+use Rattle.questions.specs.Lists.{all, first, those}
+use Rattle.questions.proofs.ListLaws.{all-index}
+use Rattle.questions.proofs.OnlyLaws.{only-passes, any-number}
+use Rattle.records.proofs.RowLaws.{word-at}
 use Rattle.limiter.specs.declared.Limit.{Limit}
 use Rattle.limiter.specs.declared.Limiter.{Limiter}
-use Rattle.limiter.specs.State.{base, KeyRecord, putKey, isTracked, keyWords, keyOf, settingsOf, validKey}
+use Rattle.limiter.specs.State.{KeyRecord, putKey, isTracked, keyWords, keyOf, settingsOf, validKey}
 use Rattle.limiter.specs.Checks.{newKeyFactor, coldQuota, newKey, limited, foundOr, entry}
 use Rattle.limiter.specs.Steps.KeySteps.{units, Readable}
 use Rattle.limiter.specs.Steps.CheckSteps.{keysIn, keysOnly, counting, Ready, Placed, Puts}
 use Rattle.limiter.proofs.States.RecordValidLaws.{limit-burst, GoodKey, key-says}
 use Rattle.limiter.proofs.States.StateValidLaws.{keyOfKey}
-use Rattle.limiter.proofs.Checking.RecordTableLaws.{Kind, Held, counted, record-of, exact-at, never-unfit, found-within, those-found, those-none}
-use Rattle.limiter.proofs.Checking.RecordTableLaws.{count-after, overwritten-is, inserted-is}
+use Rattle.records.proofs.TypedTableLaws.{Kind, Held, counted, record-of, exact-at, never-unfit, found-within, those-found, those-none, count-after, overwritten-is, inserted-is}
 
 -- only the first 22 words count
 key-take : (ws : List ℕ) → keyOf units (take 22 ws) ≡ keyOf units ws
@@ -138,9 +136,9 @@ module _ (l : Limiter) (xs : List ℕ) (r : Ready l xs) where
     unfolding isTracked
     tracked-found = any-number keyOfKey key (keysIn l xs) ∙ ap (λ (ks : List KeyRecord). ltb 0 (length ks)) those-key
 
-    pub entered-found : (limit : Limit) (now n : ℕ) → limited limit (keyOf units (drop (i * 22) xs)) ≡ entry base (keysOnly l xs) key limit now n
+    pub entered-found : (limit : Limit) (now n : ℕ) → limited limit (keyOf units (drop (i * 22) xs)) ≡ entry units (keysOnly l xs) key limit now n
     unfolding entry
-    entered-found limit now n = sym (ap (λ (ks : List KeyRecord). foundOr (newKey base (settingsOf l) key limit now n) limit (first ks)) those-key)
+    entered-found limit now n = sym (ap (λ (ks : List KeyRecord). foundOr (newKey units (settingsOf l) key limit now n) limit (first ks)) those-key)
 
   -- ---- a key that is not there
   module _ (key i : ℕ) (e : Gap i ≡ findIn 22 1 (l .keys) key 0 xs) where
@@ -151,9 +149,9 @@ module _ (l : Limiter) (xs : List ℕ) (r : Ready l xs) where
     unfolding isTracked
     tracked-none = any-number keyOfKey key (keysIn l xs) ∙ ap (λ (ks : List KeyRecord). ltb 0 (length ks)) no-key
 
-    pub entered-new : (limit : Limit) (now n : ℕ) → newKey base (settingsOf l) key limit now n ≡ entry base (keysOnly l xs) key limit now n
+    pub entered-new : (limit : Limit) (now n : ℕ) → newKey units (settingsOf l) key limit now n ≡ entry units (keysOnly l xs) key limit now n
     unfolding entry
-    entered-new limit now n = sym (ap (λ (ks : List KeyRecord). foundOr (newKey base (settingsOf l) key limit now n) limit (first ks)) no-key)
+    entered-new limit now n = sym (ap (λ (ks : List KeyRecord). foundOr (newKey units (settingsOf l) key limit now n) limit (first ks)) no-key)
 
   -- a search of them always fits
   pub never-unfit-key : {P : Type 0} (key : ℕ) → Unfit ≡ findIn 22 1 (l .keys) key 0 xs → P
@@ -181,11 +179,11 @@ module _ (l : Limiter) (xs : List ℕ) (r : Ready l xs) where
     pub same-key : k .key ≡ key
     pub quota : validQuota units (k .gcra .quota) ≡ true
 
-  pub entered : (key : ℕ) (limit : Limit) (now n : ℕ) → validBurst (limit .burst) ≡ true → Entered key (entry base (keysOnly l xs) key limit now n)
+  pub entered : (key : ℕ) (limit : Limit) (now n : ℕ) → validBurst (limit .burst) ≡ true → Entered key (entry units (keysOnly l xs) key limit now n)
   unfolding keyOf coldQuota
   entered key limit now n b = by (findIn 22 1 (l .keys) key 0 xs) refl
     where
-      by : (f : Found) → f ≡ findIn 22 1 (l .keys) key 0 xs → Entered key (entry base (keysOnly l xs) key limit now n)
+      by : (f : Found) → f ≡ findIn 22 1 (l .keys) key 0 xs → Entered key (entry units (keysOnly l xs) key limit now n)
       by (At i) e =
           subst (Entered key) (entered-found key i e limit now n)
           (record {

@@ -8,19 +8,19 @@ use native.Mathlib.Omega.{arith}
 use lib.Dec.{leb, lit<}
 use lib.ListN.{length, length-map}
 use Rattle.records.specs.Records.{records, table, ascending}
-use Rattle.records.proofs.TestLaws.{both}
+use Rattle.questions.proofs.Tests.{both}
 use Rattle.records.proofs.RecordLaws.{length-records}
 use Rattle.gcra.specs.Packed.{validBurst}
-use Rattle.gcra.specs.Questions.{Question, Answer, refused, answer, passes, firstNo}
+use Rattle.questions.specs.Questions.{Question, Answer, refused, answer, passes, firstNo}
 use Rattle.gcra.specs.Calls.{checkAnswer}
-use Rattle.gcra.proofs.Answers.{answer-no, kept-no, first-more, Numbered, passed-none}
-use Rattle.demand.specs.HotSet as hot-set
-use Rattle.demand.specs.PeerLists.{all}
-use Rattle.demand.specs.PeerState.{exact}
-use Rattle.demand.specs.PeerCalls.{changeAnswer}
+use Rattle.questions.proofs.Answers.{answer-no, kept-no, first-more, Numbered, passed-none}
+use Rattle.demand.specs.HotSet.Set as hot-set
+use Rattle.questions.specs.Lists.{all}
+use Rattle.records.specs.Typed.{exact}
+use Rattle.demand.specs.Peers.Calls.{changeAnswer}
 use Rattle.demand.specs.Allocation.{isRate}
-use Rattle.demand.proofs.PeerTableLaws.{table-same}
-use Rattle.demand.proofs.PeerWordLaws.{words-of-exact}
+use Rattle.records.proofs.TabledLaws.{table-same}
+use Rattle.records.proofs.TypedLaws.{words-of-exact}
 use Rattle.limiter.specs.declared.Cap.{Cap}
 use Rattle.limiter.specs.declared.Cap.the-variants as cap
 use Rattle.limiter.specs.declared.LastTick.{LastTick}
@@ -30,11 +30,8 @@ use Rattle.limiter.specs.declared.Limiter.{Limiter}
 use Rattle.limiter.specs.declared.Tally.{Tally}
 use Rattle.limiter.specs.declared.Checked.{Checked}
 use Rattle.limiter.specs.declared.Changed.{Changed}
-use Rattle.limiter.specs.State.{base, KeyRecord, ShadowRecord, LimiterState, LimiterTables, tables, lengths, haveRoom, capOf, capFrom}
-use Rattle.limiter.specs.State.{lastTickOf, lastTickFrom, keyWords, keyOf, shadowWords, shadowOf, putKey, stateOf, areExact, isValid, valid}
-use Rattle.limiter.specs.State.{validSettings, validKeys, validHot, validShadows, validKey, validShadow, valueOf, written}
-use Rattle.limiter.specs.Checks.{holding, hasPlace, keyQuestions, ownLimit, entry, checkedKey, talliedKey, keyDecision, checkIn, recordTally}
-use Rattle.limiter.specs.Checks.{limitQuestions, clusterQuestions}
+use Rattle.limiter.specs.State.{KeyRecord, ShadowRecord, LimiterState, LimiterTables, tables, lengths, haveRoom, capOf, capFrom, lastTickOf, lastTickFrom, keyWords, keyOf, shadowWords, shadowOf, putKey, stateOf, areExact, isValid, valid, validSettings, validKeys, validHot, validShadows, validKey, validShadow, valueOf, written}
+use Rattle.limiter.specs.Checks.{holding, hasPlace, keyQuestions, ownLimit, entry, checkedKey, talliedKey, keyDecision, checkIn, recordTally, limitQuestions, clusterQuestions}
 use Rattle.limiter.specs.Calls as Calls
 use Rattle.limiter.specs.Calls.{here, stateQuestions}
 use Rattle.limiter.specs.Steps.KeySteps.{units}
@@ -272,21 +269,21 @@ module _ (l : Limiter) (t : LimiterTables) (rs : List Question) (p : Passed l t 
   -- `check_in`, and `check` at the settings' limit
   pub checks-lifted : (r : Checked) → ChecksKey l (t .keys) key limit now n r ys
       → Calls.Acts (checkAnswer (r .answer))
-      ((stateQuestions l t ++ rs) ++ keyQuestions (here l t) (checkedKey now none (entry base (here l t) key limit now n)))
-      (keyDecision base (here l t) key limit now n) (checkIn base (here l t) key limit now n) l t (r .limiter) (tables ys (t .hot) (t .shadows))
+      ((stateQuestions l t ++ rs) ++ keyQuestions (here l t) (checkedKey now none (entry units (here l t) key limit now n)))
+      (keyDecision units (here l t) key limit now n) (checkIn units (here l t) key limit now n) l t (r .limiter) (tables ys (t .hot) (t .shadows))
   unfolding checkIn entry stateOf
   checks-lifted r h =
-      lifted (checkAnswer (r .answer)) (keyDecision base (here l t) key limit now n) (checkedKey now none (entry base (here l t) key limit now n)) l
+      lifted (checkAnswer (r .answer)) (keyDecision units (here l t) key limit now n) (checkedKey now none (entry units (here l t) key limit now n)) l
       (r .limiter) t ys (stateQuestions l t ++ rs) (p .room) (p .ok) (p .all) h
 
   -- `record`
   pub records-lifted : (y : Tally) (r : Changed) → RecordsKey l (t .keys) key y limit now n r ys
       → Calls.Acts (changeAnswer (r .answer))
-      ((stateQuestions l t ++ rs) ++ keyQuestions (here l t) (talliedKey y (entry base (here l t) key limit now n))) tt
-      (recordTally base (here l t) key y limit now n) l t (r .limiter) (tables ys (t .hot) (t .shadows))
+      ((stateQuestions l t ++ rs) ++ keyQuestions (here l t) (talliedKey y (entry units (here l t) key limit now n))) tt
+      (recordTally units (here l t) key y limit now n) l t (r .limiter) (tables ys (t .hot) (t .shadows))
   unfolding recordTally entry stateOf
   records-lifted y r h =
-      lifted (changeAnswer (r .answer)) tt (talliedKey y (entry base (here l t) key limit now n)) l (r .limiter) t ys (stateQuestions l t ++ rs)
+      lifted (changeAnswer (r .answer)) tt (talliedKey y (entry units (here l t) key limit now n)) l (r .limiter) t ys (stateQuestions l t ++ rs)
       (p .room)
       (p .ok) (p .all) h
 
@@ -294,3 +291,17 @@ module _ (l : Limiter) (t : LimiterTables) (rs : List Question) (p : Passed l t 
 pub burst-passed : (limit : Limit) (n : ℕ) → passes (limitQuestions limit ++ clusterQuestions n) ≡ true → validBurst (limit .burst) ≡ true
 unfolding passes
 burst-passed limit n e = both (validBurst (limit .burst)) _ (both (isRate (limit .rate)) _ e .1) .0
+
+-- ---- a call at a limit of its own: `check_in`, `record`
+
+-- the questions past 2 that come before those of the key
+abbrev pub limitAsked : Limit → (n : ℕ) → List Question
+limitAsked limit n = limitQuestions limit ++ clusterQuestions n
+
+module _ (l : Limiter) (t : LimiterTables) (limit : Limit) (n : ℕ) where
+  pub limit-passed : (m : ℕ) → m ≡ firstNo (stateQuestions l t ++ limitAsked limit n) → m ≡ 0 → Passed l t (limitAsked limit n)
+  limit-passed m e z = passed l t (limitAsked limit n) m (lit< tt, (lit< tt, (lit< tt, tt))) e z
+
+  -- past them the key table is ready, and the limit's burst valid
+  pub limit-ready : Passed l t (limitAsked limit n) → Ready l (t .keys) × (validBurst (limit .burst) ≡ true)
+  limit-ready p = (ready l t (p .room) (p .ok), burst-passed limit n (p .rest))

@@ -8,20 +8,17 @@ use lib.ListN.{length, length-map}
 use Rattle.records.specs.Records.{records, ascending, same}
 use Rattle.records.proofs.OrderLaws.{same-eq}
 use Rattle.records.proofs.RecordLaws.{length-records}
-use Rattle.records.proofs.TestLaws.{both, and-intro}
+use Rattle.questions.proofs.Tests.{both}
 use Rattle.gcra.specs.Packed.{unitNanos}
-use Rattle.demand.specs.HotSet as hot-set
-use Rattle.demand.specs.PeerLists.{all}
-use Rattle.demand.specs.PeerState.{exact}
-use Rattle.demand.specs.Steps.HotSetSteps.{Held}
-use Rattle.demand.proofs.HotSetWords.{is-entry-words}
-use Rattle.demand.proofs.HotSetMap.{of-asc}
+use Rattle.demand.specs.HotSet.Set as hot-set
+use Rattle.questions.specs.Lists.{all}
+use Rattle.records.specs.Typed.{exact}
+use Rattle.demand.specs.HotSet.Steps.{EntriesReady}
+use Rattle.demand.proofs.HotSet.Kept.{valid-asc}
 use Rattle.limiter.specs.declared.Limiter.{Limiter}
-use Rattle.limiter.specs.State.{LimiterTables, LimiterState, lengths, haveRoom, keyWords, keyOf, shadowOf, validHotEntry, stateOf, areExact, isValid}
+use Rattle.limiter.specs.State.{LimiterTables, LimiterState, lengths, haveRoom, keyWords, keyOf, shadowOf, stateOf, areExact, isValid}
 use Rattle.limiter.specs.Steps.TickSteps.{HeldKeys}
 use Rattle.limiter.proofs.States.KeyListLaws.{rising-ascends}
-use Rattle.limiter.proofs.States.RecordValidLaws.{held}
-use Rattle.limiter.proofs.States.HotEntryLaws.{entry-says}
 use Rattle.limiter.proofs.States.StateValidLaws.{keyOfKey, sizes-say, ValidState, valid-says, few-shadows}
 use Rattle.limiter.proofs.States.WrittenLaws.{room-says}
 use Rattle.limiter.proofs.Walking.CapLaws.{first-word}
@@ -33,18 +30,6 @@ exact-list words of [] e = refl
 exact-list words of (r ∷ rs) e =
     let b = both (same (words (of r)) r) _ e in
     (λ i. sym (same-eq (words (of r)) r (b .0)) i ∷ exact-list words of rs (b .1) i)
-
--- valid hot entries are entries
-all-entries : (rs : List (List ℕ)) → exact hot-set.words hot-set.entry rs ≡ true → all validHotEntry (map hot-set.entry rs) ≡ true → hot-set.allEntries rs ≡ true
-unfolding all hot-set.allEntries
-all-entries [] e v = refl
-all-entries (r ∷ rs) e v =
-    let b = both (same (hot-set.words (hot-set.entry r)) r) _ e in
-    let w = both (validHotEntry (hot-set.entry r)) _ v in
-    let g = entry-says (hot-set.entry r) (w .0) in
-    and-intro (hot-set.isEntry r) _
-    (ap hot-set.isEntry (sym (same-eq (hot-set.words (hot-set.entry r)) r (b .0))) ∙ is-entry-words (hot-set.entry r) (held (hot-set.entry r .demand) (g .demand-f64)) (g .finite))
-    (all-entries rs (b .1) (w .1))
 
 module _ (l : Limiter) (t : LimiterTables) (room : haveRoom (l .config) (lengths t) ≡ true) (e : isValid unitNanos l t ≡ true) where
   parts : (areExact unitNanos l t ≡ true) × ValidState unitNanos (stateOf unitNanos l t)
@@ -102,15 +87,13 @@ module _ (l : Limiter) (t : LimiterTables) (room : haveRoom (l .config) (lengths
         ascends = ap (ascending 1) x ∙ rising-ascends keyOfKey (keyWords unitNanos) first-word (state .keys) (parts .1 .keys-rise);
       }
 
-  pub held-hot : Held (l .hot) (t .hot)
-  unfolding stateOf hot-set.entries hot-set.validEntries
-  held-hot =
-      let rs : List (List ℕ) = records 6 (l .hot) (t .hot) in
-      let x = exact-list hot-set.words hot-set.entry rs (exacts .1) in
-      record {
-        fit = rooms .1;
-        good = and-intro (ascending 1 rs) _ (ap (ascending 1) x ∙ of-asc (state .hot) (parts .1 .hot-rise)) (all-entries rs (exacts .1) (parts .1 .hot));
-      }
+  pub held-hot : EntriesReady (l .hot) (t .hot)
+  unfolding stateOf hot-set.entries
+  held-hot = record {
+    fit = rooms .1;
+    exact = sym (exact-list hot-set.words hot-set.entry (records 6 (l .hot) (t .hot)) (exacts .1));
+    good = valid-asc (state .hot) (parts .1 .hot-rise) (parts .1 .hot);
+  }
 
   pub held-shadows : l .shadows * 4 ≤ length (t .shadows)
   held-shadows = rooms .2

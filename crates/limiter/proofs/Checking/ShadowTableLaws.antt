@@ -10,7 +10,7 @@ use lib.Seq.{getD-take, getD-drop, drop-drop}
 use Rattle.records.specs.declared.Found.{Found}
 use Rattle.records.specs.declared.Found.the-variants.{At, Gap, Unfit}
 use Rattle.records.specs.Records.{records, findIn, overwritten, inserted, removed}
-use Rattle.records.proofs.TestLaws.{both}
+use Rattle.questions.proofs.Tests.{both}
 use Rattle.gcra.specs.declared.Quota.{Quota}
 use Rattle.gcra.specs.declared.Tat.the-variants.{Unset}
 use Rattle.gcra.specs.declared.Gcra.{Gcra}
@@ -18,17 +18,16 @@ use Rattle.gcra.specs.Packed.{pack, unpacks, validQuota, validWord}
 use Rattle.gcra.specs.Rate.{carried, sameQuota, setQuota}
 use Rattle.gcra.proofs.Encoding.{units-accepted}
 use Rattle.gcra.proofs.Packing.{pack-valid}
-use Rattle.demand.specs.PeerLists.{first, those}
-use Rattle.demand.proofs.PeerListLaws.{all-index}
-use Rattle.demand.proofs.PeerRowLaws.{word-at}
+use Rattle.questions.specs.Lists.{first, those}
+use Rattle.questions.proofs.ListLaws.{all-index}
+use Rattle.records.proofs.RowLaws.{word-at}
 use Rattle.limiter.specs.State.{ShadowRecord, gcraOf, gcraWords, shadowWords, shadowOf, validShadow}
 use Rattle.limiter.specs.Checks.{shadowMeter}
 use Rattle.limiter.specs.Steps.KeySteps.{units}
 use Rattle.limiter.specs.Steps.TraceSteps.{shadowsIn, ShadowsReady, withShadow, withoutShadow, HoldsShadows}
 use Rattle.limiter.proofs.States.RecordValidLaws.{GoodMeter, shadow-says}
 use Rattle.limiter.proofs.States.StateValidLaws.{keyOfShadow}
-use Rattle.limiter.proofs.Checking.RecordTableLaws.{Kind, Held, counted, record-of, exact-at, never-unfit, found-within, those-found, those-none}
-use Rattle.limiter.proofs.Checking.RecordTableLaws.{count-after, overwritten-is, inserted-is, removed-is, removed-none}
+use Rattle.records.proofs.TypedTableLaws.{Kind, Held, counted, record-of, exact-at, never-unfit, found-within, those-found, those-none, count-after, overwritten-is, inserted-is, removed-is, removed-none}
 
 -- only the first 4 words count
 shadow-take : (ws : List ℕ) → shadowOf units (take 4 ws) ≡ shadowOf units ws

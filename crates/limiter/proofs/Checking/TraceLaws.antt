@@ -8,13 +8,13 @@ use native.Mathlib.Omega.{arith}
 use lib.Dec.{lit<}
 use lib.ListN.{length}
 use Rattle.records.specs.Records.{table}
-use Rattle.records.proofs.TestLaws.{split}
+use Rattle.questions.proofs.Tests.{split}
 use Rattle.gcra.specs.declared.Quota.{Quota}
 use Rattle.gcra.specs.declared.Gcra.{Gcra}
 use Rattle.gcra.specs.declared.Decision.{Decision}
 use Rattle.gcra.specs.Meter.{decision, check}
-use Rattle.gcra.specs.Questions.{Question, Answer, refused, given, answer, passes, changed}
-use Rattle.gcra.proofs.Answers.{answer-no, answer-passed, changed-passed, passed-none}
+use Rattle.questions.specs.Questions.{Question, Answer, refused, given, answer, passes, changed}
+use Rattle.questions.proofs.Answers.{answer-no, answer-passed, changed-passed, passed-none}
 use Rattle.limiter.specs.declared.Limit.{Limit}
 use Rattle.limiter.specs.declared.Limiter.{Limiter}
 use Rattle.limiter.specs.declared.ShadowDecision.{ShadowDecision}
@@ -23,13 +23,12 @@ use Rattle.limiter.specs.declared.TracedAnswer.the-variants as traced-an
 use Rattle.limiter.specs.declared.checks.KeyEntry.{KeyEntry}
 use Rattle.limiter.specs.declared.checks.Raised.{Raised}
 use Rattle.limiter.specs.declared.traces.Tried.{Tried}
-use Rattle.limiter.specs.State.{base, KeyRecord, keyWords, shadowWords}
+use Rattle.limiter.specs.State.{KeyRecord, keyWords, shadowWords}
 use Rattle.limiter.specs.Checks.{raised, checkedKey, denied, decisionBy, shadowQuota}
 use Rattle.limiter.specs.Calls.{Decisions, shadowsDecision}
 use Rattle.limiter.specs.Steps.KeySteps.{units, keyRecord}
 use Rattle.limiter.specs.Steps.CheckSteps.{counting, Enters, Raises}
-use Rattle.limiter.specs.Steps.TraceSteps.{withShadow, HoldsShadows, triedMeter, Tries, countingShadows, tracedAsks, tracedKeys, tracedShadows}
-use Rattle.limiter.specs.Steps.TraceSteps.{TracesAs, meterFor, Traces, Roomy}
+use Rattle.limiter.specs.Steps.TraceSteps.{withShadow, HoldsShadows, triedMeter, Tries, countingShadows, tracedAsks, tracedKeys, tracedShadows, TracesAs, meterFor, Traces, Roomy}
 
 -- a 'no' is one whatever the value
 pub refused-any : {A B : Type 0} (qs : List Question) (n : ℕ) (a : A) (b : B) → refused n ≡ answer qs a
@@ -82,15 +81,15 @@ module _ (l : Limiter) (xs zs : List ℕ) (key now : ℕ) (k : KeyRecord) (m : O
 -- ---- with a shadow limit
 module _ (l : Limiter) (xs zs : List ℕ) (key : ℕ) (limit shadow : Limit) (now n : ℕ) (e : KeyEntry) (h : Enters l xs key limit now n e) (d : Decision)
     (g : Gcra) (w : Quota) (t : Tried) (m₁ m₂ : ℕ) (x : Raised) (ys : List ℕ) (ed : d ≡ decision (e .state .gcra) now)
-    (eg : g ≡ check (e .state .gcra) now) (ew : w ≡ shadowQuota base (e .state .gcra .quota) limit shadow) (tr : Tries (l .shadows) zs key w now t)
+    (eg : g ≡ check (e .state .gcra) now) (ew : w ≡ shadowQuota units (e .state .gcra .quota) limit shadow) (tr : Tries (l .shadows) zs key w now t)
     (e₁ : m₁ ≡ denied d) (e₂ : m₂ ≡ denied (t .decision)) (er : Raises (raised 1 m₁ m₂ g (keyRecord (e .state))) l xs x ys) where
   abbrev k : KeyRecord
   k = keyRecord (e .state)
 
   abbrev meter : Gcra
-  meter = triedMeter (l .shadows) zs key (shadowQuota base (k .gcra .quota) limit shadow) now
+  meter = triedMeter (l .shadows) zs key (shadowQuota units (k .gcra .quota) limit shadow) now
 
-  tries : Tries (l .shadows) zs key (shadowQuota base (k .gcra .quota) limit shadow) now t
+  tries : Tries (l .shadows) zs key (shadowQuota units (k .gcra .quota) limit shadow) now t
   tries = subst (λ (q : Quota). Tries (l .shadows) zs key q now t) ew tr
 
   raises : Raises (checkedKey now (some (decision meter now)) k) l xs x ys

@@ -7,22 +7,19 @@ use mathlib.Core.Option.{Option, none, some}
 use native.Mathlib.Omega.{arith}
 use lib.Dec.{lit<}
 use Rattle.records.specs.Records.{table}
-use Rattle.records.proofs.TestLaws.{both}
+use Rattle.questions.proofs.Tests.{both}
 use Rattle.gcra.specs.declared.Gcra.{Gcra}
 use Rattle.gcra.specs.Packed.{validBurst}
 use Rattle.gcra.specs.Meter.{decision}
-use Rattle.gcra.specs.Questions.{Question, passes, firstNo}
+use Rattle.questions.specs.Questions.{Question, passes, firstNo}
 use Rattle.gcra.proofs.Encoding.{units-accepted}
 use Rattle.demand.specs.Allocation.{isRate}
 use Rattle.limiter.specs.declared.Limit.{Limit}
 use Rattle.limiter.specs.declared.Limiter.{Limiter}
 use Rattle.limiter.specs.declared.TracedAnswer.the-variants.{No}
 use Rattle.limiter.specs.declared.TracedCheck.{TracedCheck}
-use Rattle.limiter.specs.State.{base, KeyRecord, LimiterState, LimiterTables, tables, lengths, haveRoom, keyWords, shadowWords, putKey, stateOf}
-use Rattle.limiter.specs.State.{isValid}
-use Rattle.limiter.specs.Checks.{holding, entry, checkedKey, keyDecision, tracedMeter, decisionBy, shadowDecision, shadowsWith, checkTraced}
-use Rattle.limiter.specs.Checks.{hasPlace}
-use Rattle.limiter.specs.Checks.{bothLimitQuestions, clusterQuestions, keyQuestions}
+use Rattle.limiter.specs.State.{KeyRecord, LimiterState, LimiterTables, tables, lengths, haveRoom, keyWords, shadowWords, putKey, stateOf, isValid}
+use Rattle.limiter.specs.Checks.{holding, entry, checkedKey, keyDecision, tracedMeter, decisionBy, shadowDecision, shadowsWith, checkTraced, hasPlace, bothLimitQuestions, clusterQuestions, keyQuestions}
 use Rattle.limiter.specs.Calls as Calls
 use Rattle.limiter.specs.Calls.{Decisions, tracedAnswer, here, stateQuestions, ChecksTraced}
 use Rattle.limiter.specs.Steps.KeySteps.{units}
@@ -77,14 +74,14 @@ module _ (l : Limiter) (t : LimiterTables) (key now : ℕ) where
         (shadow : Option Limit) → Traces l (t .keys) (t .shadows) key limit shadow now n r xs zs
         → let s = here l t in
         Calls.Acts (tracedAnswer (r .answer))
-        ((stateQuestions l t ++ rs) ++ keyQuestions s (checkedKey now (shadowDecision base s key limit shadow now n) (entry base s key limit now n)))
-        (record { decision = keyDecision base s key limit now n; shadow = shadowDecision base s key limit shadow now n })
-        (checkTraced base s key limit shadow now n) l t (r .limiter) (tables xs (t .hot) zs)
+        ((stateQuestions l t ++ rs) ++ keyQuestions s (checkedKey now (shadowDecision units s key limit shadow now n) (entry units s key limit now n)))
+        (record { decision = keyDecision units s key limit now n; shadow = shadowDecision units s key limit shadow now n })
+        (checkTraced units s key limit shadow now n) l t (r .limiter) (tables xs (t .hot) zs)
     unfolding stateOf entry tracedMeter checkTraced
     traces-lifted none h =
-        lifted (entry base (here l t) key limit now n) none r xs zs (stateQuestions l t ++ rs) (p .room) (p .ok) (p .all) h
+        lifted (entry units (here l t) key limit now n) none r xs zs (stateQuestions l t ++ rs) (p .room) (p .ok) (p .all) h
     traces-lifted (some shadow) h =
-        let k = entry base (here l t) key limit now n in
+        let k = entry units (here l t) key limit now n in
         lifted k (meterFor l (t .shadows) key limit (some shadow) now k) r xs zs (stateQuestions l t ++ rs) (p .room) (p .ok) (p .all) h
 
   -- where the questions pass, the shadows after the call are no more than the keys, so that there is room
@@ -95,10 +92,10 @@ module _ (l : Limiter) (t : LimiterTables) (key now : ℕ) where
   traced-room limit shadow n p w q =
       let s = here l t in
       let rs = bothLimitQuestions limit (some shadow) ++ clusterQuestions n in
-      let qs = keyQuestions s (checkedKey now (shadowDecision base s key limit (some shadow) now n) (entry base s key limit now n)) in
-      let x = checkTraced base s key limit (some shadow) now n in
+      let qs = keyQuestions s (checkedKey now (shadowDecision units s key limit (some shadow) now n) (entry units s key limit now n)) in
+      let x = checkTraced units s key limit (some shadow) now n in
       let v = valid-says units x
-      (traced-valid base units-accepted s (state-valid l t (p .room) (p .ok)) key limit now n w (some shadow) (passes-after rs qs (p .rest) ∙ q)) in
+      (traced-valid units units-accepted s (state-valid l t (p .room) (p .ok)) key limit now n w (some shadow) (passes-after rs qs (p .rest) ∙ q)) in
       let z = sizes-say (l .config) (v .settings .config .sizes) in
       omega (arith, few-shadows units x v, v .few, z .most-held, room-says (l .config) (lengths t) (p .room) .for-shadows)
 

@@ -12,19 +12,20 @@ use lib.Seq.{take-at, length-take-le}
 use Rattle.float.specs.Magnitude.{magnitude}
 use Rattle.records.specs.Records.{records}
 use Rattle.records.proofs.RecordLaws.{fits-intro}
-use Rattle.records.proofs.TestLaws.{and-intro}
+use Rattle.questions.proofs.Tests.{and-intro}
 use Rattle.gcra.specs.Packed.{unitNanos}
-use Rattle.gcra.specs.Questions.{Question, passes}
-use Rattle.gcra.proofs.Answers.{given-passed, changed-passed}
+use Rattle.questions.specs.Questions.{Question, passes}
+use Rattle.questions.proofs.Answers.{given-passed, changed-passed}
 use Rattle.demand.specs.declared.hot_set.HotEntry.{HotEntry}
 use Rattle.demand.specs.declared.hot_set.HotSet.{HotSet}
 use Rattle.demand.specs.declared.hot_set.EachAnswer.{EachAnswer}
 use Rattle.demand.specs.declared.hot_set.EachAnswer.the-variants as each-answer
-use Rattle.demand.specs.HotSet.{Update, updatesOf, updateEach, entries, valid}
-use Rattle.demand.specs.HotSetCalls.{evictionMargin, room, rewrittenEach, updatesFit, askEach, lentUpdates, sized, eachAnswer, UpdatedEach}
-use Rattle.demand.specs.Estimator.{whole}
-use Rattle.demand.specs.PeerLists.{all}
-use Rattle.demand.proofs.PeerStoreLaws.{map-map}
+use Rattle.demand.specs.HotSet.Set.{Update, updatesOf, updateEach, entries}
+use Rattle.demand.proofs.HotSet.Theorems.{ready-valid}
+use Rattle.demand.specs.HotSet.Calls.{evictionMargin, room, rewrittenEach, updatesFit, askEach, lentUpdates, sized, eachAnswer, UpdatedEach}
+use Rattle.demand.specs.Estimators.Estimator.{whole}
+use Rattle.questions.specs.Lists.{all}
+use Rattle.questions.proofs.ListLaws.{map-map}
 use Rattle.limiter.specs.declared.Limiter.{Limiter}
 use Rattle.limiter.specs.State.{KeyRecord, keyOf, validKey}
 use Rattle.limiter.specs.Steps.TickSteps.{keyRecord, keyRecords, HeldKeys}
@@ -76,10 +77,10 @@ unfolding updateEach
 answers-many margin s now [] es = refl
 answers-many margin s now (u ∷ us) es = ap suc (answers-many margin s now us _)
 
-module _ (l : Limiter) (now n : ℕ) (keys hot : List ℕ) (elsewhere : List Bool)
+module _ (silent : Float) (l : Limiter) (now n : ℕ) (keys hot : List ℕ) (elsewhere : List Bool)
     (k : HeldKeys (l .keys) keys) (h : HeldHot l hot) (told : l .keys ≤ length elsewhere)
     (size : Float) (z : size ≡ whole n) (demands thresholds : List Float) (flags : List Bool)
-    (w : Measured (l .keys) keys (l .config .alpha) size elsewhere demands thresholds flags)
+    (w : Measured silent (l .keys) keys (l .config .alpha) size elsewhere demands thresholds flags)
   where
     abbrev m : ℕ
     m = l .keys
@@ -88,10 +89,10 @@ module _ (l : Limiter) (now n : ℕ) (keys hot : List ℕ) (elsewhere : List Boo
     ks = keyRecords m keys
 
     abbrev outs : List Bool
-    outs = zipWith elsewhereIf ks (take m elsewhere)
+    outs = zipWith (elsewhereIf silent) ks (take m elsewhere)
 
     -- the updates that are lent
-    lent-are : lentUpdates keys 22 m demands thresholds flags ≡ updatesFor l n keys elsewhere
+    lent-are : lentUpdates keys 22 m demands thresholds flags ≡ updatesFor silent l n keys elsewhere
     unfolding keyOf
     lent-are =
         let numbers : List ℕ = map (λ (x : KeyRecord). x .key) ks in
@@ -103,10 +104,10 @@ module _ (l : Limiter) (now n : ℕ) (keys hot : List ℕ) (elsewhere : List Boo
         ∙ (λ i. updatesOf numbers (map (λ (x : KeyRecord). x .demand .rate) ks) (map (thresholdOf (l .config .alpha) (z i)) ks) outs)
         ∙ updates-zip (λ (x : KeyRecord). x .key) (λ (x : KeyRecord). x .demand .rate) (thresholdOf (l .config .alpha) (whole n)) ks outs
 
-    many-updates : length (updatesFor l n keys elsewhere) ≡ m
+    many-updates : length (updatesFor silent l n keys elsewhere) ≡ m
     many-updates =
         let a = keys-many m keys in
-        let b = zip-many elsewhereIf ks (take m elsewhere) (omega (arith, length-take-le m elsewhere told)) in
+        let b = zip-many (elsewhereIf silent) ks (take m elsewhere) (omega (arith, length-take-le m elsewhere told)) in
         zip-many (updateOf (l .config .alpha) n) ks outs (omega arith) ∙ a
 
     -- their demands are finite with a clear sign bit
@@ -127,21 +128,21 @@ module _ (l : Limiter) (now n : ℕ) (keys hot : List ℕ) (elsewhere : List Boo
     long-flags =
         let a = keys-many m keys in
         long-enough m flags
-        (ap length (w .elsewhere-flags) ∙ zip-many elsewhereIf ks (take m elsewhere) (omega (arith, length-take-le m elsewhere told)) ∙ a)
+        (ap length (w .elsewhere-flags) ∙ zip-many (elsewhereIf silent) ks (take m elsewhere) (omega (arith, length-take-le m elsewhere told)) ∙ a)
 
     module _ (out : List Bool) (roomy : m ≤ length out) where
       abbrev questions : List Question
       questions = askEach (setOf l) hot keys 22 m demands thresholds flags (length out)
 
       asked : passes questions ≡ true
-      unfolding passes updatesFit valid
+      unfolding passes updatesFit
       asked =
           and-intro _ _
           (and-intro _ _ (fits-intro (length keys) 22 m (omega arith) (k .fit))
           (and-intro _ _ (le-leb m (length demands) long-demands)
           (and-intro _ _ (le-leb m (length thresholds) long-thresholds) (le-leb m (length flags) long-flags))))
           (and-intro _ _ (le-leb (room (l .config .«hot_set_size»)) (length hot) (h .fit))
-          (and-intro _ _ (and-intro _ _ (h .size) (and-intro _ _ (le-leb (l .hot) (l .config .«hot_set_size») (h .few)) (h .held .good)))
+          (and-intro _ _ (ready-valid (setOf l) hot (h .size) (h .few) (h .held))
           (and-intro _ _ demands-good (and-intro _ _ (le-leb m (length out) roomy) refl))))
 
       module _ (r : EachAnswer) (hot′ : List ℕ) (out′ : List Bool)
@@ -155,10 +156,10 @@ module _ (l : Limiter) (now n : ℕ) (keys hot : List ℕ) (elsewhere : List Boo
           each-never i e =
               never-refused questions i (after (lentUpdates keys 22 m demands thresholds flags)) asked (u .answered) (sym (ap eachAnswer e))
 
-          pub each-done : (set : HotSet) → r ≡ each-answer.Is set → HotUpdated l now n keys hot elsewhere (set .len) hot′ flags out′
+          pub each-done : (set : HotSet) → r ≡ each-answer.Is set → HotUpdated silent l now n keys hot elsewhere (set .len) hot′ flags out′
           each-done set e =
               let us = lent-are in
-              let hots : List Bool = updatedFor l now n keys hot elsewhere .hot in
+              let hots : List Bool = updatedFor silent l now n keys hot elsewhere .hot in
               let given-set : set ≡ after (lentUpdates keys 22 m demands thresholds flags) =
               given-passed questions set (after (lentUpdates keys 22 m demands thresholds flags)) (sym (ap eachAnswer e) ∙ u .answered) .1 in
               let written : out′ ≡ hots ++ drop m out =
@@ -170,7 +171,7 @@ module _ (l : Limiter) (now n : ℕ) (keys hot : List ℕ) (elsewhere : List Boo
                 hot-flags =
                     ap (take m) written
                     ∙ take-at hots (drop m out) m
-                    (answers-many evictionMargin (setOf l) now (updatesFor l n keys elsewhere) (entries (l .hot) hot) ∙ many-updates);
+                    (answers-many evictionMargin (setOf l) now (updatesFor silent l n keys elsewhere) (entries (l .hot) hot) ∙ many-updates);
                 count = ap (λ (x : HotSet). x .len) given-set ∙ ap (λ (zs : List Update). after zs .len) us;
                 words =
                     u .left

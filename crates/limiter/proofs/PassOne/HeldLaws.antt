@@ -7,12 +7,12 @@ use lib.ListN.{length}
 use Rattle.records.specs.Records.{records, ascending}
 use Rattle.gcra.specs.Packed.{unitNanos}
 use Rattle.gcra.proofs.Encoding.{units-accepted}
-use Rattle.demand.specs.PeerLists.{all}
+use Rattle.questions.specs.Lists.{all}
 use Rattle.limiter.specs.State.{KeyRecord, keyWords, keyOf, validKey}
 use Rattle.limiter.specs.Steps.TickSteps.{keyRecord, keyRecords, HeldKeys}
 use Rattle.limiter.proofs.States.KeyListLaws.{rising, rising-says, rising-ascends}
 use Rattle.limiter.proofs.States.StateValidLaws.{keyOfKey}
-use Rattle.limiter.proofs.States.TypedTableLaws.{all-back}
+use Rattle.records.proofs.TypedLaws.{all-back}
 use Rattle.limiter.proofs.States.WrittenLaws.{key-back}
 use Rattle.limiter.proofs.Walking.CapLaws.{first-word}
 

@@ -16,10 +16,10 @@ use Rattle.gcra.specs.declared.DebtAnswer.{DebtAnswer}
 use Rattle.gcra.specs.declared.DebtAnswer.the-variants as debt-answer
 use Rattle.gcra.specs.Packed.{unitNanos, validQuota}
 use Rattle.gcra.specs.Meter.{hasDebt}
-use Rattle.gcra.specs.Questions.{refused, given}
+use Rattle.questions.specs.Questions.{refused, given}
 use Rattle.gcra.specs.Calls as calls
-use Rattle.gcra.proofs.Answers.{alone-yes, given-passed}
-use Rattle.demand.proofs.PeerRowLaws.{word-at}
+use Rattle.questions.proofs.Answers.{alone-yes, given-passed}
+use Rattle.records.proofs.RowLaws.{word-at}
 use Rattle.limiter.specs.State.{KeyRecord, floatOf, keyOf, gcraOf}
 use Rattle.limiter.specs.Steps.TickSteps.{keyRecord, keyRecords, HeldKeys, HeldKey}
 use Rattle.limiter.specs.Steps.PassOneSteps.{isDemand, staysIf}
@@ -91,7 +91,7 @@ stays-by false true c = refl
 stays-by false false true = refl
 stays-by false false false = refl
 
-module _ (r : List ℕ) (now : ℕ) where
+module _ (silent : Float) (r : List ℕ) (now : ℕ) where
   abbrev key : KeyRecord
   key = keyRecord r
 
@@ -104,28 +104,28 @@ module _ (r : List ℕ) (now : ℕ) where
   attempts-word = getD-drop 3 r 1 0
 
   -- a key that is not hot, by its demand, its attempts and its debt in this order
-  turned : (hot : Bool) → hot ≡ false → staysIf now key hot ≡ (isDemand (floatOf (getD r 3 0)) || (ltb 0 (getD r 4 0) || hasDebt (key .gcra) now))
+  turned : (hot : Bool) → hot ≡ false → staysIf silent now key hot ≡ (isDemand silent (floatOf (getD r 3 0)) || (ltb 0 (getD r 4 0) || hasDebt (key .gcra) now))
   turned hot e =
-      ap (staysIf now key) e
-      ∙ stays-by (hasDebt (key .gcra) now) (isDemand (key .demand .rate)) (ltb 0 (key .demand .attempts))
-      ∙ (λ i. isDemand (rate-word i) || (ltb 0 (attempts-word i) || hasDebt (key .gcra) now))
+      ap (staysIf silent now key) e
+      ∙ stays-by (hasDebt (key .gcra) now) (isDemand silent (key .demand .rate)) (ltb 0 (key .demand .attempts))
+      ∙ (λ i. isDemand silent (rate-word i) || (ltb 0 (attempts-word i) || hasDebt (key .gcra) now))
 
-  pub stays-hot : (hot : Bool) → hot ≡ true → true ≡ staysIf now key hot
-  stays-hot hot e = sym (ap (staysIf now key) e)
+  pub stays-hot : (hot : Bool) → hot ≡ true → true ≡ staysIf silent now key hot
+  stays-hot hot e = sym (ap (staysIf silent now key) e)
 
-  pub stays-demand : (hot : Bool) → hot ≡ false → (x : Float) → x ≡ floatOf (getD r 3 0) → isDemand x ≡ true → true ≡ staysIf now key hot
-  stays-demand hot e x q d = sym (turned hot e ∙ ap (λ (b : Bool). b || (ltb 0 (getD r 4 0) || hasDebt (key .gcra) now)) (ap isDemand (sym q) ∙ d))
+  pub stays-demand : (hot : Bool) → hot ≡ false → (x : Float) → x ≡ floatOf (getD r 3 0) → isDemand silent x ≡ true → true ≡ staysIf silent now key hot
+  stays-demand hot e x q d = sym (turned hot e ∙ ap (λ (b : Bool). b || (ltb 0 (getD r 4 0) || hasDebt (key .gcra) now)) (ap (isDemand silent) (sym q) ∙ d))
 
-  module _ (hot : Bool) (e : hot ≡ false) (x : Float) (q : x ≡ floatOf (getD r 3 0)) (d : isDemand x ≡ false) where
-    silent : staysIf now key hot ≡ (ltb 0 (getD r 4 0) || hasDebt (key .gcra) now)
-    silent = turned hot e ∙ ap (λ (b : Bool). b || (ltb 0 (getD r 4 0) || hasDebt (key .gcra) now)) (ap isDemand (sym q) ∙ d)
+  module _ (hot : Bool) (e : hot ≡ false) (x : Float) (q : x ≡ floatOf (getD r 3 0)) (d : isDemand silent x ≡ false) where
+    below-it : staysIf silent now key hot ≡ (ltb 0 (getD r 4 0) || hasDebt (key .gcra) now)
+    below-it = turned hot e ∙ ap (λ (b : Bool). b || (ltb 0 (getD r 4 0) || hasDebt (key .gcra) now)) (ap (isDemand silent) (sym q) ∙ d)
 
-    pub stays-pending : 0 < getD r 4 0 → true ≡ staysIf now key hot
-    stays-pending h = sym (silent ∙ ap (λ (b : Bool). b || hasDebt (key .gcra) now) (lt-ltb 0 (getD r 4 0) h))
+    pub stays-pending : 0 < getD r 4 0 → true ≡ staysIf silent now key hot
+    stays-pending h = sym (below-it ∙ ap (λ (b : Bool). b || hasDebt (key .gcra) now) (lt-ltb 0 (getD r 4 0) h))
 
-    pub stays-debt : getD r 4 0 ≡ 0 → (b : Bool) → b ≡ hasDebt (gcraOf unitNanos (drop 19 r)) now → b ≡ staysIf now key hot
+    pub stays-debt : getD r 4 0 ≡ 0 → (b : Bool) → b ≡ hasDebt (gcraOf unitNanos (drop 19 r)) now → b ≡ staysIf silent now key hot
     unfolding keyOf
-    stays-debt h b p = p ∙ sym (silent ∙ ap (λ (c : Bool). c || hasDebt (key .gcra) now) (ap (ltb 0) h))
+    stays-debt h b p = p ∙ sym (below-it ∙ ap (λ (c : Bool). c || hasDebt (key .gcra) now) (ap (ltb 0) h))
 
 -- its quota is valid
 pub quota-valid : (r : List ℕ) → HeldKey r → validQuota unitNanos (gcraOf unitNanos (drop 19 r) .quota) ≡ true

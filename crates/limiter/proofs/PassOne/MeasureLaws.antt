@@ -18,7 +18,7 @@ use Rattle.limiter.proofs.PassOne.KeyWordLaws.{keys-many, rate-at, limi
 abbrev rateOf : KeyRecord → Float
 rateOf k = k .demand .rate
 
-module _ (n : ℕ) (keys : List ℕ) (alpha size : Float) (elsewhere : List Bool) where
+module _ (silent : Float) (n : ℕ) (keys : List ℕ) (alpha size : Float) (elsewhere : List Bool) where
   abbrev ks : List KeyRecord
   ks = keyRecords n keys
 
@@ -27,7 +27,7 @@ module _ (n : ℕ) (keys : List ℕ) (alpha size : Float) (elsewhere : List Bool
     pub told : n ≤ length elsewhere
     pub demand-rates : Filling n ds₀ ds i (map rateOf (drop i ks)) (map rateOf ks)
     pub cold-rates : Filling n ts₀ ts i (map (thresholdOf alpha size) (drop i ks)) (map (thresholdOf alpha size) ks)
-    pub elsewhere-flags : Filling n fs₀ fs i (zipWith elsewhereIf (drop i ks) (drop i (take n elsewhere))) (zipWith elsewhereIf ks (take n elsewhere))
+    pub elsewhere-flags : Filling n fs₀ fs i (zipWith (elsewhereIf silent) (drop i ks) (drop i (take n elsewhere))) (zipWith (elsewhereIf silent) ks (take n elsewhere))
 
   pub measure-none : (ds ts : List Float) (fs : List Bool) → n ≤ length elsewhere → n ≤ length ds → n ≤ length ts → n ≤ length fs
       → Measuring ds ts fs ds ts fs 0
@@ -39,17 +39,17 @@ module _ (n : ℕ) (keys : List ℕ) (alpha size : Float) (elsewhere : List Bool
   }
 
   module _ (ds₀ ts₀ : List Float) (fs₀ : List Bool) (ds ts : List Float) (fs : List Bool) (i : ℕ) (k : Measuring ds₀ ts₀ fs₀ ds ts fs i) where
-    pub measure-all : n ≤ i → Measured n keys alpha size elsewhere ds ts fs
+    pub measure-all : n ≤ i → Measured silent n keys alpha size elsewhere ds ts fs
     measure-all h =
         let l = keys-many n keys in
         record {
           demand-rates = fill-all (k .demand-rates) h (map-end rateOf (keyRecord []) ks i (omega arith));
           cold-rates = fill-all (k .cold-rates) h (map-end (thresholdOf alpha size) (keyRecord []) ks i (omega arith));
-          elsewhere-flags = fill-all (k .elsewhere-flags) h (zip-end elsewhereIf (keyRecord []) false ks (take n elsewhere) i (omega arith));
+          elsewhere-flags = fill-all (k .elsewhere-flags) h (zip-end (elsewhereIf silent) (keyRecord []) false ks (take n elsewhere) i (omega arith));
         }
 
     module _ (h : i < n) (d x : Float) (ed : d ≡ floatOf (getD keys (i * 22 + 3) 0)) (ex : x ≡ floatOf (getD keys (i * 22 + 1) 0)) where
-      pub measure-more : (b : Bool) → b ≡ (isDemand d && getD elsewhere i false)
+      pub measure-more : (b : Bool) → b ≡ (isDemand silent d && getD elsewhere i false)
           → Measuring ds₀ ts₀ fs₀ (set ds i d) (set ts i (mul binary64 (div binary64 x size) alpha)) (set fs i b) (i + 1)
       measure-more b eb =
           let l = keys-many n keys in
@@ -63,24 +63,24 @@ module _ (n : ℕ) (keys : List ℕ) (alpha size : Float) (elsewhere : List Bool
                 (ap (λ (y : Float). mul binary64 (div binary64 y size) alpha) (ex ∙ limit-at n keys i h)));
             elsewhere-flags =
                 fill-more b _ (k .elsewhere-flags) h
-                (zip-from elsewhereIf (keyRecord []) false ks (take n elsewhere) i (omega arith)
+                (zip-from (elsewhereIf silent) (keyRecord []) false ks (take n elsewhere) i (omega arith)
                 (omega (arith, length-take-le n elsewhere (k .told))) b
-                (eb ∙ (λ m. isDemand ((ed ∙ rate-at n keys i h) m) && sym (getD-take n elsewhere i false h) m)));
+                (eb ∙ (λ m. isDemand silent ((ed ∙ rate-at n keys i h) m) && sym (getD-take n elsewhere i false h) m)));
           }
 
 -- ---- which keys stay
-module _ (n : ℕ) (keys : List ℕ) (now : ℕ) (hots : List Bool) where
+module _ (silent : Float) (n : ℕ) (keys : List ℕ) (now : ℕ) (hots : List Bool) where
   abbrev pub Busy : (t₀ t : List Bool) (i : ℕ) → Type 0
-  Busy t₀ t i = Filling n t₀ t i (zipWith (staysIf now) (drop i (keyRecords n keys)) (drop i (take n hots))) (stayingKeys now n keys hots)
+  Busy t₀ t i = Filling n t₀ t i (zipWith (staysIf silent now) (drop i (keyRecords n keys)) (drop i (take n hots))) (stayingKeys silent now n keys hots)
 
   module _ (t₀ t : List Bool) (i : ℕ) (k : Busy t₀ t i) where
     pub busy-more : n ≤ length hots → (h : i < n) (b : Bool) (r : List ℕ) → keyRecord r ≡ getD (keyRecords n keys) i (keyRecord [])
-        → b ≡ staysIf now (keyRecord r) (getD hots i false) → Busy t₀ (set t i b) (i + 1)
+        → b ≡ staysIf silent now (keyRecord r) (getD hots i false) → Busy t₀ (set t i b) (i + 1)
     busy-more f h b r e q =
         let l = keys-many n keys in
         fill-more b _ k h
-        (zip-from (staysIf now) (keyRecord []) false (keyRecords n keys) (take n hots) i (omega arith) (omega (arith, length-take-le n hots f)) b
-        (q ∙ (λ m. staysIf now (e m) (sym (getD-take n hots i false h) m))))
+        (zip-from (staysIf silent now) (keyRecord []) false (keyRecords n keys) (take n hots) i (omega arith) (omega (arith, length-take-le n hots f)) b
+        (q ∙ (λ m. staysIf silent now (e m) (sym (getD-take n hots i false h) m))))
 
-    pub busy-all : n ≤ i → take n t ≡ stayingKeys now n keys hots
-    busy-all h = fill-all k h (zip-end (staysIf now) (keyRecord []) false (keyRecords n keys) (take n hots) i (omega (arith, keys-many n keys)))
+    pub busy-all : n ≤ i → take n t ≡ stayingKeys silent now n keys hots
+    busy-all h = fill-all k h (zip-end (staysIf silent now) (keyRecord []) false (keyRecords n keys) (take n hots) i (omega (arith, keys-many n keys)))

@@ -7,39 +7,41 @@ use native.Mathlib.Nat.{mul-le-mul-right}
 use native.Mathlib.Omega.{arith}
 use borrow.Author.Tests.{leb-true}
 use lib.Dec.{leb}
+use lib.Ieee.{Float}
 use lib.ListN.{length, take, drop, length-map}
 use Rattle.records.specs.Records.{records, table}
 use Rattle.records.proofs.RecordLaws.{length-records}
 use Rattle.records.proofs.TableLaws.{records-table}
-use Rattle.records.proofs.TestLaws.{both}
+use Rattle.questions.proofs.Tests.{both}
 use Rattle.gcra.specs.Packed.{unitNanos}
 use Rattle.gcra.proofs.Encoding.{units-accepted}
 use Rattle.demand.specs.declared.hot_set.HotEntry.{HotEntry}
-use Rattle.demand.specs.HotSet.{Update, updateEach, entry, entries, validSize}
-use Rattle.demand.specs.HotSetCalls.{evictionMargin}
-use Rattle.demand.specs.PeerLists.{all}
-use Rattle.demand.specs.PeerState.{isWord}
-use Rattle.demand.proofs.HotSetMap.{asc-entries}
-use Rattle.demand.proofs.PeerStoreLaws.{map-map}
+use Rattle.demand.specs.HotSet.Set.{Update, updateEach, entry, entries, validSize}
+use Rattle.demand.specs.HotSet.Calls.{evictionMargin}
+use Rattle.questions.specs.Lists.{all}
+use Rattle.records.specs.Typed.{isWord}
+use Rattle.demand.proofs.HotSet.Kept.{valid-entries}
+use Rattle.demand.proofs.HotSet.Map.{asc-entries}
+use Rattle.questions.proofs.ListLaws.{map-map}
 use Rattle.limiter.specs.declared.Limiter.{Limiter}
+use Rattle.limiter.specs.declared.Parameters.{Parameters}
 use Rattle.limiter.specs.declared.pass_one.Passed.{Passed}
-use Rattle.limiter.specs.State.{Settings, KeyRecord, base, settingsOf, keyWords, validKey}
+use Rattle.limiter.specs.State.{Settings, KeyRecord, settingsOf, keyWords, validKey}
 use Rattle.limiter.specs.Ticks.{Others, Settled, noOthers, isElsewhere, passOne}
 use Rattle.limiter.specs.Steps.TickSteps.{flagged, keyRecords, HeldKeys, foldedFor, foldedRow, stayFlags, hotAfter}
-use Rattle.limiter.specs.Steps.PassOneSteps.{elsewhereIf, staysIf, updateOf, setOf, updatesFor, HotUpdated}
-use Rattle.limiter.specs.Steps.PassOneSteps.{stayingKeys, IdleDropped, Passable, Holding, PassesOne}
+use Rattle.limiter.specs.Steps.PassOneSteps.{elsewhereIf, staysIf, updateOf, setOf, updatesFor, HotUpdated, stayingKeys, IdleDropped, Passable, Holding, PassesOne}
 use Rattle.limiter.proofs.Calls.TickValidLaws.{Settles, fold-good, settles}
 use Rattle.limiter.proofs.States.KeyListLaws.{all-mapped, rising, rising-map}
 use Rattle.limiter.proofs.States.RecordValidLaws.{key-valid}
 use Rattle.limiter.proofs.States.StateValidLaws.{keyOfKey}
-use Rattle.limiter.proofs.States.TypedTableLaws.{past-written, length-written, records-written}
+use Rattle.records.proofs.TypedLaws.{past-written, length-written, records-written}
 use Rattle.limiter.proofs.Walking.FoldLaws.{key-long, folded-wide, folded-many, folded-rows}
 use Rattle.limiter.proofs.Walking.IdleLaws.{pass-one-is}
 use Rattle.limiter.proofs.PassOne.ListLaws.{zip-mapped, flagged-map}
 use Rattle.limiter.proofs.PassOne.KeyWordLaws.{keys-many}
 use Rattle.limiter.proofs.PassOne.HeldLaws.{held-rise, held-are, held-of}
 use Rattle.limiter.proofs.PassOne.RewriteLaws.{Wrote, wrote-none, wrote-each, wrote-held, wrote-read}
-use Rattle.limiter.proofs.PassOne.UpdateLaws.{updateFor, each-left, each-stays, each-given}
+use Rattle.limiter.proofs.PassOne.UpdateLaws.{updateFor, each-left, each-stays}
 
 -- a test that all pass
 all-yes : {A : Type 0} (xs : List A) → all (λ (x : A). true) xs ≡ true
@@ -47,12 +49,18 @@ unfolding all
 all-yes [] = refl
 all-yes (x ∷ xs) = all-yes xs
 
-module _ (l : Limiter) (keys hot : List ℕ) (elsewhere : List Bool) (now n : ℕ) (p : Passable l keys hot elsewhere) (hn : isWord now ≡ true) where
+module _ (par : Parameters) (margin : par .«eviction_margin» ≡ evictionMargin) (l : Limiter) (keys hot : List ℕ) (elsewhere : List Bool) (now n : ℕ) (p : Passable l keys hot elsewhere) (hn : isWord now ≡ true) where
   abbrev m : ℕ
   m = l .keys
 
   abbrev c : ℕ
   c = l .config .«demand_time_constant»
+
+  abbrev d : ℕ
+  d = par .«denial_time_constant»
+
+  abbrev silent : Float
+  silent = par .«silent_level»
 
   abbrev s : Settings
   s = settingsOf l
@@ -62,17 +70,17 @@ module _ (l : Limiter) (keys hot : List ℕ) (elsewhere : List Bool) (now n : �
   ks = keyRecords m keys
 
   abbrev fs : List KeyRecord
-  fs = map (foldedFor c now) ks
+  fs = map (foldedFor c d now) ks
 
   -- their words
   abbrev pub foldedKeys : List ℕ
-  foldedKeys = table (map (foldedRow c now) (records 22 m keys)) keys
+  foldedKeys = table (map (foldedRow c d now) (records 22 m keys)) keys
 
   as-written : foldedKeys ≡ table (map (keyWords unitNanos) fs) keys
-  as-written = ap (λ (rs : List (List ℕ)). table rs keys) (folded-rows c now m keys)
+  as-written = ap (λ (rs : List (List ℕ)). table rs keys) (folded-rows c d now m keys)
 
   many : length fs ≡ m
-  many = length-map ks (foldedFor c now) ∙ keys-many m keys
+  many = length-map ks (foldedFor c d now) ∙ keys-many m keys
 
   fit : length fs * 22 ≤ length keys
   fit = omega (arith, ap (λ (k : ℕ). k * 22) many, p .keys-held .fit)
@@ -82,17 +90,17 @@ module _ (l : Limiter) (keys hot : List ℕ) (elsewhere : List Bool) (now n : �
 
   rows : records 22 m foldedKeys ≡ map (keyWords unitNanos) fs
   rows =
-      records-table 22 m (map (foldedRow c now) (records 22 m keys)) keys (folded-wide c now m keys) (folded-many c now m keys) ∙ folded-rows c now m
+      records-table 22 m (map (foldedRow c d now) (records 22 m keys)) keys (folded-wide c d now m keys) (folded-many c d now m keys) ∙ folded-rows c d now m
       keys
 
   valids : all (validKey unitNanos) fs ≡ true
   valids =
-      all-mapped (foldedFor c now) (validKey unitNanos) (validKey unitNanos) ks
-      (λ k v. key-valid unitNanos units-accepted (foldedFor c now k) (fold-good base units-accepted s (noOthers n) now n hn k v))
+      all-mapped (foldedFor c d now) (validKey unitNanos) (validKey unitNanos) ks
+      (λ k v. key-valid unitNanos units-accepted (foldedFor c d now k) (fold-good par unitNanos units-accepted s (noOthers n) now n hn k v))
       (p .keys-held .valids)
 
   rise : rising keyOfKey fs ≡ true
-  rise = rising-map keyOfKey (foldedFor c now) (λ k. refl) ks ∙ held-rise m keys (p .keys-held)
+  rise = rising-map keyOfKey (foldedFor c d now) (λ k. refl) ks ∙ held-rise m keys (p .keys-held)
 
   folded-are : keyRecords m foldedKeys ≡ fs
   folded-are = held-are m fs foldedKeys rows valids
@@ -121,70 +129,70 @@ module _ (l : Limiter) (keys hot : List ℕ) (elsewhere : List Bool) (now n : �
       omega (arith, leb-true (l .config .«hot_set_size») 64 (b .1))
 
   module _ (r : Passed) (hot′ : List ℕ) (flags hots : List Bool) (keys′ : List ℕ) (elsewhere′ : List Bool)
-      (u : HotUpdated l now n foldedKeys hot elsewhere (r .hot) hot′ flags hots)
-      (d : IdleDropped now m foldedKeys hots flags (r .keys) keys′ elsewhere′)
+      (u : HotUpdated silent l now n foldedKeys hot elsewhere (r .hot) hot′ flags hots)
+      (x : IdleDropped silent now m foldedKeys hots flags (r .keys) keys′ elsewhere′)
       (o : Others) (q : take m elsewhere ≡ map (λ (k : KeyRecord). o .elsewhere (k .key)) ks)
     where
       -- ---- the updates
       abbrev isOut : KeyRecord → Bool
-      isOut k = isElsewhere base s o now n k
+      isOut k = isElsewhere par s o now n k
 
       told : take m elsewhere ≡ map (λ (k : KeyRecord). o .elsewhere (k .key)) fs
-      told = q ∙ sym (map-map (λ (k : KeyRecord). o .elsewhere (k .key)) (foldedFor c now) ks)
+      told = q ∙ sym (map-map (λ (k : KeyRecord). o .elsewhere (k .key)) (foldedFor c d now) ks)
 
-      flags-are : zipWith elsewhereIf (keyRecords m foldedKeys) (take m elsewhere) ≡ map isOut fs
-      flags-are = (λ i. zipWith elsewhereIf (folded-are i) (told i)) ∙ zip-mapped elsewhereIf (λ (k : KeyRecord). o .elsewhere (k .key)) fs
+      flags-are : zipWith (elsewhereIf silent) (keyRecords m foldedKeys) (take m elsewhere) ≡ map isOut fs
+      flags-are = (λ i. zipWith (elsewhereIf silent) (folded-are i) (told i)) ∙ zip-mapped (elsewhereIf silent) (λ (k : KeyRecord). o .elsewhere (k .key)) fs
 
-      updates-are : updatesFor l n foldedKeys elsewhere ≡ map (updateFor l o now n) fs
+      updates-are : updatesFor silent l n foldedKeys elsewhere ≡ map (updateFor par margin l o now n) fs
       updates-are =
           (λ i. zipWith (updateOf (l .config .alpha) n) (folded-are i) (flags-are i))
           ∙ zip-mapped (updateOf (l .config .alpha) n) isOut fs
 
       -- ---- what pass one leaves
       abbrev done : Settled
-      done = passOne base s o now n ks es
+      done = passOne par s o now n ks es
 
       abbrev stayed : List Bool
-      stayed = stayFlags base s o now n fs es
+      stayed = stayFlags par s o now n fs es
 
       keys-left : done .keys ≡ flagged stayed fs
-      keys-left = ap (λ (x : Settled). x .keys) (pass-one-is base s o now n ks es)
+      keys-left = ap (λ (x : Settled). x .keys) (pass-one-is par s o now n ks es)
 
-      hot-left : done .hot ≡ hotAfter base s o now n fs es
-      hot-left = ap (λ (x : Settled). x .hot) (pass-one-is base s o now n ks es)
+      hot-left : done .hot ≡ hotAfter par s o now n fs es
+      hot-left = ap (λ (x : Settled). x .hot) (pass-one-is par s o now n ks es)
 
-      settled : Settles base units-accepted s o now n hn (λ (j : ℕ). true) ks done
-      settled = settles base units-accepted s o now n hn (λ (j : ℕ). true) ks es
+      settled : Settles par unitNanos units-accepted s o now n hn (λ (j : ℕ). true) ks done
+      settled = settles par unitNanos units-accepted s o now n hn (λ (j : ℕ). true) ks es
           (record {
             keys = p .keys-held .valids;
             rise = held-rise m keys (p .keys-held);
-            hot = p .hot-held .valids;
+            hot = valid-entries (l .hot) hot (p .hot-held .held);
             hot-rise = asc-entries (l .hot) hot (p .hot-held .held);
             hot-few = omega (arith, hot-many, p .hot-held .few);
             hot-tracked = all-yes es;
           })
 
       -- ---- the keys that stay
-      stays-are : stayingKeys now m foldedKeys hots ≡ stayed
+      stays-are : stayingKeys silent now m foldedKeys hots ≡ stayed
       stays-are =
-          (λ i. zipWith (staysIf now) (folded-are i) (u .hot-flags i))
-          ∙ ap (λ (us : List Update). zipWith (staysIf now) fs (updateEach evictionMargin (setOf l) now us es .hot)) updates-are
-          ∙ each-stays l o now n fs es
+          (λ i. zipWith (staysIf silent now) (folded-are i) (u .hot-flags i))
+          ∙ ap (λ (us : List Update). zipWith (staysIf silent now) fs (updateEach evictionMargin (setOf l) now us es .hot)) updates-are
+          ∙ each-stays par margin l o now n fs es
 
-      left-rows : flagged (stayingKeys now m foldedKeys hots) (records 22 m foldedKeys) ≡ map (keyWords unitNanos) (done .keys)
+      left-rows : flagged (stayingKeys silent now m foldedKeys hots) (records 22 m foldedKeys) ≡ map (keyWords unitNanos) (done .keys)
       left-rows =
           (λ i. flagged (stays-are i) (rows i))
           ∙ flagged-map (keyWords unitNanos) stayed fs
           ∙ ap (map (keyWords unitNanos)) (sym keys-left)
 
       count : r .keys ≡ length (done .keys)
-      count = d .kept .count ∙ ap length left-rows ∙ length-map (done .keys) (keyWords unitNanos)
+      count = x .kept .count ∙ ap length left-rows ∙ length-map (done .keys) (keyWords unitNanos)
 
       few : r .keys ≤ m
       few = omega (arith, count, settled .few, keys-many m keys)
 
       left-words : keys′ ≡ table (map (keyWords unitNanos) (done .keys)) foldedKeys
-      left-words = d .kept .words ∙ ap (λ (rs : List (List ℕ)). table rs foldedKeys) left-rows
+      left-words = x .kept .words ∙ ap (λ (rs : List (List ℕ)). table rs foldedKeys) left-rows
 
       left-fit : length (done .keys) * 22 ≤ m * 22
       left-fit = mul-le-mul-right 22 (omega (arith, count, few))
@@ -210,12 +218,12 @@ module _ (l : Limiter) (keys hot : List ℕ) (elsewhere : List Bool) (now n : �
       hot-count =
           u .count
           ∙ ap (λ (us : List Update). length (updateEach evictionMargin (setOf l) now us es .left)) updates-are
-          ∙ ap length (each-left l o now n fs es ∙ sym hot-left)
+          ∙ ap length (each-left par margin l o now n fs es ∙ sym hot-left)
 
       wrote : Wrote (l .config .«hot_set_size») hot (done .hot) hot′
       wrote =
-          rw (u .words, updates-are, hot-left, ← each-left l o now n fs es)
-          (wrote-each evictionMargin (setOf l) now hot roomy (map (updateFor l o now n) fs) es hot (each-given l o now n fs valids)
+          rw (u .words, updates-are, hot-left, ← each-left par margin l o now n fs es)
+          (wrote-each evictionMargin (setOf l) now hot roomy (map (updateFor par margin l o now n) fs) es hot
           (wrote-none (l .config .«hot_set_size») (l .hot) hot (p .hot-held .held) (omega (arith, hot-many, p .hot-held .few))))
 
       pub passed : Holding l done isOut keys hot r keys′ hot′ elsewhere′
@@ -229,13 +237,12 @@ module _ (l : Limiter) (keys hot : List ℕ) (elsewhere : List Bool) (now n : �
         keys-long = left-long;
         hot-count = hot-count;
         hot-few = omega (arith, hot-count, wrote .few);
-        hot-held = wrote-held (l .config .«hot_set_size») (r .hot) hot (done .hot) hot′ roomy hot-count wrote;
+        hot-held = wrote-held (l .config .«hot_set_size») (r .hot) hot (done .hot) hot′ roomy hot-count wrote (settled .ready .hot);
         hot-are = wrote-read (l .config .«hot_set_size») (r .hot) hot (done .hot) hot′ hot-count wrote (settled .ready .hot);
-        hot-valids = settled .ready .hot;
         hot-past = ap (λ (k : ℕ). drop (6 * k) hot′) small ∙ wrote .past ∙ ap (λ (k : ℕ). drop (6 * k) hot) (sym small);
         hot-long = wrote .long;
         flags =
-            d .moved
+            x .moved
             ∙ (λ i. flagged (stays-are i) ((u .elsewhere-flags ∙ flags-are) i))
             ∙ flagged-map isOut stayed fs
             ∙ ap (map isOut) (sym keys-left);
@@ -246,10 +253,13 @@ module _ (l : Limiter) (keys hot : List ℕ) (elsewhere : List Bool) (now n : �
     pub passing-held : HeldKeys m ys
     passing-held = subst (λ (zs : List ℕ). HeldKeys m zs) (sym e) folded-held
 
-    pub passes : (r : Passed) (hot′ : List ℕ) (flags hots : List Bool) (keys′ : List ℕ) (elsewhere′ : List Bool)
-        → HotUpdated l now n ys hot elsewhere (r .hot) hot′ flags hots → IdleDropped now m ys hots flags (r .keys) keys′ elsewhere′
-        → PassesOne l now n keys hot elsewhere r keys′ hot′ elsewhere′
-    passes r hot′ flags hots keys′ elsewhere′ u d o q =
+    -- under parameters that are these
+    pub passes : (given : Parameters) → par ≡ given → (r : Passed) (hot′ : List ℕ) (flags hots : List Bool) (keys′ : List ℕ) (elsewhere′ : List Bool)
+        → HotUpdated silent l now n ys hot elsewhere (r .hot) hot′ flags hots → IdleDropped silent now m ys hots flags (r .keys) keys′ elsewhere′
+        → PassesOne given l now n keys hot elsewhere r keys′ hot′ elsewhere′
+    passes given z r hot′ flags hots keys′ elsewhere′ u x =
+        subst (λ (y : Parameters). PassesOne y l now n keys hot elsewhere r keys′ hot′ elsewhere′) z
+        (λ o q.
         passed r hot′ flags hots keys′ elsewhere′
-        (subst (λ (zs : List ℕ). HotUpdated l now n zs hot elsewhere (r .hot) hot′ flags hots) e u)
-        (subst (λ (zs : List ℕ). IdleDropped now m zs hots flags (r .keys) keys′ elsewhere′) e d) o q
+        (subst (λ (zs : List ℕ). HotUpdated silent l now n zs hot elsewhere (r .hot) hot′ flags hots) e u)
+        (subst (λ (zs : List ℕ). IdleDropped silent now m zs hots flags (r .keys) keys′ elsewhere′) e x) o q)

@@ -4,44 +4,34 @@ use mathlib.Core.Bool.{true}
 use mathlib.Core.List.{List, [], _∷_, map}
 use Prim.Native.Nat.{ℕ, _*_, _≤_}
 use native.Mathlib.Omega.{arith}
-use lib.Dec.{T}
-use lib.Ieee.{Float, binary64, fits}
+use lib.Ieee.{Float}
 use lib.ListN.{length, drop}
-use Rattle.float.specs.Magnitude.{magnitude}
 use Rattle.records.specs.Records.{records, table}
 use Rattle.demand.specs.declared.hot_set.HotEntry.{HotEntry}
 use Rattle.demand.specs.declared.hot_set.HotSet.{HotSet}
-use Rattle.demand.specs.HotSet.{Outcome, Update, updateBy, updateEach, words, entry, entries}
-use Rattle.demand.specs.HotSetCalls.{rewrittenEach}
-use Rattle.demand.specs.PeerLists.{all}
-use Rattle.demand.specs.Steps.HotSetSteps.{Held}
-use Rattle.demand.proofs.HotSetKept.{Goods, goods-entries, held-table}
-use Rattle.demand.proofs.HotSetMap.{Asc, asc-entries, table-same}
-use Rattle.demand.proofs.HotSetTheorems.{Kept, kept-update}
-use Rattle.demand.proofs.HotSetWords.{length-words}
-use Rattle.limiter.specs.State.{validHotEntry}
-use Rattle.limiter.proofs.States.TypedTableLaws.{all-back, records-written, written-again, past-written, length-written}
-use Rattle.limiter.proofs.States.WrittenLaws.{hot-back}
-
--- updates with demands that are finite with a clear sign bit
-abbrev pub Given : List Update → Type 0
-Given [] = Unit
-Given (u ∷ us) = (T (fits binary64 (u .demand)) × (magnitude (u .demand) ≡ true)) × Given us
+use Rattle.demand.specs.HotSet.Set.{Outcome, Update, updateBy, updateEach, words, entry, entries, validEntry}
+use Rattle.demand.specs.HotSet.Calls.{rewrittenEach}
+use Rattle.questions.specs.Lists.{all}
+use Rattle.demand.specs.HotSet.Steps.{EntriesReady}
+use Rattle.demand.proofs.HotSet.Kept.{ready-table}
+use Rattle.demand.proofs.HotSet.Map.{Asc, asc-entries, table-same}
+use Rattle.demand.proofs.HotSet.Theorems.{Kept, kept-update}
+use Rattle.demand.proofs.HotSet.ValidLaws.{entry-back}
+use Rattle.demand.proofs.HotSet.Words.{length-words}
+use Rattle.records.proofs.TypedLaws.{all-back, records-written, written-again, past-written, length-written}
 
 -- entries as a hot set of a size holds them stand at the front of words that were xs; past the size they are as they were
 pub record Wrote (size : ℕ) (xs : List ℕ) (es : List HotEntry) (ys : List ℕ) : Type 0 where
   pub ascends : Asc es
-  pub goods : Goods es
   pub few : length es ≤ size
   pub front : ys ≡ table (map words es) ys
   pub past : drop (6 * size) ys ≡ drop (6 * size) xs
   pub long : length ys ≡ length xs
 
 -- before the first update
-pub wrote-none : (size n : ℕ) (xs : List ℕ) → Held n xs → length (entries n xs) ≤ size → Wrote size xs (entries n xs) xs
+pub wrote-none : (size n : ℕ) (xs : List ℕ) → EntriesReady n xs → length (entries n xs) ≤ size → Wrote size xs (entries n xs) xs
 wrote-none size n xs h l = record {
   ascends = asc-entries n xs h;
-  goods = goods-entries n xs h;
   few = l;
   front = sym (table-same n xs h);
   past = refl;
@@ -53,11 +43,10 @@ module _ (margin : Float) (s : HotSet) (now : ℕ) (xs : List ℕ) (room : 6 * s
   size = s .«max_size»
 
   -- other entries in the place of those
-  wrote-again : (es fs : List HotEntry) (ys : List ℕ) → Wrote size xs es ys → Asc fs → Goods fs → length fs ≤ size
+  wrote-again : (es fs : List HotEntry) (ys : List ℕ) → Wrote size xs es ys → Asc fs → length fs ≤ size
       → Wrote size xs fs (table (map words fs) ys)
-  wrote-again es fs ys w a g l = record {
+  wrote-again es fs ys w a l = record {
     ascends = a;
-    goods = g;
     few = l;
     front = written-again words 6 length-words fs ys;
     past = past-written words 6 length-words fs ys (6 * size) (omega arith) ∙ w .past;
@@ -65,26 +54,27 @@ module _ (margin : Float) (s : HotSet) (now : ℕ) (xs : List ℕ) (room : 6 * s
   }
 
   -- one update after the other
-  pub wrote-each : (us : List Update) (es : List HotEntry) (ys : List ℕ) → Given us → Wrote size xs es ys
+  pub wrote-each : (us : List Update) (es : List HotEntry) (ys : List ℕ) → Wrote size xs es ys
       → Wrote size xs (updateEach margin s now us es .left) (rewrittenEach margin s now us es ys)
   unfolding updateEach rewrittenEach
-  wrote-each [] es ys g w = w
-  wrote-each (u ∷ us) es ys g w =
+  wrote-each [] es ys w = w
+  wrote-each (u ∷ us) es ys w =
       let o : Outcome = updateBy margin s now u es in
       let k : Kept size (u .key) o =
-      kept-update margin s (u .key) (u .demand) (u .threshold) now (u .elsewhere) (g .0 .0) (g .0 .1) es (w .ascends) (w .goods) (w .few) in
-      wrote-each us (o .left) (table (map words (o .left)) ys) (g .1) (wrote-again es (o .left) ys w (k .ascends) (k .good) (k .bound))
+      kept-update margin s (u .key) (u .demand) (u .threshold) now (u .elsewhere) es (w .ascends) (w .few) in
+      wrote-each us (o .left) (table (map words (o .left)) ys) (wrote-again es (o .left) ys w (k .ascends) (k .bound))
 
 -- what is held then
 pub wrote-held : (size n : ℕ) (xs : List ℕ) (es : List HotEntry) (ys : List ℕ) → 6 * size ≤ length xs → n ≡ length es → Wrote size xs es ys
-    → Held n ys
-wrote-held size n xs es ys room e w =
-    (rw (e, w .front) (held-table es ys (w .ascends) (w .goods) (omega (arith, w .few, w .long))))
+    → all validEntry es ≡ true
+    → EntriesReady n ys
+wrote-held size n xs es ys room e w v =
+    (rw (e, w .front) (ready-table es ys (w .ascends) v (omega (arith, w .few, w .long))))
 
-pub wrote-read : (size n : ℕ) (xs : List ℕ) (es : List HotEntry) (ys : List ℕ) → n ≡ length es → Wrote size xs es ys → all validHotEntry es ≡ true
+pub wrote-read : (size n : ℕ) (xs : List ℕ) (es : List HotEntry) (ys : List ℕ) → n ≡ length es → Wrote size xs es ys → all validEntry es ≡ true
     → entries n ys ≡ es
 unfolding entries
 wrote-read size n xs es ys e w v =
     (λ i. map entry (records 6 (e i) (w .front i)))
     ∙ ap (map entry) (records-written words 6 length-words es ys)
-    ∙ all-back words entry validHotEntry hot-back es v
+    ∙ all-back words entry validEntry entry-back es v

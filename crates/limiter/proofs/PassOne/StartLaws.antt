@@ -9,9 +9,9 @@ use lib.Dec.{leb}
 use lib.ListN.{length, length-map}
 use Rattle.records.specs.Records.{records}
 use Rattle.records.proofs.RecordLaws.{length-records}
-use Rattle.records.proofs.TestLaws.{both, and-intro}
+use Rattle.questions.proofs.Tests.{both, and-intro}
 use Rattle.gcra.specs.Packed.{unitNanos}
-use Rattle.demand.specs.HotSet.{entry, entries, validSize}
+use Rattle.demand.specs.HotSet.Set.{entry, entries, validSize}
 use Rattle.limiter.specs.declared.Limiter.{Limiter}
 use Rattle.limiter.specs.State.{LimiterTables, lengths, haveRoom, stateOf, areExact, isValid}
 use Rattle.limiter.specs.Steps.PassOneSteps.{HeldHot, Passable}
@@ -37,7 +37,6 @@ module _ (l : Limiter) (t : LimiterTables) (room : haveRoom (l .config) (lengths
         fit = room-says (l .config) (lengths t) room .for-hot;
         few = omega (arith, many, v .hot-few);
         held = held-hot l t room e;
-        valids = v .hot;
       }
 
   pub pass-ready : (elsewhere : List Bool) → l .keys ≤ length elsewhere → Passable l (t .keys) (t .hot) elsewhere

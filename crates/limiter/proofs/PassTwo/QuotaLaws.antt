@@ -12,21 +12,21 @@ use lib.ListN.{length, drop, getD, set, length-map, List·getD-map}
 use Rattle.records.specs.Records.{records, table}
 use Rattle.records.proofs.RecordLaws.{length-records}
 use Rattle.records.proofs.TableLaws.{Wide}
-use Rattle.records.proofs.TestLaws.{both, and-intro}
+use Rattle.questions.proofs.Tests.{both, and-intro}
 use Rattle.gcra.specs.declared.Quota.{Quota}
 use Rattle.gcra.specs.declared.Gcra.{Gcra}
 use Rattle.gcra.specs.declared.QuotaSet.{QuotaSet}
 use Rattle.gcra.specs.Packed.{unitNanos, maxBurst, validBurst, validQuota, validWord, pack, unpacks}
 use Rattle.gcra.specs.Rate.{perSecond, setQuota}
 use Rattle.gcra.specs.Calls as calls
-use Rattle.gcra.proofs.Answers.{alone-changed}
+use Rattle.questions.proofs.Answers.{alone-changed}
 use Rattle.gcra.proofs.Encoding.{units-accepted}
 use Rattle.gcra.proofs.Packing.{pack-valid}
 use Rattle.gcra.proofs.Rates.{set-is, per-second-valid}
 use Rattle.demand.specs.declared.hot_set.HotEntry.{HotEntry}
 use Rattle.demand.specs.Allocation.{isRate}
-use Rattle.demand.specs.PeerLists.{all}
-use Rattle.demand.proofs.PeerWordLaws.{wide-map}
+use Rattle.questions.specs.Lists.{all}
+use Rattle.records.proofs.TypedLaws.{wide-map}
 use Rattle.limiter.specs.declared.pass_two.RateTerms.{RateTerms}
 use Rattle.limiter.specs.State.{KeyRecord, floatOf, isF64, gcraWords, gcraOf, keyWords, keyOf, validLimit, validKey}
 use Rattle.limiter.specs.Steps.TickSteps.{keyRecord, keyRecords, HeldKey}

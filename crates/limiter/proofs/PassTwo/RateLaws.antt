@@ -13,24 +13,26 @@ use lib.Seq.{getD-drop}
 use Rattle.float.specs.Order.{minimumNumber}
 use Rattle.records.specs.declared.Found.the-variants.{At, Gap, Unfit}
 use Rattle.records.specs.Records.{findIn}
-use Rattle.records.proofs.TestLaws.{contradiction, split, and-intro}
-use Rattle.gcra.specs.Questions.{_asks_, refused, given, passes}
-use Rattle.gcra.proofs.Answers.{answer-passed, given-passed}
+use Rattle.questions.proofs.Tests.{contradiction, split, and-intro}
+use Rattle.questions.specs.Questions.{_asks_, refused, given, passes}
+use Rattle.questions.proofs.Answers.{answer-passed, given-passed}
+use Rattle.gcra.specs.Packed.{unitNanos}
 use Rattle.demand.specs.declared.allocation.View.{View}
 use Rattle.demand.specs.declared.allocation.ShareAnswer.{ShareAnswer}
 use Rattle.demand.specs.declared.allocation.ShareAnswer.the-variants as share-answer
 use Rattle.demand.specs.declared.hot_set.HotEntry.{HotEntry}
 use Rattle.demand.specs.Allocation.{isRate, isFloorFactor, isClusterSize, shared, shareAnswer, share}
-use Rattle.demand.specs.Estimator.{whole}
-use Rattle.demand.specs.HotSet.{entry, entries, get, isHot, there}
-use Rattle.demand.specs.PeerState.{PeersState}
-use Rattle.demand.specs.PeerReaders.{total}
-use Rattle.demand.specs.Steps.HotSetSteps.{Held}
-use Rattle.demand.proofs.HotSetWords.{length-entries}
-use Rattle.demand.proofs.HotSetMap.{place, hit, hit-get, hit-place, at-says, got-gap, never-unfit}
+use Rattle.demand.specs.Estimators.Estimator.{whole}
+use Rattle.demand.specs.HotSet.Set.{entry, entries, get, isHot, there}
+use Rattle.demand.specs.Peers.State.{PeersState}
+use Rattle.demand.specs.Peers.Readers.{total}
+use Rattle.demand.specs.HotSet.Steps.{EntriesReady}
+use Rattle.demand.proofs.HotSet.Words.{length-entries}
+use Rattle.demand.proofs.HotSet.Map.{place, hit, hit-get, hit-place, at-says, got-gap, never-unfit}
 use Rattle.limiter.specs.declared.Limiter.{Limiter}
+use Rattle.limiter.specs.declared.Parameters.{Parameters}
 use Rattle.limiter.specs.declared.pass_two.RateTerms.{RateTerms}
-use Rattle.limiter.specs.State.{KeyRecord, base, floatOf, settingsOf, keyOf}
+use Rattle.limiter.specs.State.{KeyRecord, floatOf, settingsOf, keyOf}
 use Rattle.limiter.specs.Ticks.{Others, noOthers, peersOthers, isElsewhere, rateOf, passTwo}
 use Rattle.limiter.specs.Steps.TickSteps.{keyRecord}
 use Rattle.limiter.specs.Steps.PassTwoSteps.{termsOf, shareBy, totalAt, hotRate, coldRate, rateBy, withRate, requoted}
@@ -124,13 +126,13 @@ total-is p key (x ∷ es) (t ∷ ts) e h = split (eqb (x .key) key)
     (λ q. rw q (total-is p key es ts (ap (λ (l : List Float). drop 1 l) e) (rw q at h)))
 
 -- a key is found at one of the entries
-pub found-within : (h : ℕ) (hot : List ℕ) → Held h hot → (key i : ℕ) → At i ≡ findIn 6 1 h key 0 hot → i < h
+pub found-within : (h : ℕ) (hot : List ℕ) → EntriesReady h hot → (key i : ℕ) → At i ≡ findIn 6 1 h key 0 hot → i < h
 found-within h hot k key i e =
     let s = at-says h hot k key i (sym e) in
     omega (arith, hit-place key (entries h hot) (s .0), s .1, length-entries h hot)
 
 -- ---- the key in a record's words
-module _ (p : RateTerms) (r : List ℕ) (h : ℕ) (hot : List ℕ) (k : Held h hot) (ts : List Float) (elsewhere : Bool) where
+module _ (p : RateTerms) (r : List ℕ) (h : ℕ) (hot : List ℕ) (k : EntriesReady h hot) (ts : List Float) (elsewhere : Bool) where
   abbrev es : List HotEntry
   es = entries h hot
 
@@ -172,13 +174,13 @@ module _ (p : RateTerms) (r : List ℕ) (h : ℕ) (hot : List ℕ) (k : Held h h
   rate-fit e = never-unfit h hot k (getD r 0 0) (sym e)
 
 -- ---- the rates that a tick gives
-module _ (l : Limiter) (even : Bool) (o : Others) (now n : ℕ) (es : List HotEntry) (ts : List Float)
+module _ (par : Parameters) (l : Limiter) (even : Bool) (o : Others) (now n : ℕ) (es : List HotEntry) (ts : List Float)
     (same : (k : KeyRecord) → isHot (k .key) es ≡ true
     → o .share k ≡ shareBy (termsOf l even n) (k .limit .rate) (k .demand .rate) (totalAt (k .key) es ts)) where
   abbrev elsewhere : KeyRecord → Bool
-  elsewhere k = isElsewhere base (settingsOf l) o now n k
+  elsewhere k = isElsewhere par (settingsOf l) o now n k
 
-  rate-is : (k : KeyRecord) (b : Bool) → b ≡ elsewhere k → rateBy (termsOf l even n) es ts b k ≡ rateOf base (settingsOf l) o now n es k
+  rate-is : (k : KeyRecord) (b : Bool) → b ≡ elsewhere k → rateBy (termsOf l even n) es ts b k ≡ rateOf par (settingsOf l) o now n es k
   unfolding rateBy rateOf hotRate coldRate
   rate-is k b e = split (isHot (k .key) es)
       (λ h. rw h (ap (λ (x : Float). minimumNumber x (mul binary64 (k .limit .rate) (termsOf l even n .cap))) (sym (same k h))))
@@ -187,7 +189,7 @@ module _ (l : Limiter) (even : Bool) (o : Others) (now n : ℕ) (es : List HotEn
   -- so that the keys have the quotas of pass two
   pub requoted-is :
       (bs : List Bool) (ks : List KeyRecord) → take (length ks) bs ≡ map elsewhere ks
-      → requoted (termsOf l even n) es ts now bs ks ≡ passTwo base (settingsOf l) o now n es ks
+      → requoted (termsOf l even n) es ts now bs ks ≡ passTwo par (settingsOf l) o now n unitNanos es ks
   unfolding requoted
   requoted-is [] [] e = refl
   requoted-is [] (k ∷ ks) e = absurd (let z : _≡_ {A = ℕ} 0 1 = cc in omega arith)

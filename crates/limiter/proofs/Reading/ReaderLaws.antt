@@ -8,14 +8,15 @@ use native.Mathlib.Omega.{arith}
 use borrow.Author.Tests.{le-leb}
 use lib.Dec.{eqb}
 use lib.Ieee.{Float, eq, isNan}
-use Rattle.records.proofs.TestLaws.{contradiction, both, and-intro}
-use Rattle.gcra.specs.Questions.{given, answer, passes, firstNo}
-use Rattle.gcra.proofs.Answers.{answer-passed}
+use Rattle.questions.proofs.Tests.{contradiction, both, and-intro}
+use Rattle.questions.specs.Questions.{given, answer, passes, firstNo}
+use Rattle.questions.proofs.Answers.{answer-passed}
 use Rattle.demand.specs.declared.hot_set.HotSet.{HotSet}
-use Rattle.demand.specs.HotSet as hot-set
-use Rattle.demand.specs.HotSetCalls.{askSet}
-use Rattle.demand.specs.PeerLists.{all, first, those}
-use Rattle.demand.proofs.PeerOrderLaws.{all-only}
+use Rattle.demand.specs.HotSet.Set as hot-set
+use Rattle.demand.specs.HotSet.Calls.{askSet}
+use Rattle.demand.proofs.HotSet.Theorems.{ready-valid}
+use Rattle.questions.specs.Lists.{all, first, those}
+use Rattle.questions.proofs.OnlyLaws.{all-only}
 use Rattle.limiter.specs.declared.Cap.{Cap}
 use Rattle.limiter.specs.declared.Limiter.{Limiter}
 use Rattle.limiter.specs.declared.key_record.KeyState.{KeyState}
@@ -61,7 +62,7 @@ pub past : (l : Limiter) (t : LimiterTables) (m : ℕ) → m ≡ firstNo (stateQ
 past l t m e z = passed l t [] m tt e z
 
 -- the first of a list where all pass
-all-first : {A : Type 0} (p : A → Bool) (xs : List A) (x : A) → all p xs ≡ true → some x ≡ first xs → p x ≡ true
+pub all-first : {A : Type 0} (p : A → Bool) (xs : List A) (x : A) → all p xs ≡ true → some x ≡ first xs → p x ≡ true
 unfolding all
 all-first p [] x a e = let z : _≡_ {A = ℕ} 0 1 = cc in absurd (omega arith)
 all-first p (y ∷ ys) x a e = let q : x ≡ y = cc in ap p q ∙ both (p y) (all p ys) a .0
@@ -97,15 +98,17 @@ module _ (l : Limiter) (t : LimiterTables) (p : Passed l t []) where
 
   -- its questions are passed
   hot-passes : passes (askSet setOf (t .hot)) ≡ true
-  unfolding passes hot-set.valid hot-set.validSize stateOf
+  unfolding passes hot-set.validSize stateOf
   hot-passes =
       let v = facts l t (p .room) (p .ok) in
       let z = sizes-say (l .config) (v .settings .config .sizes) in
       let n : l .hot ≤ l .config .«hot_set_size» = omega (arith, v .hot-few, hot-counted l t (p .room) (p .ok)) in
       and-intro _ _ (le-leb _ _ (room-says (l .config) (lengths t) (p .room) .for-hot))
       (and-intro _ _
-      (and-intro _ _ (and-intro _ _ (le-leb 1 (l .config .«hot_set_size») (z .some-hot)) (le-leb (l .config .«hot_set_size») 64 (z .most-hot)))
-      (and-intro _ _ (le-leb (l .hot) (l .config .«hot_set_size») n) (held-hot l t (p .room) (p .ok) .good)))
+      (ready-valid setOf (t .hot)
+      (and-intro _ _ (le-leb 1 (l .config .«hot_set_size») (z .some-hot)) (le-leb (l .config .«hot_set_size») 64 (z .most-hot)))
+      n
+      (held-hot l t (p .room) (p .ok)))
       refl)
 
   -- so that its answer is the limiter's

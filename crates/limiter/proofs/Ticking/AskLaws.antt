@@ -4,7 +4,7 @@ use mathlib.Core.Bool.{Bool, true, false, _&&_}
 use mathlib.Core.List.{List, [], _∷_}
 use Prim.Native.Nat.{ℕ}
 use native.Mathlib.Omega.{arith}
-use Rattle.gcra.specs.Questions.{Question, _asks_, firstNo}
+use Rattle.questions.specs.Questions.{Question, _asks_, firstNo}
 
 -- what one of them is asked, and what both are
 abbrev asked : Bool → Bool → List Question

@@ -10,10 +10,10 @@ use Rattle.records.specs.Records.{records, table}
 use Rattle.records.proofs.RecordLaws.{length-records}
 use Rattle.gcra.specs.Packed.{unitNanos}
 use Rattle.demand.specs.declared.hot_set.HotEntry.{HotEntry}
-use Rattle.demand.specs.HotSet.{entries}
-use Rattle.demand.specs.PeerLists.{all, only}
-use Rattle.demand.specs.Steps.PeerRuns.{Tabled}
-use Rattle.demand.proofs.PeerOrderLaws.{all-only, length-only}
+use Rattle.demand.specs.HotSet.Set.{entries}
+use Rattle.questions.specs.Lists.{all, only}
+use Rattle.records.specs.Typed.{Tabled}
+use Rattle.questions.proofs.OnlyLaws.{all-only, length-only}
 use Rattle.limiter.specs.declared.LastTick.the-variants.{At}
 use Rattle.limiter.specs.declared.Limiter.{Limiter}
 use Rattle.limiter.specs.State.{KeyRecord, capOf, isTracked, keyWords, validKey}
@@ -22,7 +22,7 @@ use Rattle.limiter.specs.Steps.TickSteps.{keyRecord, keyRecords, staysUn
 use Rattle.limiter.specs.Steps.PassTwoSteps.{termsOf, requoted, Finishing, keysLeft, shadowsLeft, Finished}
 use Rattle.limiter.proofs.States.KeyListLaws.{rising, rising-only}
 use Rattle.limiter.proofs.States.StateValidLaws.{keyOfKey}
-use Rattle.limiter.proofs.States.TypedTableLaws.{records-written, length-written}
+use Rattle.records.proofs.TypedLaws.{records-written, length-written}
 use Rattle.limiter.proofs.States.WrittenLaws.{key-long}
 use Rattle.limiter.proofs.Walking.CapLaws.{cap-leaves}
 use Rattle.limiter.proofs.PassTwo.QuotaLaws.{requoted-many, requoted-rising, requoted-valid}

@@ -1,7 +1,7 @@
 -- Laws: what pass one and what comes after it leave in the tables is the state after the tick.
 use mathlib.Core.Path.{_≡_, refl, sym, ap, _∙_}
 use mathlib.Core.Bool.{Bool, true}
-use mathlib.Core.List.{List, _∷_, map}
+use mathlib.Core.List.{List, map}
 use Prim.Native.Nat.{ℕ, _+_, _-_, _*_, _≤_}
 use native.Mathlib.Omega.{arith}
 use lib.Ieee.{Float}
@@ -9,33 +9,31 @@ use lib.ListN.{length, take, drop, length-take, length-map}
 use lib.Seq.{drop-drop}
 use Rattle.records.specs.Records.{records, table}
 use Rattle.records.proofs.RecordLaws.{length-records}
-use Rattle.records.proofs.TestLaws.{contradiction, both}
+use Rattle.questions.proofs.Tests.{contradiction, both}
 use Rattle.gcra.specs.Packed.{unitNanos}
-use Rattle.gcra.specs.Questions.{Question, passes, firstNo}
-use Rattle.gcra.proofs.Answers.{answer-passed, answer-no, changed-passed, kept-no, not-passed}
+use Rattle.questions.specs.Questions.{Question, passes, firstNo}
+use Rattle.questions.proofs.Answers.{answer-passed, answer-no, changed-passed, kept-no, not-passed}
 use Rattle.demand.specs.declared.hot_set.HotEntry.{HotEntry}
 use Rattle.demand.specs.declared.peer_demand.ChangeAnswer.the-variants.{No, Done}
 use Rattle.demand.specs.Allocation.{isClusterSize}
-use Rattle.demand.specs.HotSet as hot-set
-use Rattle.demand.specs.HotSet.{entries, isHot}
-use Rattle.demand.specs.PeerLists.{only}
-use Rattle.demand.proofs.HotSetMap.{table-same}
-use Rattle.demand.proofs.PeerOrderLaws.{length-only}
-use Rattle.demand.proofs.PeerRangeLaws.{map-only}
-use Rattle.demand.proofs.PeerStoreLaws.{map-map}
-use Rattle.demand.proofs.PeerWordLaws.{words-of-exact}
+use Rattle.demand.specs.HotSet.Set as hot-set
+use Rattle.demand.specs.HotSet.Set.{entries, isHot}
+use Rattle.questions.specs.Lists.{only}
+use Rattle.demand.proofs.HotSet.Map.{table-same}
+use Rattle.questions.proofs.OnlyLaws.{length-only, map-only}
+use Rattle.questions.proofs.ListLaws.{map-map}
+use Rattle.records.proofs.TypedLaws.{words-of-exact, written-again, past-written, length-written}
 use Rattle.limiter.specs.declared.LastTick.the-variants.{At}
 use Rattle.limiter.specs.declared.Limiter.{Limiter}
+use Rattle.limiter.specs.declared.Parameters.{Parameters}
 use Rattle.limiter.specs.declared.pass_one.Passed.{Passed}
-use Rattle.limiter.specs.State.{KeyRecord, ShadowRecord, LimiterState, LimiterTables, tables, base, isF64, isTracked, keyWords, shadowWords}
-use Rattle.limiter.specs.State.{shadowOf, settingsOf, lengths, sizes, haveRoom, stateOf, isValid, valueOf}
+use Rattle.limiter.specs.State.{KeyRecord, ShadowRecord, LimiterState, LimiterTables, tables, isF64, isTracked, keyWords, shadowWords, shadowOf, settingsOf, lengths, sizes, haveRoom, stateOf, isValid, valueOf}
 use Rattle.limiter.specs.Ticks.{Others, Settled, isElsewhere, passOne, passTwo, keysAfter, tickWith}
 use Rattle.limiter.specs.Calls.{Holds, Ticking}
 use Rattle.limiter.specs.Steps.TickSteps.{keyRecord, keyRecords, staysUnder, shadowKey}
 use Rattle.limiter.specs.Steps.PassOneSteps.{Holding}
 use Rattle.limiter.specs.Steps.PassTwoSteps.{termsOf, shareBy, totalAt, requoted, Finishing, keysLeft, shadowsLeft, Finished, Ticked}
 use Rattle.limiter.proofs.States.StateValidLaws.{sizes-say, ValidState, few-shadows}
-use Rattle.limiter.proofs.States.TypedTableLaws.{written-again, past-written, length-written}
 use Rattle.limiter.proofs.States.WrittenLaws.{key-long, shadow-long}
 use Rattle.limiter.proofs.Walking.CapLaws.{capped-is, only-exact}
 use Rattle.limiter.proofs.Checking.ReadyLaws.{few-keys, held-shadows}
@@ -57,11 +55,11 @@ module _ (l : Limiter) (t : LimiterTables) (room : haveRoom (l .config) (lengths
   state-facts = facts l t room ok
 
   -- ---- after pass one
-  module _ (o : Others) (now n : ℕ) (q : Passed) (keys₁ hot₁ : List ℕ) (flags : List Bool)
-      (h : Holding l (passOne base (settingsOf l) o now n (keyRecords (l .keys) (t .keys)) (entries (l .hot) (t .hot)))
-      (isElsewhere base (settingsOf l) o now n) (t .keys) (t .hot) q keys₁ hot₁ flags) where
+  module _ (par : Parameters) (o : Others) (now n : ℕ) (q : Passed) (keys₁ hot₁ : List ℕ) (flags : List Bool)
+      (h : Holding l (passOne par (settingsOf l) o now n (keyRecords (l .keys) (t .keys)) (entries (l .hot) (t .hot)))
+      (isElsewhere par (settingsOf l) o now n) (t .keys) (t .hot) q keys₁ hot₁ flags) where
     abbrev p : Settled
-    p = passOne base (settingsOf l) o now n (keyRecords (l .keys) (t .keys)) (entries (l .hot) (t .hot))
+    p = passOne par (settingsOf l) o now n (keyRecords (l .keys) (t .keys)) (entries (l .hot) (t .hot))
 
     -- there are few keys and hot entries
     pub few : (q .keys ≤ 4096) × (q .hot ≤ 64)
@@ -73,7 +71,7 @@ module _ (l : Limiter) (t : LimiterTables) (room : haveRoom (l .config) (lengths
     -- each key has its flag
     flags-fit : q .keys ≤ length flags
     flags-fit =
-        omega (arith, ap length (h .flags), length-take (q .keys) flags, length-map (p .keys) (isElsewhere base (settingsOf l) o now n), h .key-count)
+        omega (arith, ap length (h .flags), length-take (q .keys) flags, length-map (p .keys) (isElsewhere par (settingsOf l) o now n), h .key-count)
 
     pub finishing :
         (totals : List Float) → 64 ≤ length totals → isClusterSize n ≡ true → Finishing l keys₁ (q .keys) hot₁ (q .hot) (t .shadows) flags totals n
@@ -99,7 +97,7 @@ module _ (l : Limiter) (t : LimiterTables) (room : haveRoom (l .config) (lengths
         (f : Finished l keys₁ (entries (q .hot) hot₁) (q .hot) (t .shadows)
         (requoted (termsOf l even n) (entries (q .hot) hot₁) ts now flags (keyRecords (q .keys) keys₁)) now r keys₃ shadows₃) where
       abbrev after : LimiterState
-      after = tickWith base o now n start
+      after = tickWith par unitNanos o now n start
 
       abbrev set : List KeyRecord
       set = requoted (termsOf l even n) (entries (q .hot) hot₁) ts now flags (keyRecords (q .keys) keys₁)
@@ -107,15 +105,15 @@ module _ (l : Limiter) (t : LimiterTables) (room : haveRoom (l .config) (lengths
       abbrev left : List KeyRecord
       left = keysLeft l (entries (q .hot) hot₁) set
 
-      set-is : set ≡ passTwo base (settingsOf l) o now n (p .hot) (p .keys)
+      set-is : set ≡ passTwo par (settingsOf l) o now n unitNanos (p .hot) (p .keys)
       set-is =
           (λ i. requoted (termsOf l even n) (h .hot-are i) ts now flags (h .keys-are i))
-          ∙ requoted-is l even o now n (p .hot) ts same flags (p .keys) (ap (λ (m : ℕ). take m flags) (sym (h .key-count)) ∙ h .flags)
+          ∙ requoted-is par l even o now n (p .hot) ts same flags (p .keys) (ap (λ (m : ℕ). take m flags) (sym (h .key-count)) ∙ h .flags)
 
-      left-is : left ≡ keysAfter base (settingsOf l) o now n p
+      left-is : left ≡ keysAfter par (settingsOf l) o now n unitNanos p
       left-is =
           (λ i. keysLeft l (h .hot-are i) (set-is i))
-          ∙ sym (capped-is base (settingsOf l) o now n (p .hot) (passTwo base (settingsOf l) o now n (p .hot) (p .keys)))
+          ∙ sym (capped-is par (settingsOf l) o now n (p .hot) (passTwo par (settingsOf l) o now n unitNanos (p .hot) (p .keys)))
 
       -- the shadows that are left
       abbrev tracked : ShadowRecord → Bool

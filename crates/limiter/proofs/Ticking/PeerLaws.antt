@@ -12,20 +12,20 @@ use lib.ListN.{length, take, drop, getD, replicate, length-map}
 use lib.Seq.{take-at}
 use Rattle.records.specs.Records.{records, fits}
 use Rattle.records.proofs.RecordLaws.{length-records}
-use Rattle.records.proofs.TestLaws.{both, and-intro}
+use Rattle.questions.proofs.Tests.{both, and-intro}
 use Rattle.gcra.specs.Packed.{unitNanos}
-use Rattle.gcra.specs.Questions.{passes}
-use Rattle.gcra.proofs.Answers.{changed-passed}
+use Rattle.questions.specs.Questions.{passes}
+use Rattle.questions.proofs.Answers.{changed-passed}
 use Rattle.demand.specs.declared.hot_set.HotEntry.{HotEntry}
 use Rattle.demand.specs.declared.peer_demand.PeerDemand.{PeerDemand}
 use Rattle.demand.specs.declared.peer_demand.ChangeAnswer.{ChangeAnswer}
 use Rattle.demand.specs.Allocation.{isClusterSize}
-use Rattle.demand.specs.HotSet.{entry, entries}
-use Rattle.demand.specs.PeerState as peer-state
-use Rattle.demand.specs.PeerState.{PeersState, PeerTables}
-use Rattle.demand.specs.PeerReaders.{told, total, hotElsewhere}
-use Rattle.demand.specs.PeerCalls.{peersQuestions, eachQuestions, TellsEach}
-use Rattle.demand.proofs.PeerStoreLaws.{map-map}
+use Rattle.demand.specs.HotSet.Set.{entry, entries}
+use Rattle.demand.specs.Peers.State as peer-state
+use Rattle.demand.specs.Peers.State.{PeersState, PeerTables}
+use Rattle.demand.specs.Peers.Readers.{told, total, hotElsewhere}
+use Rattle.demand.specs.Peers.Calls.{peersQuestions, eachQuestions, TellsEach}
+use Rattle.questions.proofs.ListLaws.{map-map}
 use Rattle.limiter.specs.declared.Limiter.{Limiter}
 use Rattle.limiter.specs.State.{KeyRecord, LimiterTables, lengths, haveRoom, isValid, keyOf}
 use Rattle.limiter.specs.Checks.{clusterQuestions}

@@ -10,15 +10,16 @@ use lib.Dec.{leb, ltb, eqb}
 use lib.ListN.{length, drop, getD, drop-of-length-le}
 use lib.Seq.{drop-cons, drop-drop}
 use Rattle.records.specs.Records.{records, key, before, ascending}
-use Rattle.records.proofs.TestLaws.{contradiction, split, both, and-first}
+use Rattle.questions.proofs.Tests.{contradiction, split, both, and-first}
 use Rattle.records.proofs.RecordLaws.{length-records}
 use Rattle.records.proofs.TableLaws.{Wide, wide-records, wide-drop}
-use Rattle.demand.specs.PeerLists.{all, any}
-use Rattle.demand.specs.Steps.PeerScan.{firstWord}
-use Rattle.demand.proofs.PeerOrderLaws.{all-imply, asc-ahead, asc-rest}
-use Rattle.demand.proofs.PeerRowLaws.{first-at}
-use Rattle.demand.proofs.PeerScanLaws.{stop, goes}
-use Rattle.demand.proofs.PeerScanRunLaws.{before-one}
+use Rattle.questions.specs.Lists.{all, any}
+use Rattle.records.specs.Typed.{firstWord}
+use Rattle.questions.proofs.OnlyLaws.{all-imply}
+use Rattle.records.proofs.AscendingLaws.{asc-ahead, asc-rest}
+use Rattle.records.proofs.RowLaws.{first-at}
+use Rattle.demand.proofs.Peers.Validity.ScanLaws.{stop, goes}
+use Rattle.demand.proofs.Peers.Validity.ScanRunLaws.{before-one}
 use Rattle.limiter.specs.Steps.Scan.{areRecords, isAmong, areAmong, keysBelow, begins, merges, areOf, KeysReady}
 use Rattle.limiter.proofs.Validity.ScanWordLaws.{and-under}
 

@@ -16,18 +16,18 @@ use Rattle.float.specs.Magnitude.{magnitude}
 use Rattle.float.proofs.Patterns.{magnitude-bits}
 use Rattle.float.proofs.Magnitudes.{magnitudes-order}
 use Rattle.records.specs.Records.{same}
-use Rattle.records.proofs.TestLaws.{split, and-first, and-second, eqb-self}
+use Rattle.questions.proofs.Tests.{split, and-first, and-second, eqb-self, and-left}
 use Rattle.records.proofs.OrderLaws.{same-eq}
 use Rattle.gcra.specs.declared.Units.{Units}
 use Rattle.gcra.specs.Packed.{Accepted, validBurst, validQuota, pack, unpack}
 use Rattle.demand.specs.Allocation.{isRate}
-use Rattle.demand.specs.PeerLists.{all}
-use Rattle.demand.specs.PeerState.{isWord}
-use Rattle.demand.specs.Words.{timeWords, timeOf, isTime}
-use Rattle.demand.proofs.Literals.{zero-is}
-use Rattle.demand.proofs.WordLaws.{time-words}
-use Rattle.demand.proofs.HotSetWords.{bits-back}
-use Rattle.demand.proofs.PeerScanLaws.{and-left, four-words, words-4, words-6, PassIs}
+use Rattle.questions.specs.Lists.{all}
+use Rattle.records.specs.Typed.{isWord}
+use Rattle.records.specs.Fields.{timeWords, timeOf, isTime}
+use Rattle.demand.proofs.Estimating.Literals.{zero-is}
+use Rattle.records.proofs.FieldLaws.{time-words}
+use Rattle.demand.proofs.HotSet.Words.{bits-back}
+use Rattle.demand.proofs.Peers.Validity.ScanLaws.{four-words, words-4, words-6, PassIs}
 use Rattle.limiter.specs.State.{floatWord, floatOf, isF64, tatTime, tatFrom, keyWords, keyOf, validLimit, validKey, shadowWords, shadowOf, validShadow}
 use Rattle.limiter.specs.Steps.Scan.{isLimit, areRates, isMeter, areKeyWords, areShadowWords}
 use Rattle.gcra.proofs.PackedWords.{word-is}

@@ -1,53 +1,38 @@
 -- Question 2 of the limiter's tables is their scan, where they have room.
 use Prim.Native.Nat.{ℕ, _*_, _^_, _≤_, _<_, min}
 use mathlib.Core.Path.{_≡_, refl, sym, ap, _∙_}
-use mathlib.Core.Bool.{Bool, true, false, _&&_, and-assoc, and-comm}
+use mathlib.Core.Bool.{Bool, true, false, _&&_, and-assoc}
 use mathlib.Core.List.{List, [], _∷_, map}
 use native.Mathlib.Omega.{arith}
 use borrow.Author.Tests.{leb-true, le-leb, lt-leb}
-use lib.Dec.{T, leb, eqb}
-use lib.Ieee.{binary64}
-use lib.Ieee.Bits.{ofBits-fits}
+use lib.Dec.{leb, eqb}
 use lib.ListN.{length, getD}
-use Rattle.float.specs.Magnitude.{magnitude}
-use Rattle.records.specs.Records.{records, ascending, same, fits}
-use Rattle.records.proofs.TestLaws.{both, and-intro, and-skip, same-truth}
+use Rattle.records.specs.Records.{records, ascending, fits}
+use Rattle.questions.proofs.Tests.{both, and-skip, and-left}
 use Rattle.records.proofs.RecordLaws.{length-records, fits-intro}
-use Rattle.records.proofs.OrderLaws.{same-eq, eq-same}
 use Rattle.gcra.specs.declared.Units.{Units}
-use Rattle.gcra.specs.Packed.{Accepted}
+use Rattle.gcra.specs.Packed.{Accepted, unitNanos}
 use Rattle.gcra.proofs.Encoding.{units-accepted}
 use Rattle.demand.specs.declared.hot_set.HotEntry.{HotEntry}
 use Rattle.demand.specs.Allocation.{isFloorFactor}
-use Rattle.demand.specs.HotSet as hot-set
-use Rattle.demand.specs.HotSet.{entry, entries, isEntry, allEntries, validEntries}
-use Rattle.demand.specs.PeerLists.{all}
-use Rattle.demand.specs.PeerState.{isWord, exact}
-use Rattle.demand.proofs.HotSetWords.{words-entry, is-entry-words}
-use Rattle.demand.proofs.PeerListLaws.{all-map, any-map}
-use Rattle.demand.proofs.PeerScanLaws.{and-left, stop, PassIs}
-use Rattle.demand.proofs.PeerValidLaws.{all-words, counted-table}
-use Rattle.demand.proofs.PeerWordLaws.{words-of-exact}
+use Rattle.demand.specs.HotSet.Set as hot-set
+use Rattle.demand.specs.HotSet.Set.{entry, entries, validEntry, validEntries}
+use Rattle.demand.specs.HotSet.Steps.{areEntryWords}
+use Rattle.questions.specs.Lists.{all}
+use Rattle.records.specs.Typed.{isWord, exact}
+use Rattle.demand.proofs.HotSet.Scan.{entry-words-pass, scanned-is-valid as entries-scanned}
+use Rattle.questions.proofs.ListLaws.{all-map, any-map}
+use Rattle.demand.proofs.Peers.Validity.ScanLaws.{stop}
+use Rattle.demand.proofs.Peers.Validity.ValidLaws.{all-words, counted-table}
+use Rattle.records.proofs.TypedLaws.{words-of-exact}
 use Rattle.limiter.specs.declared.Config.{Config}
 use Rattle.limiter.specs.declared.Limiter.{Limiter}
-use Rattle.limiter.specs.State.{base, Settings, KeyRecord, ShadowRecord, LimiterTables, lengths, isTracked, keyWords, keyOf, shadowWords, shadowOf, floatOf, isF64, areSizes, validLimit, isAlpha, validCap, validSettings, settingsOf, settingsWords, validKey, validShadow, validHotEntry, validKeys, validHot, validShadows, valid, within, haveRoom, stateOf, areExact, isValid}
+use Rattle.limiter.specs.State.{Settings, KeyRecord, ShadowRecord, LimiterTables, lengths, isTracked, keyWords, keyOf, shadowWords, shadowOf, isF64, areSizes, validLimit, isAlpha, validCap, validSettings, settingsOf, settingsWords, validKey, validShadow, validKeys, validHot, validShadows, valid, within, haveRoom, stateOf, areExact, isValid}
 use Rattle.limiter.specs.Steps.Scan.{areWords, areRecords, isAmong, areAmong, areKeys, areOf, isScanned, KeysReady, TableReady, StateReady}
-use Rattle.limiter.proofs.Validity.ScanWordLaws.{and-under, word-fits, key-words-pass, shadow-words-pass}
+use Rattle.limiter.proofs.Validity.ScanWordLaws.{and-under, key-words-pass, shadow-words-pass}
 use Rattle.limiter.proofs.Validity.ScanTableLaws.{four-are, others-are}
 
--- ---- a hot entry is exact and valid where its words pass
-demand-float : (r : List ℕ) → isF64 (entry r .demand) ≡ true
-unfolding entry
-demand-float r = word-fits (getD r 1 0)
-
-demand-fits : (r : List ℕ) → T (isF64 (entry r .demand))
-unfolding entry
-demand-fits r = ofBits-fits binary64 (getD r 1 0)
-
-demand-magnitude : (r : List ℕ) → isEntry r ≡ true → magnitude (entry r .demand) ≡ true
-unfolding entry isEntry
-demand-magnitude r h = both (magnitude (floatOf (getD r 1 0))) _ h .0
-
+-- ---- a record's key is its first word
 entry-key : (r : List ℕ) → entry r .key ≡ getD r 0 0
 unfolding entry
 entry-key r = refl
@@ -56,32 +41,12 @@ shadow-key : (u : Units) (r : List ℕ) → shadowOf u r .key ≡ getD r 0 0
 unfolding shadowOf
 shadow-key u r = refl
 
-pub entry-words-pass : (r : List ℕ) → length r ≡ 6 → PassIs hot-set.words entry validHotEntry isEntry r
-unfolding validHotEntry
-entry-words-pass r e word = same-truth (same (hot-set.words (entry r)) r && validHotEntry (entry r)) (isEntry r)
-    (λ h.
-    let b = both (same (hot-set.words (entry r)) r) (validHotEntry (entry r)) h in
-    let v = both (all isWord (hot-set.words (entry r))) _ (b .1) in
-    let m = both (isF64 (entry r .demand)) (magnitude (entry r .demand)) (v .1) in
-    ap isEntry (sym (same-eq (hot-set.words (entry r)) r (b .0))) ∙ is-entry-words (entry r) (demand-fits r) (m .1))
-    (λ h.
-    let w = words-entry r e h in
-    and-intro (same (hot-set.words (entry r)) r) _ (eq-same (hot-set.words (entry r)) r w)
-    (and-intro (all isWord (hot-set.words (entry r))) _ (ap (all isWord) w ∙ word)
-    (and-intro (isF64 (entry r .demand)) (magnitude (entry r .demand)) (demand-float r) (demand-magnitude r h))))
-
 -- ---- what `hot_set::are_valid` tells
-all-entries : (rs : List (List ℕ)) → allEntries rs ≡ all isEntry rs
-unfolding allEntries all
-all-entries [] = refl
-all-entries (r ∷ rs) = ap (λ (b : Bool). isEntry r && b) (all-entries rs)
-
-pub entries-told : (n : ℕ) (xs : List ℕ) → n * 6 ≤ length xs → (fits (length xs) 6 n && validEntries (records 6 n xs)) ≡ areRecords isEntry (records 6 n xs)
-unfolding validEntries areRecords
-entries-told n xs h =
-    and-skip (fits (length xs) 6 n) (validEntries (records 6 n xs)) (fits-intro (length xs) 6 n (omega arith) h)
-    ∙ and-comm (ascending 1 (records 6 n xs)) (allEntries (records 6 n xs))
-    ∙ ap (λ (b : Bool). b && ascending 1 (records 6 n xs)) (all-entries (records 6 n xs))
+pub entries-told : (n : ℕ) (xs : List ℕ) → n * 6 ≤ length xs → all isWord xs ≡ true → (fits (length xs) 6 n && (exact hot-set.words entry (records 6 n xs) && validEntries (entries n xs))) ≡ areRecords areEntryWords (records 6 n xs)
+unfolding areRecords
+entries-told n xs h word =
+    and-skip (fits (length xs) 6 n) (exact hot-set.words entry (records 6 n xs) && validEntries (entries n xs)) (fits-intro (length xs) 6 n (omega arith) h)
+    ∙ sym (entries-scanned n xs h word)
 
 -- ---- the keys
 pub too-many-keys : (u : Units) (size n : ℕ) (xs : List ℕ) → size < n → false ≡ areKeys u size (records 22 n xs)
@@ -124,15 +89,18 @@ module _ (u : Units) (a : Accepted u) (c : Config) (n : ℕ) (xs : List ℕ) (wo
       (λ e. ap (ascending 1) (words-of-exact (keyWords u) (keyOf u) rs e))
 
   module _ (ks : List (List ℕ)) where
-    pub hot-scanned : c .«hot_set_size» * 6 ≤ length xs → (exact hot-set.words entry (records 6 n xs) && validHot c (map (keyOf u) ks) (entries n xs)) ≡ areOf isEntry (c .«hot_set_size») ks (records 6 n xs)
-    unfolding validHot areOf areRecords entries
+    pub hot-scanned : c .«hot_set_size» * 6 ≤ length xs → (exact hot-set.words entry (records 6 n xs) && validHot c (map (keyOf u) ks) (entries n xs)) ≡ areOf areEntryWords (c .«hot_set_size») ks (records 6 n xs)
+    unfolding validHot validEntries areOf areRecords entries
     hot-scanned room =
         let rs : List (List ℕ) = records 6 n xs in
-        counted-table hot-set.words entry validHotEntry isEntry 6 n (c .«hot_set_size») xs
-        (ascending 1 (map hot-set.words (map entry rs)) && all (λ (e : HotEntry). isTracked (map (keyOf u) ks) (e .key)) (map entry rs)) (ascending 1 rs && areAmong ks rs) room word
+        let es : List HotEntry = map entry rs in
+        let tracked : Bool = all (λ (e : HotEntry). isTracked (map (keyOf u) ks) (e .key)) es in
+        ap (λ (b : Bool). exact hot-set.words entry rs && (leb (length es) (c .«hot_set_size») && b)) (and-assoc (all validEntry es) (ascending 1 (map hot-set.words es)) tracked)
+        ∙ counted-table hot-set.words entry validEntry areEntryWords 6 n (c .«hot_set_size») xs
+        (ascending 1 (map hot-set.words es) && tracked) (ascending 1 rs && areAmong ks rs) room word
         entry-words-pass
         (λ e k. ascending 1 (words-of-exact hot-set.words entry rs e k) && all-among u entry (λ (e : HotEntry). e .key) ks rs entry-key k)
-        ∙ ap (λ (b : Bool). leb (length rs) (c .«hot_set_size») && b) (sym (and-assoc (all isEntry rs) (ascending 1 rs) (areAmong ks rs)))
+        ∙ ap (λ (b : Bool). leb (length rs) (c .«hot_set_size») && b) (sym (and-assoc (all areEntryWords rs) (ascending 1 rs) (areAmong ks rs)))
 
     pub shadows-scanned : c .«table_size» * 4 ≤ length xs → (exact (shadowWords u) (shadowOf u) (records 4 n xs) && validShadows u c (map (keyOf u) ks) (map (shadowOf u) (records 4 n xs))) ≡ areOf (areWords u) (c .«table_size») ks (records 4 n xs)
     unfolding validShadows areOf areRecords
@@ -218,26 +186,26 @@ table-ready test w size n xs room few e =
     let b = both (all test (records w n xs)) (ascending 1 (records w n xs)) e in
     (record { few = omega (arith, leb-true (length (records w n xs)) size few, length-records w n xs); room = room; ascend = b .1 }, b .0)
 
-state-ready : (l : Limiter) (t : LimiterTables) → haveRoom (l .config) (lengths t) ≡ true → isScanned (base .units) l t ≡ true → StateReady l t
+state-ready : (l : Limiter) (t : LimiterTables) → haveRoom (l .config) (lengths t) ≡ true → isScanned unitNanos l t ≡ true → StateReady l t
 unfolding isScanned areKeys areOf
 state-ready l t room e =
-    let u = base .units in
+    let u = unitNanos in
     let size = l .config .«table_size» in
     let hot = l .config .«hot_set_size» in
     let ks : List (List ℕ) = records 22 (l .keys) (t .keys) in
     let hs : List (List ℕ) = records 6 (l .hot) (t .hot) in
     let ss : List (List ℕ) = records 4 (l .shadows) (t .shadows) in
-    let a = both (validSettings (settingsOf l)) (areKeys u size ks && (areOf isEntry hot ks hs && areOf (areWords u) size ks ss)) e in
-    let b = both (areKeys u size ks) (areOf isEntry hot ks hs && areOf (areWords u) size ks ss) (a .1) in
-    let c = both (areOf isEntry hot ks hs) (areOf (areWords u) size ks ss) (b .1) in
+    let a = both (validSettings (settingsOf l)) (areKeys u size ks && (areOf areEntryWords hot ks hs && areOf (areWords u) size ks ss)) e in
+    let b = both (areKeys u size ks) (areOf areEntryWords hot ks hs && areOf (areWords u) size ks ss) (a .1) in
+    let c = both (areOf areEntryWords hot ks hs) (areOf (areWords u) size ks ss) (b .1) in
     let k = both (leb (length ks) size) (areRecords (areWords u) ks) (b .0) in
-    let h = both (leb (length hs) hot) (areRecords isEntry hs && areAmong ks hs) (c .0) in
-    let h′ = both (areRecords isEntry hs) (areAmong ks hs) (h .1) in
+    let h = both (leb (length hs) hot) (areRecords areEntryWords hs && areAmong ks hs) (c .0) in
+    let h′ = both (areRecords areEntryWords hs) (areAmong ks hs) (h .1) in
     let s = both (leb (length ss) size) (areRecords (areWords u) ss && areAmong ks ss) (c .1) in
     let s′ = both (areRecords (areWords u) ss) (areAmong ks ss) (s .1) in
     let r = room-says l t room (a .0) in
     let keys = table-ready (areWords u) 22 size (l .keys) (t .keys) (r .keys) (k .0) (k .1) in
-    let entries = table-ready isEntry 6 hot (l .hot) (t .hot) (r .hot) (h .0) (h′ .0) in
+    let entries = table-ready areEntryWords 6 hot (l .hot) (t .hot) (r .hot) (h .0) (h′ .0) in
     let shadows = table-ready (areWords u) 4 size (l .shadows) (t .shadows) (r .shadows) (s .0) (s′ .0) in
     record {
       settings = a .0;
@@ -251,6 +219,6 @@ state-ready l t room e =
       shadowsTracked = s′ .1;
     }
 
-pub asked-ready : (l : Limiter) (t : LimiterTables) → haveRoom (l .config) (lengths t) ≡ true → isValid (base .units) l t ≡ true → ((i : ℕ) → getD (t .keys) i 0 < 2 ^ 64) → ((i : ℕ) → getD (t .hot) i 0 < 2 ^ 64) → ((i : ℕ) → getD (t .shadows) i 0 < 2 ^ 64) → StateReady l t
+pub asked-ready : (l : Limiter) (t : LimiterTables) → haveRoom (l .config) (lengths t) ≡ true → isValid unitNanos l t ≡ true → ((i : ℕ) → getD (t .keys) i 0 < 2 ^ 64) → ((i : ℕ) → getD (t .hot) i 0 < 2 ^ 64) → ((i : ℕ) → getD (t .shadows) i 0 < 2 ^ 64) → StateReady l t
 asked-ready l t room valid wk wh ws =
-    state-ready l t room (scanned-is-valid (base .units) units-accepted l t room (all-words (t .keys) wk) (all-words (t .hot) wh) (all-words (t .shadows) ws) ∙ valid)
+    state-ready l t room (scanned-is-valid unitNanos units-accepted l t room (all-words (t .keys) wk) (all-words (t .hot) wh) (all-words (t .shadows) ws) ∙ valid)

@@ -2,7 +2,6 @@
 use mathlib.Core.Path.{_≡_, refl, sym, ap, _∙_, subst}
 use mathlib.Core.Bool.{Bool, true, false, cond, not, _&&_, _||_}
 use mathlib.Core.List.{List, [], _∷_, map}
-use mathlib.Core.Option.{some}
 use Prim.Native.Nat.{ℕ, _+_, _-_, _*_, _^_, _≤_, _<_}
 use native.Mathlib.Omega.{arith}
 use borrow.Author.Tests.{ltb-true, ltb-false, eqb-true, eq-eqb}
@@ -21,28 +20,28 @@ use Rattle.records.specs.declared.Found.the-variants.{At, Gap, Unfit}
 use Rattle.records.specs.Records.{records, table, findIn, ascending}
 use Rattle.records.specs.Records as records
 use Rattle.records.proofs.RecordLaws.{length-records}
-use Rattle.records.proofs.TestLaws.{split, same-truth}
+use Rattle.questions.proofs.Tests.{split, same-truth}
 use Rattle.gcra.specs.Packed.{unitNanos}
-use Rattle.gcra.specs.Questions.{refused, given}
-use Rattle.gcra.proofs.Answers.{alone-yes, given-passed}
+use Rattle.questions.specs.Questions.{refused, given}
+use Rattle.questions.proofs.Answers.{alone-yes, given-passed}
 use Rattle.demand.specs.declared.demand.Demand.{Demand}
 use Rattle.demand.specs.declared.demand.Times.the-variants as times
 use Rattle.demand.specs.declared.demand.RateAnswer.{RateAnswer}
 use Rattle.demand.specs.declared.demand.RateAnswer.the-variants as rate-answer
 use Rattle.demand.specs.declared.hot_set.HotEntry.{HotEntry}
-use Rattle.demand.specs.Estimator.{whole, alpha, unbiased, unbiasedFrom}
-use Rattle.demand.specs.EstimatorCalls as estimator-calls
-use Rattle.demand.specs.HotSet.{entry, entries, isHot, there}
-use Rattle.demand.specs.PeerLists.{all, any, only}
-use Rattle.demand.specs.Steps.HotSetSteps.{Held}
-use Rattle.demand.specs.Steps.PeerRuns.{Tabled}
-use Rattle.demand.proofs.PeerListLaws.{all-index}
-use Rattle.demand.proofs.PeerRangeLaws.{only-yes, only-no, map-only}
-use Rattle.demand.proofs.PeerRowLaws.{word-at}
-use Rattle.demand.proofs.PeerStoreLaws.{map-map}
-use Rattle.demand.proofs.PeerTableLaws.{table-same}
-use Rattle.demand.proofs.HotSetMap.{hit-get, at-says, got-gap, never-unfit}
-use Rattle.limiter.specs.State.{Parameters, Settings, Estimate, KeyRecord, floatWord, floatOf, isTracked, keyWords, keyOf, validKey}
+use Rattle.demand.specs.Estimators.Estimator.{whole, alpha, unbiased, unbiasedFrom}
+use Rattle.demand.specs.Estimators.Calls as estimator-calls
+use Rattle.demand.specs.HotSet.Set.{entry, entries, isHot, there}
+use Rattle.questions.specs.Lists.{all, any, only}
+use Rattle.demand.specs.HotSet.Steps.{EntriesReady}
+use Rattle.records.specs.Typed.{Tabled}
+use Rattle.questions.proofs.ListLaws.{all-index, map-map}
+use Rattle.questions.proofs.OnlyLaws.{only-yes, only-no, map-only}
+use Rattle.records.proofs.RowLaws.{word-at}
+use Rattle.records.proofs.TabledLaws.{table-same}
+use Rattle.demand.proofs.HotSet.Map.{hit-get, at-says, got-gap, never-unfit}
+use Rattle.limiter.specs.declared.Parameters.{Parameters}
+use Rattle.limiter.specs.State.{Settings, Estimate, KeyRecord, floatWord, floatOf, isTracked, keyWords, keyOf, validKey}
 use Rattle.limiter.specs.Ticks.{Others, unbiasedRate, sorted, rankedBefore, victims, capped}
 use Rattle.limiter.specs.Steps.TickSteps.{flagged, below, Cut, staying, top, ratePlace, ratePlaceOf, keyRecord, keyRecords, keyRank, weaker, staysUnder, HeldKeys}
 use Rattle.limiter.proofs.States.KeyListLaws.{has, rising, rising-says}
@@ -59,7 +58,7 @@ isAt (At i) = true
 isAt (Gap i) = false
 isAt Unfit = false
 
-pub hot-found : (h : ℕ) (hot : List ℕ) (key : ℕ) → Held h hot → (f : Found) → f ≡ findIn 6 1 h key 0 hot → isAt f ≡ isHot key (entries h hot)
+pub hot-found : (h : ℕ) (hot : List ℕ) (key : ℕ) → EntriesReady h hot → (f : Found) → f ≡ findIn 6 1 h key 0 hot → isAt f ≡ isHot key (entries h hot)
 hot-found h hot key k (At i) e = ap there (sym (hit-get key (entries h hot) (entry []) (at-says h hot k key i (sym e) .0)))
 hot-found h hot key k (Gap i) e = ap there (got-gap h hot k key i (sym e))
 hot-found h hot key k Unfit e = absurd (never-unfit h hot k key (sym e))

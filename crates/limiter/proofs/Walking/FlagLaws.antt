@@ -14,9 +14,9 @@ use Rattle.records.proofs.WordLaws.{copied-is}
 use Rattle.records.proofs.RecordLaws.{row, record-at, flat-append, length-records}
 use Rattle.records.proofs.SpliceLaws.{slice-is}
 use Rattle.records.proofs.TableLaws.{Wide, wide-records, length-flat, length-table}
-use Rattle.demand.specs.PeerLists.{only}
-use Rattle.demand.specs.Steps.PeerRuns.{Tabled}
-use Rattle.demand.proofs.PeerKeepLaws.{drop-past, paste-more}
+use Rattle.questions.specs.Lists.{only}
+use Rattle.records.specs.Typed.{Tabled}
+use Rattle.records.proofs.KeepLaws.{drop-past, paste-more}
 use Rattle.limiter.specs.Steps.TickSteps.{flagged}
 
 -- ---- the elements whose flag is set

@@ -8,7 +8,7 @@ use native.Mathlib.Omega.{arith}
 use borrow.Rule.Slice.PartMut.{midOf}
 use borrow.Author.Tests.{eq-eqb, ne-eqb}
 use lib.Dec.{lit≤}
-use lib.Ieee.{Float, binary64, ofBits, toBits, add, sub, mul, div}
+use lib.Ieee.{Float, binary64, ofBits, toBits}
 use lib.Ieee.Bits.{ofBits-toBits}
 use lib.ListN.{length, take, drop, getD, set, length-map, List·getD-map}
 use lib.Seq.{drop-cons, getD-drop, set-getD, sets-eq}
@@ -17,16 +17,15 @@ use Rattle.records.specs.Words.{paste}
 use Rattle.records.specs.Records.{records}
 use Rattle.records.proofs.RecordLaws.{length-records}
 use Rattle.records.proofs.TableLaws.{Wide}
-use Rattle.demand.proofs.PeerWordLaws.{wide-map}
+use Rattle.records.proofs.TypedLaws.{wide-map}
 use Rattle.gcra.specs.Packed.{unitNanos}
-use Rattle.demand.proofs.PeerListLaws.{all-index}
-use Rattle.demand.proofs.PeerStoreLaws.{map-map}
-use Rattle.demand.specs.Estimator.{alpha, foldedBy, tickedFrom}
-use Rattle.demand.specs.Estimator as estimator
-use Rattle.demand.proofs.HotSetWords.{bits-back}
-use Rattle.demand.proofs.Literals.{one-is, billion-is}
+use Rattle.questions.proofs.ListLaws.{all-index, map-map}
+use Rattle.demand.specs.Estimators.Estimator.{alpha, foldedBy, tickedFrom}
+use Rattle.demand.specs.Estimators.Estimator as estimator
+use Rattle.demand.proofs.HotSet.Words.{bits-back}
+use Rattle.limiter.specs.declared.Parameters.{Parameters}
 use Rattle.limiter.specs.declared.ticks.Alpha.{Alpha}
-use Rattle.limiter.specs.State.{Settings, Estimate, KeyRecord, base, validKey, floatOf, floatWord, estimateWords, estimateOf, keyWords}
+use Rattle.limiter.specs.State.{Settings, Estimate, KeyRecord, validKey, floatOf, floatWord, estimateWords, estimateOf, keyWords}
 use Rattle.limiter.specs.Ticks.{Others, folded, foldedKey}
 use Rattle.limiter.specs.Steps.TickSteps.{keyRecord, keyRecords, HeldKeys, HeldKey, foldedFor, foldedRow, alphaOf, AreAlphas}
 use Rattle.limiter.proofs.States.RecordValidLaws.{held, GoodEstimate}
@@ -206,28 +205,28 @@ pub lent-key : (n : ℕ) (gs : List (List ℕ)) (xs t : List ℕ) (i : ℕ) → 
 lent-key n gs xs t i m k h = subst (λ (r : List ℕ). HeldKey r) (sym (map-here 22 n gs xs t i m h)) (held-row n xs i k h)
 
 -- a folded key has 22 words
-pub folded-wide : (c now n : ℕ) (xs : List ℕ) → Wide 22 (map (foldedRow c now) (records 22 n xs))
-folded-wide c now n xs = wide-map (foldedRow c now) 22 (λ r. key-long (foldedFor c now (keyRecord r))) (records 22 n xs)
+pub folded-wide : (c d now n : ℕ) (xs : List ℕ) → Wide 22 (map (foldedRow c d now) (records 22 n xs))
+folded-wide c d now n xs = wide-map (foldedRow c d now) 22 (λ r. key-long (foldedFor c d now (keyRecord r))) (records 22 n xs)
 
 -- as many, and each in its place
-pub folded-many : (c now n : ℕ) (xs : List ℕ) → length (map (foldedRow c now) (records 22 n xs)) ≡ n
-folded-many c now n xs = length-map (records 22 n xs) (foldedRow c now) ∙ length-records 22 n xs
+pub folded-many : (c d now n : ℕ) (xs : List ℕ) → length (map (foldedRow c d now) (records 22 n xs)) ≡ n
+folded-many c d now n xs = length-map (records 22 n xs) (foldedRow c d now) ∙ length-records 22 n xs
 
-pub folded-at : (c now n : ℕ) (xs : List ℕ) (i : ℕ) → i < n → foldedRow c now (getD (records 22 n xs) i []) ≡ getD (map (foldedRow c now) (records 22 n xs)) i []
-folded-at c now n xs i h = sym (getD-mapped (foldedRow c now) [] [] (records 22 n xs) i (omega (arith, length-records 22 n xs)))
+pub folded-at : (c d now n : ℕ) (xs : List ℕ) (i : ℕ) → i < n → foldedRow c d now (getD (records 22 n xs) i []) ≡ getD (map (foldedRow c d now) (records 22 n xs)) i []
+folded-at c d now n xs i h = sym (getD-mapped (foldedRow c d now) [] [] (records 22 n xs) i (omega (arith, length-records 22 n xs)))
 
 -- what `fold_keys` leaves are the words of the folded keys
-pub folded-rows : (c now n : ℕ) (xs : List ℕ) → map (foldedRow c now) (records 22 n xs) ≡ map (keyWords unitNanos) (map (foldedFor c now) (keyRecords n xs))
-folded-rows c now n xs =
-    sym (ap (map (keyWords unitNanos)) (map-map (foldedFor c now) keyRecord (records 22 n xs)) ∙ map-map (keyWords unitNanos) (λ (x : List ℕ). foldedFor c now (keyRecord x)) (records 22 n xs))
+pub folded-rows : (c d now n : ℕ) (xs : List ℕ) → map (foldedRow c d now) (records 22 n xs) ≡ map (keyWords unitNanos) (map (foldedFor c d now) (keyRecords n xs))
+folded-rows c d now n xs =
+    sym (ap (map (keyWords unitNanos)) (map-map (foldedFor c d now) keyRecord (records 22 n xs)) ∙ map-map (keyWords unitNanos) (λ (x : List ℕ). foldedFor c d now (keyRecord x)) (records 22 n xs))
 
 -- as a tick folds them
-pub folded-key-is : (s : Settings) (o : Others) (now n : ℕ) (k : KeyRecord) → foldedKey base s o now n k ≡ foldedFor (s .config .«demand_time_constant») now k
-folded-key-is s o now n k = refl
+pub folded-key-is : (par : Parameters) (s : Settings) (o : Others) (now n : ℕ) (k : KeyRecord) → foldedKey par s o now n k ≡ foldedFor (s .config .«demand_time_constant») (par .«denial_time_constant») now k
+folded-key-is par s o now n k = refl
 
 -- the first alphas
-pub first-alphas : (c : ℕ) (a b : Alpha) → a ≡ alphaOf 0 c → b ≡ alphaOf 0 10_000_000_000 → AreAlphas c (record { demand = a; denials = b })
-first-alphas c a b p q =
+pub first-alphas : (c d : ℕ) (a b : Alpha) → a ≡ alphaOf 0 c → b ≡ alphaOf 0 d → AreAlphas c d (record { demand = a; denials = b })
+first-alphas c d a b p q =
     record {
       demand-for = ap (λ (x : Alpha). x .«time_constant») p;
       demand = p ∙ ap (λ (x : Alpha). alphaOf (x .elapsed) (x .«time_constant»)) (sym p);

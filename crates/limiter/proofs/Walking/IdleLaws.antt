@@ -4,7 +4,8 @@ use mathlib.Core.Bool.{cond}
 use mathlib.Core.List.{List, [], _∷_, map}
 use Prim.Native.Nat.{ℕ}
 use Rattle.demand.specs.declared.hot_set.HotEntry.{HotEntry}
-use Rattle.limiter.specs.State.{Parameters, Settings, KeyRecord}
+use Rattle.limiter.specs.declared.Parameters.{Parameters}
+use Rattle.limiter.specs.State.{Settings, KeyRecord}
 use Rattle.limiter.specs.Ticks.{Others, Settled, foldedKey, updated, stays, passOne}
 use Rattle.limiter.specs.Steps.TickSteps.{flagged, stayFlags, hotAfter}
 

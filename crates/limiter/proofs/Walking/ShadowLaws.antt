@@ -9,11 +9,12 @@ use Rattle.records.specs.declared.Found.the-variants.{At, Gap, Unfit}
 use Rattle.records.specs.Records.{records, findIn}
 use Rattle.records.proofs.OrderLaws.{before-word}
 use Rattle.records.proofs.TableLaws.{wide-records}
-use Rattle.demand.specs.PeerLists.{those}
-use Rattle.demand.specs.Steps.PeerScan.{firstWord}
-use Rattle.demand.proofs.PeerListLaws.{any-map}
-use Rattle.demand.proofs.PeerRangeLaws.{those-at, those-gap, first-shape, any-number}
-use Rattle.demand.proofs.PeerRowLaws.{find-says, never-unfit, first-at}
+use Rattle.questions.specs.Lists.{those}
+use Rattle.records.specs.Typed.{firstWord}
+use Rattle.questions.proofs.ListLaws.{any-map}
+use Rattle.records.proofs.RangeLaws.{those-at, those-gap, first-shape}
+use Rattle.questions.proofs.OnlyLaws.{any-number}
+use Rattle.records.proofs.RowLaws.{find-says, never-unfit, first-at}
 use Rattle.limiter.specs.State.{isTracked, keyOf, shadowOf}
 use Rattle.limiter.specs.Steps.TickSteps.{keyRecord, keyRecords, shadowKey, HeldKeys}
 use Rattle.limiter.proofs.Walking.CapLaws.{isAt}

@@ -6,7 +6,7 @@ use mathlib.Core.List.{List, map}
 use lib.ListN.{length}
 use Rattle.records.specs.Records.{records, table, fits}
 use Rattle.limiter.specs.declared.Limiter.{Limiter}
-use Rattle.limiter.specs.State.{base, keyWords, settingsOf, validSettings}
+use Rattle.limiter.specs.State.{keyWords, settingsOf, validSettings}
 use Rattle.limiter.specs.Checks.{Answers, checkEach}
 use Rattle.limiter.specs.Calls.{answerWords}
 use Rattle.limiter.specs.Steps.KeySteps.{units}
@@ -21,7 +21,7 @@ pub record PairsReady (l : Limiter) (xs list : List ℕ) (count : ℕ) (out : Li
 
 -- the checks of the first `count` pairs, as far as they read the state
 abbrev pub pairsChecked : Limiter → (keys list : List ℕ) → (count n : ℕ) → Answers
-pairsChecked l xs list count n = checkEach base n (records 2 count list) (keysOnly l xs)
+pairsChecked l xs list count n = checkEach units n (records 2 count list) (keysOnly l xs)
 
 -- what they leave: the limiter, the words of the key table and those of the output
 pub record ChecksPairs (l : Limiter) (xs list : List ℕ) (count n : ℕ) (out : List ℕ) (l′ : Limiter) (xs′ out′ : List ℕ) : Type 0 where

@@ -9,44 +9,44 @@ use lib.ListN.{length, take, drop}
 use Rattle.records.specs.Records.{records}
 use Rattle.gcra.specs.Meter.{hasDebt}
 use Rattle.demand.specs.declared.hot_set.HotSet.{HotSet}
-use Rattle.demand.specs.Estimator.{whole}
-use Rattle.demand.specs.HotSet.{Update, Outcomes, updateEach, validSize, entries}
-use Rattle.demand.specs.HotSetCalls.{evictionMargin, room, rewrittenEach}
-use Rattle.demand.specs.PeerLists.{all}
-use Rattle.demand.specs.Steps.HotSetSteps.{Held}
-use Rattle.demand.specs.Steps.PeerRuns.{Tabled}
+use Rattle.demand.specs.Estimators.Estimator.{whole}
+use Rattle.demand.specs.HotSet.Set.{Update, Outcomes, updateEach, validSize, entries}
+use Rattle.demand.specs.HotSet.Calls.{evictionMargin, room, rewrittenEach}
+use Rattle.demand.specs.HotSet.Steps.{EntriesReady}
+use Rattle.records.specs.Typed.{Tabled}
 use Rattle.limiter.specs.declared.Limiter.{Limiter}
+use Rattle.limiter.specs.declared.Parameters.{Parameters}
 use Rattle.limiter.specs.declared.pass_one.Passed.{Passed}
-use Rattle.limiter.specs.State.{KeyRecord, base, settingsOf, validHotEntry}
+use Rattle.limiter.specs.State.{KeyRecord, settingsOf}
 use Rattle.limiter.specs.Ticks.{Others, Settled, isElsewhere, passOne}
 use Rattle.limiter.specs.Steps.TickSteps.{flagged, keyRecords, HeldKeys}
 
 -- ---- each key by itself
 
--- `SILENT_DEMAND`: whether a rate is at or above it
-abbrev pub isDemand : Float → Bool
-isDemand rate = le (base .silentLevel) rate
+-- whether a rate is at or above the silent level
+abbrev pub isDemand : (silent rate : Float) → Bool
+isDemand silent rate = le silent rate
 
 -- `isElsewhere` by what it turns on
-abbrev pub elsewhereIf : KeyRecord → (held : Bool) → Bool
-elsewhereIf k held = isDemand (k .demand .rate) && held
+abbrev pub elsewhereIf : (silent : Float) → KeyRecord → (held : Bool) → Bool
+elsewhereIf silent k held = isDemand silent (k .demand .rate) && held
 
 -- `coldRate` by what it turns on
 abbrev pub thresholdOf : (alpha size : Float) → KeyRecord → Float
 thresholdOf alpha size k = mul binary64 (div binary64 (k .limit .rate) size) alpha
 
 -- `stays` by what it turns on
-abbrev pub staysIf : (now : ℕ) → KeyRecord → (hot : Bool) → Bool
-staysIf now k hot = hot || (hasDebt (k .gcra) now || (isDemand (k .demand .rate) || ltb 0 (k .demand .attempts)))
+abbrev pub staysIf : (silent : Float) (now : ℕ) → KeyRecord → (hot : Bool) → Bool
+staysIf silent now k hot = hot || (hasDebt (k .gcra) now || (isDemand silent (k .demand .rate) || ltb 0 (k .demand .attempts)))
 
 -- ---- the hot set's updates of all keys
 
 -- what they are given of n keys
-pub record Measured (n : ℕ) (keys : List ℕ) (alpha size : Float) (elsewhere : List Bool) (demands thresholds : List Float) (flags : List Bool)
+pub record Measured (silent : Float) (n : ℕ) (keys : List ℕ) (alpha size : Float) (elsewhere : List Bool) (demands thresholds : List Float) (flags : List Bool)
     : Type 0 where
   pub demand-rates : take n demands ≡ map (λ (k : KeyRecord). k .demand .rate) (keyRecords n keys)
   pub cold-rates : take n thresholds ≡ map (thresholdOf alpha size) (keyRecords n keys)
-  pub elsewhere-flags : take n flags ≡ zipWith elsewhereIf (keyRecords n keys) (take n elsewhere)
+  pub elsewhere-flags : take n flags ≡ zipWith (elsewhereIf silent) (keyRecords n keys) (take n elsewhere)
 
 -- the update of a key with its flag
 abbrev pub updateOf : (alpha : Float) (n : ℕ) → KeyRecord → (flag : Bool) → Update
@@ -62,37 +62,36 @@ pub record HeldHot (l : Limiter) (hot : List ℕ) : Type 0 where
   pub size : validSize (l .config .«hot_set_size») ≡ true
   pub fit : room (l .config .«hot_set_size») ≤ length hot
   pub few : l .hot ≤ l .config .«hot_set_size»
-  pub held : Held (l .hot) hot
-  pub valids : all validHotEntry (entries (l .hot) hot) ≡ true
+  pub held : EntriesReady (l .hot) hot
 
 -- the updates of all keys, and what they give
-abbrev pub updatesFor : Limiter → (n : ℕ) (keys : List ℕ) (elsewhere : List Bool) → List Update
-updatesFor l n keys elsewhere =
+abbrev pub updatesFor : (silent : Float) → Limiter → (n : ℕ) (keys : List ℕ) (elsewhere : List Bool) → List Update
+updatesFor silent l n keys elsewhere =
     let ks = keyRecords (l .keys) keys in
-    zipWith (updateOf (l .config .alpha) n) ks (zipWith elsewhereIf ks (take (l .keys) elsewhere))
+    zipWith (updateOf (l .config .alpha) n) ks (zipWith (elsewhereIf silent) ks (take (l .keys) elsewhere))
 
-abbrev pub updatedFor : Limiter → (now n : ℕ) (keys hot : List ℕ) (elsewhere : List Bool) → Outcomes
-updatedFor l now n keys hot elsewhere =
-    updateEach evictionMargin (setOf l) now (updatesFor l n keys elsewhere) (entries (l .hot) hot)
+abbrev pub updatedFor : (silent : Float) → Limiter → (now n : ℕ) (keys hot : List ℕ) (elsewhere : List Bool) → Outcomes
+updatedFor silent l now n keys hot elsewhere =
+    updateEach evictionMargin (setOf l) now (updatesFor silent l n keys elsewhere) (entries (l .hot) hot)
 
 -- what they answer and leave
-pub record HotUpdated (l : Limiter) (now n : ℕ) (keys hot : List ℕ) (elsewhere : List Bool) (r : ℕ) (hot′ : List ℕ) (flags hots : List Bool)
+pub record HotUpdated (silent : Float) (l : Limiter) (now n : ℕ) (keys hot : List ℕ) (elsewhere : List Bool) (r : ℕ) (hot′ : List ℕ) (flags hots : List Bool)
     : Type 0 where
-  pub elsewhere-flags : take (l .keys) flags ≡ zipWith elsewhereIf (keyRecords (l .keys) keys) (take (l .keys) elsewhere)
-  pub hot-flags : take (l .keys) hots ≡ updatedFor l now n keys hot elsewhere .hot
-  pub count : r ≡ length (updatedFor l now n keys hot elsewhere .left)
-  pub words : hot′ ≡ rewrittenEach evictionMargin (setOf l) now (updatesFor l n keys elsewhere) (entries (l .hot) hot) hot
+  pub elsewhere-flags : take (l .keys) flags ≡ zipWith (elsewhereIf silent) (keyRecords (l .keys) keys) (take (l .keys) elsewhere)
+  pub hot-flags : take (l .keys) hots ≡ updatedFor silent l now n keys hot elsewhere .hot
+  pub count : r ≡ length (updatedFor silent l now n keys hot elsewhere .left)
+  pub words : hot′ ≡ rewrittenEach evictionMargin (setOf l) now (updatesFor silent l n keys elsewhere) (entries (l .hot) hot) hot
 
 -- ---- idle keys go
 
 -- which of n keys stay
-abbrev pub stayingKeys : (now n : ℕ) (keys : List ℕ) (hots : List Bool) → List Bool
-stayingKeys now n keys hots = zipWith (staysIf now) (keyRecords n keys) (take n hots)
+abbrev pub stayingKeys : (silent : Float) (now n : ℕ) (keys : List ℕ) (hots : List Bool) → List Bool
+stayingKeys silent now n keys hots = zipWith (staysIf silent now) (keyRecords n keys) (take n hots)
 
 -- those that stay are left, and the flag of each with it
-pub record IdleDropped (now n : ℕ) (keys : List ℕ) (hots flags : List Bool) (r : ℕ) (keys′ : List ℕ) (elsewhere′ : List Bool) : Type 0 where
-  pub kept : Tabled r (flagged (stayingKeys now n keys hots) (records 22 n keys)) keys keys′
-  pub moved : take r elsewhere′ ≡ flagged (stayingKeys now n keys hots) (take n flags)
+pub record IdleDropped (silent : Float) (now n : ℕ) (keys : List ℕ) (hots flags : List Bool) (r : ℕ) (keys′ : List ℕ) (elsewhere′ : List Bool) : Type 0 where
+  pub kept : Tabled r (flagged (stayingKeys silent now n keys hots) (records 22 n keys)) keys keys′
+  pub moved : take r elsewhere′ ≡ flagged (stayingKeys silent now n keys hots) (take n flags)
 
 -- ---- pass one
 
@@ -115,17 +114,16 @@ pub record Holding (l : Limiter) (p : Settled) (isElsewhere : KeyRecord → Bool
   pub keys-long : length keys′ ≡ length keys
   pub hot-count : r .hot ≡ length (p .hot)
   pub hot-few : r .hot ≤ l .config .«hot_set_size»
-  pub hot-held : Held (r .hot) hot′
+  pub hot-held : EntriesReady (r .hot) hot′
   pub hot-are : entries (r .hot) hot′ ≡ p .hot
-  pub hot-valids : all validHotEntry (p .hot) ≡ true
   pub hot-past : drop (room (l .config .«hot_set_size»)) hot′ ≡ drop (room (l .config .«hot_set_size»)) hot
   pub hot-long : length hot′ ≡ length hot
   pub flags : take (r .keys) elsewhere′ ≡ map isElsewhere (p .keys)
 
 -- whatever the others hold hot, if the flags say it
-abbrev pub PassesOne : Limiter → (now n : ℕ) (keys hot : List ℕ) (elsewhere : List Bool)
+abbrev pub PassesOne : Parameters → Limiter → (now n : ℕ) (keys hot : List ℕ) (elsewhere : List Bool)
     → Passed → (keys′ hot′ : List ℕ) (elsewhere′ : List Bool) → Type 0
-PassesOne l now n keys hot elsewhere r keys′ hot′ elsewhere′ =
+PassesOne par l now n keys hot elsewhere r keys′ hot′ elsewhere′ =
     (o : Others) → take (l .keys) elsewhere ≡ map (λ (k : KeyRecord). o .elsewhere (k .key)) (keyRecords (l .keys) keys)
-    → Holding l (passOne base (settingsOf l) o now n (keyRecords (l .keys) keys) (entries (l .hot) hot))
-    (isElsewhere base (settingsOf l) o now n) keys hot r keys′ hot′ elsewhere′
+    → Holding l (passOne par (settingsOf l) o now n (keyRecords (l .keys) keys) (entries (l .hot) hot))
+    (isElsewhere par (settingsOf l) o now n) keys hot r keys′ hot′ elsewhere′

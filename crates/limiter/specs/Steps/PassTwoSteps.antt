@@ -11,11 +11,11 @@ use Rattle.records.specs.Records.{records, table}
 use Rattle.gcra.specs.Packed.{unitNanos}
 use Rattle.gcra.specs.Rate.{perSecond, setQuota}
 use Rattle.demand.specs.declared.hot_set.HotEntry.{HotEntry}
-use Rattle.demand.specs.Estimator.{whole}
+use Rattle.demand.specs.Estimators.Estimator.{whole}
 use Rattle.demand.specs.Allocation.{isFloorFactor, isClusterSize, shared}
-use Rattle.demand.specs.HotSet.{entries, isHot}
-use Rattle.demand.specs.PeerLists.{only}
-use Rattle.demand.specs.Steps.HotSetSteps.{Held}
+use Rattle.demand.specs.HotSet.Set.{entries, isHot}
+use Rattle.questions.specs.Lists.{only}
+use Rattle.demand.specs.HotSet.Steps.{EntriesReady}
 use Rattle.limiter.specs.declared.Limiter.{Limiter}
 use Rattle.limiter.specs.declared.LastTick.the-variants.{At}
 use Rattle.limiter.specs.declared.pass_two.RateTerms.{RateTerms}
@@ -102,7 +102,7 @@ pub record Finishing (l : Limiter) (keys : List ℕ) (n : ℕ) (hot : List ℕ) 
     (size : ℕ) : Type 0 where
   pub keys-held : HeldKeys n keys
   pub keys-few : n ≤ 4096
-  pub hot-held : Held h hot
+  pub hot-held : EntriesReady h hot
   pub shadows-fit : l .shadows * 4 ≤ length shadows
   pub shadows-few : l .shadows ≤ 4096
   pub flags-fit : n ≤ length flags

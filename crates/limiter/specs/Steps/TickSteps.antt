@@ -10,12 +10,13 @@ use Rattle.float.specs.Order.{place}
 use Rattle.records.specs.Records.{records, ascending}
 use Rattle.gcra.specs.Packed.{unitNanos}
 use Rattle.demand.specs.declared.hot_set.HotEntry.{HotEntry}
-use Rattle.demand.specs.Estimator.{alpha}
-use Rattle.demand.specs.HotSet.{isHot}
-use Rattle.demand.specs.PeerLists.{all, only}
+use Rattle.demand.specs.Estimators.Estimator.{alpha}
+use Rattle.demand.specs.HotSet.Set.{isHot}
+use Rattle.questions.specs.Lists.{all, only}
 use Rattle.limiter.specs.declared.ticks.Alpha.{Alpha}
 use Rattle.limiter.specs.declared.ticks.Alphas.{Alphas}
-use Rattle.limiter.specs.State.{Parameters, Settings, KeyRecord, floatWord, floatOf, isTracked, keyWords, keyOf, shadowOf, validKey}
+use Rattle.limiter.specs.declared.Parameters.{Parameters}
+use Rattle.limiter.specs.State.{Settings, KeyRecord, floatWord, floatOf, isTracked, keyWords, keyOf, shadowOf, validKey}
 use Rattle.limiter.specs.Ticks.{Others, updated, stays, folded, unbiasedRate, sorted, rankedBefore}
 
 -- the elements whose flag is set
@@ -97,29 +98,29 @@ alphaOf elapsed c = record { elapsed = elapsed; «time_constant» = c; value = a
 abbrev pub IsAlpha : Alpha → Type 0
 IsAlpha a = a ≡ alphaOf (a .elapsed) (a .«time_constant»)
 
--- the alphas of both time constants
-pub record AreAlphas (c : ℕ) (a : Alphas) : Type 0 where
+-- the alphas of both time constants: that of demand, and that of requests and denials
+pub record AreAlphas (c d : ℕ) (a : Alphas) : Type 0 where
   pub demand-for : a .demand .«time_constant» ≡ c
   pub demand : IsAlpha (a .demand)
-  pub denials-for : a .denials .«time_constant» ≡ 10_000_000_000
+  pub denials-for : a .denials .«time_constant» ≡ d
   pub denials : IsAlpha (a .denials)
 
 -- `foldedKey` by what it turns on
-abbrev pub foldedFor : (c now : ℕ) → KeyRecord → KeyRecord
-foldedFor c now k =
+abbrev pub foldedFor : (c d now : ℕ) → KeyRecord → KeyRecord
+foldedFor c d now k =
     record {
       key = k .key;
       limit = k .limit;
       demand = folded c now (k .demand);
-      requests = folded 10_000_000_000 now (k .requests);
-      denials = folded 10_000_000_000 now (k .denials);
-      shadowDenials = folded 10_000_000_000 now (k .shadowDenials);
+      requests = folded d now (k .requests);
+      denials = folded d now (k .denials);
+      shadowDenials = folded d now (k .shadowDenials);
       gcra = k .gcra;
     }
 
 -- a record's words after the fold
-abbrev pub foldedRow : (c now : ℕ) → List ℕ → List ℕ
-foldedRow c now r = keyWords unitNanos (foldedFor c now (keyRecord r))
+abbrev pub foldedRow : (c d now : ℕ) → List ℕ → List ℕ
+foldedRow c d now r = keyWords unitNanos (foldedFor c d now (keyRecord r))
 
 -- the words of one valid key
 pub record HeldKey (r : List ℕ) : Type 0 where

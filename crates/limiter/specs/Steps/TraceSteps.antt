@@ -10,15 +10,15 @@ use Rattle.gcra.specs.declared.Quota.{Quota}
 use Rattle.gcra.specs.declared.Gcra.{Gcra}
 use Rattle.gcra.specs.Packed.{validQuota}
 use Rattle.gcra.specs.Meter.{decision, check}
-use Rattle.gcra.specs.Questions.{Question, answer, changed, passes}
-use Rattle.demand.specs.PeerLists.{all, replaced}
-use Rattle.demand.specs.PeerState.{exact}
+use Rattle.questions.specs.Questions.{Question, answer, changed, passes}
+use Rattle.questions.specs.Lists.{all, replaced}
+use Rattle.records.specs.Typed.{exact}
 use Rattle.limiter.specs.declared.traces.ShadowEntry.{ShadowEntry}
 use Rattle.limiter.specs.declared.traces.Tried.{Tried}
 use Rattle.limiter.specs.declared.Limit.{Limit}
 use Rattle.limiter.specs.declared.Limiter.{Limiter}
 use Rattle.limiter.specs.declared.TracedCheck.{TracedCheck}
-use Rattle.limiter.specs.State.{base, KeyRecord, ShadowRecord, keyWords, putKey, shadowWith, shadowWords, shadowOf, validShadow}
+use Rattle.limiter.specs.State.{KeyRecord, ShadowRecord, keyWords, putKey, shadowWith, shadowWords, shadowOf, validShadow}
 use Rattle.limiter.specs.Checks.{entry, checkedKey, keyQuestions, shadowQuota, shadowMeter, decisionBy, shadowsWith}
 use Rattle.limiter.specs.Calls.{tracedAnswer}
 use Rattle.limiter.specs.Steps.KeySteps.{units}
@@ -90,17 +90,17 @@ module _ (l : Limiter) (xs zs : List ℕ) (key now : ℕ) (k : KeyRecord) (m : O
 -- the meter of the shadow of a key k
 abbrev pub meterFor : Limiter → (shadows : List ℕ) → (key : ℕ) → (limit : Limit) → Option Limit → (now : ℕ) → KeyRecord → Option Gcra
 meterFor l zs key limit none now k = none
-meterFor l zs key limit (some shadow) now k = some (triedMeter (l .shadows) zs key (shadowQuota base (k .gcra .quota) limit shadow) now)
+meterFor l zs key limit (some shadow) now k = some (triedMeter (l .shadows) zs key (shadowQuota units (k .gcra .quota) limit shadow) now)
 
 abbrev pub Traces : Limiter → (keys shadows : List ℕ) → (key : ℕ) → (limit : Limit) → Option Limit → (now n : ℕ) → TracedCheck
     → (keys shadows : List ℕ) → Type 0
 Traces l xs zs key limit shadow now n =
-    let k = entry base (keysOnly l xs) key limit now n in
+    let k = entry units (keysOnly l xs) key limit now n in
     TracesAs l xs zs key now k (meterFor l zs key limit shadow now k)
 
 -- where the questions pass, there is room for the shadows
 abbrev pub Roomy : Limiter → (keys shadows : List ℕ) → (key : ℕ) → (limit shadow : Limit) → (now n : ℕ) → Type 0
 Roomy l xs zs key limit shadow now n =
-    let k = entry base (keysOnly l xs) key limit now n in
+    let k = entry units (keysOnly l xs) key limit now n in
     let m = meterFor l zs key limit (some shadow) now k in
     passes (tracedAsks l xs zs key now k m) ≡ true → length (tracedShadows l xs zs key now k m) * 4 ≤ length zs

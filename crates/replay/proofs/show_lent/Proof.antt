@@ -27,6 +27,7 @@ pub show-lent-spec : {M : Type 1} → statement M
 show-lent-spec =
     tie.close
     (tie.spec
+    (λ c. search needs)
     (λ c κs. search needs)
     (λ c κs. search needs)
     (λ c κs. search needs)

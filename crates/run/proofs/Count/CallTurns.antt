@@ -8,8 +8,7 @@ use borrow.Author.Tests.{eqb-true}
 use lib.Dec.{leb, eqb}
 use lib.ListN.{length}
 use Rattle.records.specs.Records.{ascending}
-use Rattle.records.proofs.TestLaws.{split, both}
-use Rattle.float.proofs.Tests.{or-false}
+use Rattle.questions.proofs.Tests.{split, both, or-false}
 use Rattle.gcra.specs.declared.Gcra.{Gcra}
 use Rattle.gcra.specs.Packed.{unitNanos, validBurst, validQuota}
 use Rattle.gcra.specs.Meter.{hasDebt}
@@ -17,13 +16,12 @@ use Rattle.gcra.proofs.Checks.{no-debt}
 use Rattle.gcra.proofs.Encoding.{units-accepted}
 use Rattle.gcra.proofs.Rates.{per-second-valid}
 use Rattle.demand.specs.declared.hot_set.HotEntry.{HotEntry}
-use Rattle.demand.specs.PeerLists.{all, first, those}
-use Rattle.demand.specs.PeerState.{isWord}
-use Rattle.demand.proofs.PeerListLaws.{mapped, those-map, first-map}
-use Rattle.demand.proofs.PeerOrderLaws.{asc-rest}
+use Rattle.questions.specs.Lists.{all, first, those}
+use Rattle.records.specs.Typed.{isWord}
+use Rattle.questions.proofs.ListLaws.{mapped, those-map, first-map}
+use Rattle.records.proofs.AscendingLaws.{asc-rest}
 use Rattle.limiter.specs.declared.Limit.{Limit}
-use Rattle.limiter.specs.State.{base, Settings, KeyRecord, LimiterState, keyWith, putKey, isTracked, settingsWords, keyWords, validLimit}
-use Rattle.limiter.specs.State.{validSettings, validKey, validKeys, valid}
+use Rattle.limiter.specs.State.{parametersOf, Settings, KeyRecord, LimiterState, keyWith, putKey, isTracked, settingsWords, keyWords, validLimit, validSettings, validKey, validKeys, valid}
 use Rattle.limiter.specs.Checks.{coldQuota, newKey, foundOr, entry, ownLimit}
 use Rattle.limiter.specs.Ticks.{Others, Settled, foldedKey, updated, stays, passOne, rateOf, quotaOf, withQuota, passTwo, victims, capped, tickWith}
 use Rattle.limiter.specs.Readers.{ofKey}
@@ -49,36 +47,36 @@ unmoved (some g) = record { turn = keeps unchecked; kept = λ s. tt }
 -- ---- what validity says
 
 -- The burst of the settings' limit is valid.
-pub own-burst : (s : LimiterState) → valid (base .units) s ≡ true → validBurst (ownLimit s .burst) ≡ true
+pub own-burst : (s : LimiterState) → valid unitNanos s ≡ true → validBurst (ownLimit s .burst) ≡ true
 unfolding valid validSettings
 own-burst s v =
     let settings = both (validSettings (s .settings)) _ v .0 in
     limit-burst (ownLimit s) (both (validLimit (ownLimit s)) _ (both (all isWord (settingsWords (s .settings))) _ settings .1) .0)
 
 -- And a key's.
-key-burst : (k : KeyRecord) → validKey (base .units) k ≡ true → validBurst (k .limit .burst) ≡ true
+key-burst : (k : KeyRecord) → validKey unitNanos k ≡ true → validBurst (k .limit .burst) ≡ true
 unfolding validKey
-key-burst k v = limit-burst (k .limit) (both (validLimit (k .limit)) _ (both (all isWord (keyWords (base .units) k)) _ v .1) .0)
+key-burst k v = limit-burst (k .limit) (both (validLimit (k .limit)) _ (both (all isWord (keyWords unitNanos k)) _ v .1) .0)
 
 -- Keys are valid and ascend.
-valid-keys : (s : LimiterState) → valid (base .units) s ≡ true
-    → (all (validKey (base .units)) (s .keys) ≡ true) × (ascending 1 (map (keyWords (base .units)) (s .keys)) ≡ true)
+valid-keys : (s : LimiterState) → valid unitNanos s ≡ true
+    → (all (validKey unitNanos) (s .keys) ≡ true) × (ascending 1 (map (keyWords unitNanos) (s .keys)) ≡ true)
 unfolding valid validKeys
 valid-keys s v =
     let c = s .settings .config in
-    let keys = both (validKeys (base .units) c (s .keys)) _ (both (validSettings (s .settings)) _ v .1) .0 in
-    both (all (validKey (base .units)) (s .keys)) _ (both (leb (length (s .keys)) (c .«table_size»)) _ keys .1)
+    let keys = both (validKeys unitNanos c (s .keys)) _ (both (validSettings (s .settings)) _ v .1) .0 in
+    both (all (validKey unitNanos) (s .keys)) _ (both (leb (length (s .keys)) (c .«table_size»)) _ keys .1)
 
 -- ---- a key that is found or made
 
 -- A new key's quota is valid.
-cold-valid : (s : Settings) (x : Limit) (n : ℕ) → validBurst (x .burst) ≡ true → validQuota unitNanos (coldQuota base s x n) ≡ true
+cold-valid : (s : Settings) (x : Limit) (n : ℕ) → validBurst (x .burst) ≡ true → validQuota unitNanos (coldQuota unitNanos s x n) ≡ true
 unfolding coldQuota
 cold-valid s x n b = per-second-valid unitNanos units-accepted _ (x .burst) b
 
 module _ (s : LimiterState) (k : ℕ) (x : Limit) (now n : ℕ) where
   abbrev new : KeyRecord
-  new = newKey base (s .settings) k x now n
+  new = newKey unitNanos (s .settings) k x now n
 
   -- A key that is found keeps its meter, and one that is made has a new one.
   found-or-made : validBurst (x .burst) ≡ true → (o : Option KeyRecord) {a : ℕ} {h : Gcra} → Gate now (foundOr new x o .gcra) a h
@@ -89,14 +87,14 @@ module _ (s : LimiterState) (k : ℕ) (x : Limit) (now n : ℕ) where
 -- A call on the key k that puts its record back, checked at most once, is a turn of each key.
 pub entered :
     {S : Type 0} (key : ℕ) (s : LimiterState) (k : ℕ) (x : Limit) (now n : ℕ) → validBurst (x .burst) ≡ true → {a : ℕ} (r : KeyRecord) → r .key ≡ k
-    → Gate now (entry base s k x now n .gcra) a (r .gcra)
+    → Gate now (entry unitNanos s k x now n .gcra) a (r .gcra)
     → Acts S now (meterIn key s) (ifKey key k a) (ofKey meter (keyWith key (putKey r (s .keys))))
 unfolding entry
 entered key s k x now n b {a} r e gate =
     split (eqb k key)
     (λ h.
     let z = eqb-true k key h in
-    let g = subst (λ (j : ℕ). Gate now (foundOr (newKey base (s .settings) j x now n) x (keyWith j (s .keys)) .gcra) a (r .gcra)) z gate in
+    let g = subst (λ (j : ℕ). Gate now (foundOr (newKey unitNanos (s .settings) j x now n) x (keyWith j (s .keys)) .gcra) a (r .gcra)) z gate in
     rw (h, put-own key r (s .keys) (e ∙ z))
     (record { turn = found-or-made s key x now n b (keyWith key (s .keys)) g; kept = λ t. kept-some (meterIn key s) }))
     (λ h. rw (h, put-other key r (s .keys) (ap (λ (j : ℕ). eqb j key) e ∙ h)) (unmoved (meterIn key s)))
@@ -112,7 +110,7 @@ module _ (key : ℕ) (st : Settings) (o : Others) (now n : ℕ) where
   data Settles : Option KeyRecord → Option KeyRecord → Type 0 where
     untracked : Settles none none
     idle : {k : KeyRecord} → hasDebt (k .gcra) now ≡ false → Settles (some k) none
-    folded : {k : KeyRecord} → validBurst (k .limit .burst) ≡ true → Settles (some k) (some (foldedKey base st o now n k))
+    folded : {k : KeyRecord} → validBurst (k .limit .burst) ≡ true → Settles (some k) (some (foldedKey (parametersOf st) st o now n k))
 
   -- A key that is not tracked is not tracked after it.
   none-settles : {a b : Option KeyRecord} → Settles a b → a ≡ none → b ≡ none
@@ -125,76 +123,76 @@ module _ (key : ℕ) (st : Settings) (o : Others) (now n : ℕ) where
       tracked (some k) = true
 
   -- A key that does not stay has no debt.
-  idle-owes-nothing : (k : KeyRecord) (hot : Bool) → stays base st o now n k hot ≡ false → hasDebt (k .gcra) now ≡ false
+  idle-owes-nothing : (k : KeyRecord) (hot : Bool) → stays (parametersOf st) st o now n k hot ≡ false → hasDebt (k .gcra) now ≡ false
   idle-owes-nothing k hot e = or-false (hasDebt (k .gcra) now) _ (or-false hot _ e .1) .0
 
   -- Pass one folds the key, or drops it where it has no debt.
   pass-one :
-      (ks : List KeyRecord) (es : List HotEntry) → all (validKey (base .units)) ks ≡ true → ascending 1 (map (keyWords (base .units)) ks) ≡ true
-      → Settles (keyWith key ks) (keyWith key (passOne base st o now n ks es .keys))
+      (ks : List KeyRecord) (es : List HotEntry) → all (validKey unitNanos) ks ≡ true → ascending 1 (map (keyWords unitNanos) ks) ≡ true
+      → Settles (keyWith key ks) (keyWith key (passOne (parametersOf st) st o now n ks es .keys))
   unfolding passOne all
   pass-one [] es v a = rw (found-nowhere key) untracked
   pass-one (k ∷ ks) es v a =
-      let k′ = foldedKey base st o now n k in
-      let up = updated base st o now n k′ es in
-      let rest = passOne base st o now n ks (up .left) .keys in
-      let b = both (validKey (base .units) k) _ v in
-      let later = pass-one ks (up .left) (b .1) (asc-rest 1 (keyWords (base .units) k) (map (keyWords (base .units)) ks) a) in
+      let k′ = foldedKey (parametersOf st) st o now n k in
+      let up = updated (parametersOf st) st o now n k′ es in
+      let rest = passOne (parametersOf st) st o now n ks (up .left) .keys in
+      let b = both (validKey unitNanos k) _ v in
+      let later = pass-one ks (up .left) (b .1) (asc-rest 1 (keyWords unitNanos k) (map (keyWords unitNanos) ks) a) in
       split (eqb (k .key) key)
-      (λ e. rw (found-here key k ks e) (split (stays base st o now n k′ (up .hot))
+      (λ e. rw (found-here key k ks e) (split (stays (parametersOf st) st o now n k′ (up .hot))
       (λ h. rw (h, found-here key k′ rest e) (folded (key-burst k (b .0))))
-      (λ h. rw (h, none-settles later (only-once key (base .units) k ks a e)) (idle (idle-owes-nothing k′ (up .hot) h)))))
-      (λ e. rw (found-later key k ks e) (split (stays base st o now n k′ (up .hot))
+      (λ h. rw (h, none-settles later (only-once key unitNanos k ks a e)) (idle (idle-owes-nothing k′ (up .hot) h)))))
+      (λ e. rw (found-later key k ks e) (split (stays (parametersOf st) st o now n k′ (up .hot))
       (λ h. rw (h, found-later key k′ rest e) later)
       (λ h. rw h later)))
 
   -- Pass two sets its quota.
   pass-two : (es : List HotEntry) (ks : List KeyRecord)
-      → keyWith key (passTwo base st o now n es ks) ≡ mapped (withQuota base st o now n es) (keyWith key ks)
+      → keyWith key (passTwo (parametersOf st) st o now n unitNanos es ks) ≡ mapped (withQuota (parametersOf st) st o now n unitNanos es) (keyWith key ks)
   pass-two es ks =
-      let f = withQuota base st o now n es in ap (λ (l : List KeyRecord). first l) (those-map f keyOf key ks) ∙ first-map f (those keyOf key ks)
+      let f = withQuota (parametersOf st) st o now n unitNanos es in ap (λ (l : List KeyRecord). first l) (those-map f keyOf key ks) ∙ first-map f (those keyOf key ks)
 
   -- the tracked-key cap removes the key
   abbrev pub removedIn : Settled → Bool
-  removedIn p = isTracked (victims base st o now n (p .hot) (passTwo base st o now n (p .hot) (p .keys))) key
+  removedIn p = isTracked (victims (parametersOf st) st o now n (p .hot) (passTwo (parametersOf st) st o now n unitNanos (p .hot) (p .keys))) key
 
   -- Then the cap removes it, or leaves it.
   cap : (es : List HotEntry) (ks : List KeyRecord)
-      → keyWith key (capped base st o now n es ks) ≡ cond (not (isTracked (victims base st o now n es ks) key)) (keyWith key ks) none
+      → keyWith key (capped (parametersOf st) st o now n es ks) ≡ cond (not (isTracked (victims (parametersOf st) st o now n es ks) key)) (keyWith key ks) none
   unfolding capped
-  cap es ks = found-only key (λ (j : ℕ). not (isTracked (victims base st o now n es ks) j)) ks
+  cap es ks = found-only key (λ (j : ℕ). not (isTracked (victims (parametersOf st) st o now n es ks) j)) ks
 
   -- Both passes and the cap are a turn.
   settled : (removed : Bool) (es : List HotEntry) {a b : Option KeyRecord} → Settles a b
-      → Acts (removed ≡ false) now (ofKey meter a) 0 (ofKey meter (cond (not removed) (mapped (withQuota base st o now n es) b) none))
+      → Acts (removed ≡ false) now (ofKey meter a) 0 (ofKey meter (cond (not removed) (mapped (withQuota (parametersOf st) st o now n unitNanos es) b) none))
   settled true es untracked = record { turn = absent; kept = λ e. tt }
   settled true es (idle d) = record { turn = drops; kept = λ e. absurd (true≢false e) }
   settled true es (folded v) = record { turn = drops; kept = λ e. absurd (true≢false e) }
   settled false es untracked = record { turn = absent; kept = λ e. tt }
   settled false es (idle {k} d) = record { turn = drops; kept = λ e. no-debt (k .gcra .quota) (k .gcra .tat) now d }
   settled false es (folded {k} v) =
-      let k′ = foldedKey base st o now n k in
+      let k′ = foldedKey (parametersOf st) st o now n k in
       record {
         turn =
-            sets (quotaOf base st o now n es k′)
-            (per-second-valid unitNanos units-accepted (rateOf base st o now n es k′) (k .limit .burst) v) unchecked;
+            sets (quotaOf (parametersOf st) st o now n unitNanos es k′)
+            (per-second-valid unitNanos units-accepted (rateOf (parametersOf st) st o now n es k′) (k .limit .burst) v) unchecked;
         kept = λ e. tt;
       }
 
 -- the tracked-key cap of a tick removes the key
 abbrev pub capRemoves : ℕ → Others → (now n : ℕ) → LimiterState → Bool
-capRemoves key o now n s = removedIn key (s .settings) o now n (passOne base (s .settings) o now n (s .keys) (s .hot))
+capRemoves key o now n s = removedIn key (s .settings) o now n (passOne (parametersOf (s .settings)) (s .settings) o now n (s .keys) (s .hot))
 
 -- A tick of a valid state is a turn of each key.
 pub tick-turns :
-    (key : ℕ) (o : Others) (now n : ℕ) (s : LimiterState) → valid (base .units) s ≡ true
-    → Acts (capRemoves key o now n s ≡ false) now (meterIn key s) 0 (meterIn key (tickWith base o now n s))
+    (key : ℕ) (o : Others) (now n : ℕ) (s : LimiterState) → valid unitNanos s ≡ true
+    → Acts (capRemoves key o now n s ≡ false) now (meterIn key s) 0 (meterIn key (tickWith (parametersOf (s .settings)) unitNanos o now n s))
 unfolding tickWith
 tick-turns key o now n s v =
-    let p = passOne base (s .settings) o now n (s .keys) (s .hot) in
+    let p = passOne (parametersOf (s .settings)) (s .settings) o now n (s .keys) (s .hot) in
     let w = valid-keys s v in
     rw (
-      cap key (s .settings) o now n (p .hot) (passTwo base (s .settings) o now n (p .hot) (p .keys)),
+      cap key (s .settings) o now n (p .hot) (passTwo (parametersOf (s .settings)) (s .settings) o now n unitNanos (p .hot) (p .keys)),
       pass-two key (s .settings) o now n (p .hot) (p .keys),
     )
     (settled key (s .settings) o now n (capRemoves key o now n s) (p .hot) (pass-one key (s .settings) o now n (s .keys) (s .hot) (w .0) (w .1)))

@@ -7,7 +7,7 @@ use mathlib.Core.List.{List, [], _∷_, _++_}
 use mathlib.Core.Option.{Option, none, some}
 use native.Mathlib.Omega.{arith}
 use native.Mathlib.Nat.{mul-le-mul-right, add-zero}
-use Rattle.float.proofs.Tests.{split}
+use Rattle.questions.proofs.Tests.{split}
 use Rattle.gcra.specs.declared.Units.{Units}
 use Rattle.gcra.specs.declared.Quota.{Quota}
 use Rattle.gcra.specs.declared.Tat.{Tat}
@@ -21,8 +21,7 @@ use Rattle.gcra.proofs.Checks.{check-deny, check-fits}
 use Rattle.gcra.proofs.Count.{full, within, Allowed, allows}
 use Rattle.gcra.proofs.Rates.{equal-same, by-quota, set-fits}
 use Rattle.gcra.proofs.Carry.{carry-keeps}
-use Rattle.run.specs.Seen.{Seen, goesOn, change, changes, share, shares, last, allowedIn, burstOf, bound, KeepsToTheBound, Onward, stays, Kept}
-use Rattle.run.specs.Seen.{largestBurst, isSmall, Small, Premises}
+use Rattle.run.specs.Seen.{Seen, goesOn, change, changes, share, shares, last, allowedIn, burstOf, bound, KeepsToTheBound, Onward, stays, Kept, largestBurst, isSmall, Small, Premises}
 use Rattle.run.proofs.Count.Slots.{Carries, carried-over}
 use Rattle.run.proofs.Count.Turns.{Gate, unchecked, checked, Turn, absent, drops, makes, keeps, sets, Turns, carriedTo, gate-quota, Fits}
 

@@ -13,19 +13,17 @@ use Rattle.run.specs.Trace.{newStates, asked, made, trace}
 use Rattle.float.specs.Integral.{ceil, roundAway}
 use Rattle.float.specs.Order.{below, minimumNumber, maximumNumber, totalLess}
 use Rattle.records.specs.Records.{before, same, leads, ascending}
-use Rattle.gcra.specs.Questions.{answer, passes}
+use Rattle.questions.specs.Questions.{answer, passes}
 use Rattle.gcra.specs.Packed.{encode, rounded, withInterval, validQuota, pack, unpack, tau, decode}
 use Rattle.gcra.specs.Meter.{decide, attempt, decision, check as meter-check, hasDebt}
 use Rattle.gcra.specs.Rate.{quotientNanos, perSecond, debtSlots, slotNanos, carryTat, setQuota}
-use Rattle.demand.specs.Weight.{next, weight}
-use Rattle.demand.specs.Estimator.{alpha, folded as estimator-folded, tickedFrom, unbiasedFrom}
+use Rattle.demand.specs.Decay.Weight.{next, weight}
+use Rattle.demand.specs.Estimators.Estimator.{alpha, folded as estimator-folded, tickedFrom, unbiasedFrom}
 use Rattle.demand.specs.Allocation.{isRate, isFloorFactor, isClusterSize, shared}
-use Rattle.demand.specs.HotSet.{words as hotset-words, entry as hotset-entry, entries, validSize, valid as hotset-valid, get as hotset-get, put}
-use Rattle.demand.specs.HotSet.{remove, weaker, admit, promoteFrom, promote, belowThreshold, updateWith}
-use Rattle.demand.specs.Words.{isTime}
-use Rattle.demand.specs.PeerLists.{only, all, any, those, replaced}
-use Rattle.limiter.specs.State.{isTracked, settingsWords, keyWords, isAlpha, areSizes, validLimit, validSettings, validKey, validHotEntry, validKeys}
-use Rattle.limiter.specs.State.{validHot, validShadows, valid as state-valid, within}
+use Rattle.demand.specs.HotSet.Set.{words as hotset-words, entry as hotset-entry, entries, validSize, valid as hotset-valid, get as hotset-get, put, validEntry, validEntries, remove, weaker, admit, promoteFrom, promote, belowThreshold, updateWith}
+use Rattle.records.specs.Fields.{isTime}
+use Rattle.questions.specs.Lists.{only, all, any, those, replaced}
+use Rattle.limiter.specs.State.{isTracked, settingsWords, keyWords, isAlpha, areSizes, validLimit, validSettings, validKey, validKeys, validHot, validShadows, valid as state-valid, within}
 use Rattle.limiter.specs.Checks.{newKeyFactor, coldQuota, entry as checks-entry, checkIn, recordTally, hasPlace, countersFit}
 use Rattle.limiter.specs.Ticks.{folded as ticks-folded, unbiasedRate, passOne, rateOf, victims, capped, tickWith}
 use Rattle.run.proofs.Standing.AnswerCases.{checkFrom, changeFrom}
@@ -93,6 +91,6 @@ unfolding seen-of-key moves shownBy repliedTo checkFrom changeFrom span climb ie
     quotientNanos perSecond debtSlots slotNanos carryTat setQuota next weight alpha estimator-folded tickedFrom unbiasedFrom isRate isFloorFactor
     isClusterSize shared hotset-words hotset-entry entries validSize hotset-valid hotset-get put remove weaker admit promoteFrom promote
     belowThreshold updateWith isTime only all any those replaced isTracked settingsWords keyWords isAlpha areSizes validLimit validSettings validKey
-    validHotEntry validKeys validHot validShadows state-valid within newKeyFactor coldQuota checks-entry checkIn recordTally hasPlace countersFit
-    ticks-folded unbiasedRate passOne rateOf victims capped tickWith asked made trace
+    validEntry validEntries validKeys validHot validShadows state-valid within newKeyFactor coldQuota checks-entry checkIn recordTally hasPlace
+    countersFit ticks-folded unbiasedRate passOne rateOf victims capped tickWith asked made trace
 reached = record { four = refl; at-most-four = refl; premises = omega arith }

@@ -9,34 +9,32 @@ use mathlib.Core.Option.{Option, none, some}
 use lib.Dec.{eqb}
 use lib.ListN.{length, getD, drop}
 use Rattle.records.specs.Records.{records, flat, table, fits}
-use Rattle.records.proofs.TestLaws.{split, both}
+use Rattle.questions.proofs.Tests.{split, both}
 use Rattle.gcra.specs.declared.Gcra.{Gcra}
 use Rattle.gcra.specs.declared.Decision.{Decision}
 use Rattle.gcra.specs.declared.Decision.the-variants.{Allow, Deny}
-use Rattle.gcra.specs.Questions.{Question, _asks_, Answer, refused, given, answer, passes, changed}
+use Rattle.questions.specs.Questions.{Question, _asks_, Answer, refused, given, answer, passes, changed}
 use Rattle.gcra.specs.Packed.{unitNanos, validBurst}
 use Rattle.gcra.specs.Meter.{isAllow}
-use Rattle.gcra.proofs.Answers.{given-passed, answer-passed}
+use Rattle.questions.proofs.Answers.{given-passed, answer-passed}
 use Rattle.gcra.proofs.Encoding.{units-accepted}
 use Rattle.demand.specs.declared.peer_demand.ChangeAnswer.{ChangeAnswer}
 use Rattle.demand.specs.declared.peer_demand.ChangeAnswer.the-variants as change-answer
-use Rattle.demand.specs.PeerState as peer-state
-use Rattle.demand.specs.PeerCalls.{changeAnswer}
+use Rattle.demand.specs.Peers.State as peer-state
+use Rattle.demand.specs.Peers.Calls.{changeAnswer}
 use Rattle.demand.specs.Allocation.{isRate}
 use Rattle.limiter.specs.declared.Config.{Config}
 use Rattle.limiter.specs.declared.Limit.{Limit}
 use Rattle.limiter.specs.declared.Tally.{Tally}
-use Rattle.limiter.specs.State.{base, LimiterState, haveRoom, valid}
-use Rattle.limiter.specs.Checks.{entry, checkedKey, talliedKey, keyDecision, shadowDecision, checkIn, checkTraced, recordTally, ownLimit}
-use Rattle.limiter.specs.Checks.{limitQuestions, bothLimitQuestions, hasPlace, countersFit, checkKeyQuestions, checkOne, afterOne, checkEach}
+use Rattle.limiter.specs.State.{LimiterState, haveRoom, valid}
+use Rattle.limiter.specs.Checks.{entry, checkedKey, talliedKey, keyDecision, shadowDecision, checkIn, checkTraced, recordTally, ownLimit, limitQuestions, bothLimitQuestions, hasPlace, countersFit, checkKeyQuestions, checkOne, afterOne, checkEach}
 use Rattle.limiter.specs.Ticks.{noOthers, peersOthers}
 use Rattle.limiter.specs.Calls.{Decisions, answerWords, eachQuestions}
 use Rattle.image.specs.Image.{State}
 use Rattle.image.specs.Image as image
 use Rattle.run.specs.Seen.{Seen, KeepsToTheBound, Onward, Kept, largestBurst, Small}
 use Rattle.run.specs.Run.{Change, What, Lent, Move, Shown}
-use Rattle.run.specs.Trace.{newStates, onLimiter, onBoth, asked, made, allows, meters, wasDone, allowedFirst, meterIn, ifKey, seenEach, seenIn}
-use Rattle.run.specs.Trace.{trace}
+use Rattle.run.specs.Trace.{newStates, onLimiter, onBoth, asked, made, allows, meters, wasDone, allowedFirst, meterIn, ifKey, seenEach, seenIn, trace}
 use Rattle.run.specs.Trace as trace
 use Rattle.run.specs.Demand3.{Counted}
 use Rattle.run.proofs.Count.Turns.{unchecked, checked, Turns, after, turns-then, never-lowered}
@@ -86,9 +84,9 @@ taken f z (q ∷ qs) a refuses = split (q .passed) (λ e. rw e (taken f z qs a r
 
 -- A call on the limiter is asked whether its state is valid.
 on-limiter : (n : Lent) (s : State) (qs : List Question) → passes (onLimiter n s ++ qs) ≡ true
-    → (valid (base .units) (s .limiter) ≡ true) × (passes qs ≡ true)
+    → (valid unitNanos (s .limiter) ≡ true) × (passes qs ≡ true)
 unfolding passes
-on-limiter n s qs e = both (valid (base .units) (s .limiter)) _ (both (haveRoom (s .limiter .settings .config) (n .limiter)) _ e .1)
+on-limiter n s qs e = both (valid unitNanos (s .limiter)) _ (both (haveRoom (s .limiter .settings .config) (n .limiter)) _ e .1)
 
 -- A limit that is given is asked for its burst.
 given-burst : (x : Limit) (qs : List Question) → passes (limitQuestions x ++ qs) ≡ true → validBurst (x .burst) ≡ true
@@ -104,10 +102,10 @@ traced-burst x (some y) qs e =
     (both (isRate (x .rate) && isRate (y .rate)) _ e .1) .0) .0
 
 -- A call on both is asked so too.
-on-both : (n : Lent) (s : State) (qs : List Question) → passes (onBoth n s ++ qs) ≡ true → valid (base .units) (s .limiter) ≡ true
+on-both : (n : Lent) (s : State) (qs : List Question) → passes (onBoth n s ++ qs) ≡ true → valid unitNanos (s .limiter) ≡ true
 unfolding passes image.valid
 on-both n s qs e =
-    both (valid (base .units) (s .limiter)) _
+    both (valid unitNanos (s .limiter)) _
     (both (image.valid s) _ (both (haveRoom (s .limiter .settings .config) (n .limiter) && peer-state.haveRoom (n .peers)) _ e .1) .0) .0
 
 -- The words of one of many answers: whether its check is allowed, and the words after them. A 'no' is 8 or 9.
@@ -157,45 +155,45 @@ module _ (key : ℕ) where
 
   -- A check under a valid burst.
   check-turns : {S : Type 0} (s : LimiterState) (k : ℕ) (x : Limit) (now n : ℕ) → validBurst (x .burst) ≡ true
-      → Acts S now (meterIn key s) (ifKey key k (cond (isAllow (keyDecision base s k x now n)) 1 0)) (meterIn key (checkIn base s k x now n))
+      → Acts S now (meterIn key s) (ifKey key k (cond (isAllow (keyDecision unitNanos s k x now n)) 1 0)) (meterIn key (checkIn unitNanos s k x now n))
   unfolding checkIn
-  check-turns s k x now n b = entered key s k x now n b (checkedKey now none (entry base s k x now n)) (entry-key base s k x now n) checked
+  check-turns s k x now n b = entered key s k x now n b (checkedKey now none (entry unitNanos s k x now n)) (entry-key unitNanos s k x now n) checked
 
   -- A traced one: the shadow has its own meter.
   traced-turns : {S : Type 0} (s : LimiterState) (k : ℕ) (x : Limit) (y : Option Limit) (now n : ℕ) → validBurst (x .burst) ≡ true
-      → Acts S now (meterIn key s) (ifKey key k (cond (isAllow (keyDecision base s k x now n)) 1 0)) (meterIn key (checkTraced base s k x y now n))
+      → Acts S now (meterIn key s) (ifKey key k (cond (isAllow (keyDecision unitNanos s k x now n)) 1 0)) (meterIn key (checkTraced unitNanos s k x y now n))
   unfolding checkTraced
   traced-turns s k x y now n b =
-      entered key s k x now n b (checkedKey now (shadowDecision base s k x y now n) (entry base s k x now n)) (entry-key base s k x now n) checked
+      entered key s k x now n b (checkedKey now (shadowDecision unitNanos s k x y now n) (entry unitNanos s k x now n)) (entry-key unitNanos s k x now n) checked
 
   -- A tally asks no meter.
   tally-turns : {S : Type 0} (s : LimiterState) (k : ℕ) (y : Tally) (x : Limit) (now n : ℕ) → validBurst (x .burst) ≡ true
-      → Acts S now (meterIn key s) 0 (meterIn key (recordTally base s k y x now n))
+      → Acts S now (meterIn key s) 0 (meterIn key (recordTally unitNanos s k y x now n))
   unfolding recordTally
   tally-turns {S} s k y x now n b =
-      rw (no-check k) at (entered {S = S} key s k x now n b (talliedKey y (entry base s k x now n)) (entry-key base s k x now n) unchecked)
+      rw (no-check k) at (entered {S = S} key s k x now n b (talliedKey y (entry unitNanos s k x now n)) (entry-key unitNanos s k x now n) unchecked)
 
   -- A check leaves the settings, so the next of many is under a valid burst too.
   own-stays : (n : ℕ) (s : LimiterState) (k now : ℕ) → validBurst (ownLimit s .burst) ≡ true
-      → validBurst (ownLimit (afterOne base n s k now) .burst) ≡ true
+      → validBurst (ownLimit (afterOne unitNanos n s k now) .burst) ≡ true
   unfolding checkIn
-  own-stays n s k now b = split (passes (checkKeyQuestions base s k now n)) (λ e. rw e b) (λ e. rw e b)
+  own-stays n s k now b = split (passes (checkKeyQuestions unitNanos s k now n)) (λ e. rw e b) (λ e. rw e b)
 
   -- Many checks, each answered in three words, are turns.
   each-turns : {S : Type 0} (n : ℕ) (rs : List (List ℕ)) (s : LimiterState) (out : List ℕ) → validBurst (ownLimit s .burst) ≡ true
-      → Shows S (meterIn key s) (seenEach key n rs (flat (map answerWords (checkEach base n rs s .answers)) ++ out) s)
-      (meterIn key (checkEach base n rs s .left))
+      → Shows S (meterIn key s) (seenEach key n rs (flat (map answerWords (checkEach unitNanos n rs s .answers)) ++ out) s)
+      (meterIn key (checkEach unitNanos n rs s .left))
   unfolding seenEach checkEach flat
   each-turns n [] s out b = nothing refl
   each-turns n (r ∷ rs) s out b =
       let k = getD r 0 0 in
       let now = getD r 1 0 in
-      let s′ = afterOne base n s k now in
-      let more = flat (map answerWords (checkEach base n rs s′ .answers)) in
-      let x = checkedKey now none (entry base s k (ownLimit s) now n) in
-      let w = first-words (hasPlace s (x .key)) (countersFit x) (keyDecision base s k (ownLimit s) now n) (more ++ out) in
-      rw (append-assoc (answerWords (checkOne base n s k now)) more out, w .1)
-      (then (check-or-no (meterIn key) (checkKeyQuestions base s k now n) k _ (w .0) (λ p. check-turns s k (ownLimit s) now n b))
+      let s′ = afterOne unitNanos n s k now in
+      let more = flat (map answerWords (checkEach unitNanos n rs s′ .answers)) in
+      let x = checkedKey now none (entry unitNanos s k (ownLimit s) now n) in
+      let w = first-words (hasPlace s (x .key)) (countersFit x) (keyDecision unitNanos s k (ownLimit s) now n) (more ++ out) in
+      rw (append-assoc (answerWords (checkOne unitNanos n s k now)) more out, w .1)
+      (then (check-or-no (meterIn key) (checkKeyQuestions unitNanos s k now n) k _ (w .0) (λ p. check-turns s k (ownLimit s) now n b))
       (each-turns n rs s′ out (own-stays n s k now b)))
 
   -- So are those of a call, and nothing is seen of a call that is refused.

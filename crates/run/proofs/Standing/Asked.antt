@@ -3,10 +3,10 @@
 use mathlib.Core.Path.{_≡_, refl, sym, ap, _∙_, subst}
 use mathlib.Core.Bool.{Bool, true, false, cond, _&&_, and-false}
 use mathlib.Core.List.{List, [], _∷_, _++_}
-use Rattle.records.proofs.TestLaws.{split, both}
+use Rattle.questions.proofs.Tests.{split, both}
 use Rattle.gcra.specs.Packed.{unitNanos}
-use Rattle.gcra.specs.Questions.{Question, _asks_, refused, answer, passes, changed, firstNo}
-use Rattle.demand.specs.PeerState as peer-state
+use Rattle.questions.specs.Questions.{Question, _asks_, refused, answer, passes, changed, firstNo}
+use Rattle.demand.specs.Peers.State as peer-state
 use Rattle.limiter.specs.declared.Config.{Config}
 use Rattle.limiter.specs.State as limiter-state
 use Rattle.limiter.specs.State.{haveRoom, lengths}

@@ -2,16 +2,17 @@
 use mathlib.Core.Path.{_≡_, refl, sym, subst}
 use mathlib.Core.Bool.{true, _&&_}
 use Rattle.records.specs.Records.{records, ascending}
-use Rattle.records.proofs.TestLaws.{both}
+use Rattle.questions.proofs.Tests.{both}
 use Rattle.gcra.specs.Packed.{unitNanos}
-use Rattle.gcra.specs.Questions.{passes}
-use Rattle.gcra.proofs.Answers.{answer-passed, given-passed}
+use Rattle.questions.specs.Questions.{passes}
+use Rattle.questions.proofs.Answers.{answer-passed, given-passed}
 use Rattle.demand.specs.declared.peer_demand.PeerDemand.{PeerDemand}
-use Rattle.demand.specs.HotSet as hot-set
-use Rattle.demand.specs.PeerLists.{all}
-use Rattle.demand.specs.PeerState as peer-state
-use Rattle.demand.specs.PeerState.{PeerTables, isWord}
-use Rattle.demand.specs.PeerCalls as peers
+use Rattle.demand.specs.HotSet.Set as hot-set
+use Rattle.questions.specs.Lists.{all}
+use Rattle.demand.specs.Peers.State as peer-state
+use Rattle.demand.specs.Peers.State.{PeerTables, newPeers}
+use Rattle.records.specs.Typed.{isWord}
+use Rattle.demand.specs.Peers.Calls as peers
 use Rattle.limiter.specs.declared.Config.{Config}
 use Rattle.limiter.specs.declared.Limiter.{Limiter}
 use Rattle.limiter.specs.State as limiter-state
@@ -44,12 +45,8 @@ new-limiter-stands : (c : Config) (t : LimiterTables) → limiter-state.valid un
 unfolding limiter-state.stateOf limiter-state.areExact hot-set.entries records all
 new-limiter-stands c t v = record { valid = v; reads = refl; exact = refl }
 
--- and peers with none
-abbrev none : PeerDemand
-none = record { peers = 0; «snapshot_keys» = 0; contested = 0 }
-
--- they read none
-new-peers-stand : (c : Config) (t : PeerTables) → PeersStand none t (newStates c .peers)
+-- and peers with none read none
+new-peers-stand : (c : Config) (t : PeerTables) → PeersStand newPeers t (newStates c .peers)
 unfolding peer-state.stateOf peer-state.areExact peer-state.valid peer-state.validPeers peer-state.validSnapshotKeys peer-state.validContesteds
     records all ascending
 new-peers-stand c t = record { valid = refl; reads = refl; exact = refl }
@@ -58,7 +55,7 @@ new-peers-stand c t = record { valid = refl; reads = refl; exact = refl }
 pub started-stands : {c : Config} {h : Held} → typedConfig c ≡ true → Started c h → Stands h (newStates c)
 started-stands {c} {h} w b =
     let l = given-passed (newQuestions c (b .tables)) (h .limiter) (valueOf (newState c)) (b .limiter) in
-    let p = given-passed (peers.newQuestions (b .peerTables)) (h .peers) none (b .peers) in
+    let p = given-passed (peers.newQuestions (b .peerTables)) (h .peers) newPeers (b .peers) in
     record {
       limiter =
           subst (λ (x : Limiter). LimiterStands x (h .tables) (newState c)) (sym (l .1))
@@ -71,11 +68,11 @@ pub can-start :
     (c : Config) (t : LimiterTables) (pt : PeerTables) → passes (newQuestions c t) ≡ true → passes (peers.newQuestions pt) ≡ true
     → (h : Held) × Started c h
 can-start c t pt l p = (
-  record { limiter = valueOf (newState c); tables = t; peers = none; peerTables = pt },
+  record { limiter = valueOf (newState c); tables = t; peers = newPeers; peerTables = pt },
   record {
     tables = t;
     peerTables = pt;
     limiter = answer-passed (valueOf (newState c)) (newQuestions c t) l;
-    peers = answer-passed none (peers.newQuestions pt) p;
+    peers = answer-passed newPeers (peers.newQuestions pt) p;
   },
 )

@@ -2,16 +2,16 @@
 use mathlib.Core.Path.{_≡_, refl, ap, subst}
 use mathlib.Core.Bool.{Bool, true, cond, _&&_}
 use mathlib.Core.List.{List, _++_}
-use Rattle.records.proofs.TestLaws.{both}
+use Rattle.questions.proofs.Tests.{both}
 use Rattle.gcra.specs.Packed.{unitNanos}
-use Rattle.gcra.specs.Questions.{Question, answer, passes, changed}
-use Rattle.gcra.proofs.Answers.{changed-passed}
+use Rattle.questions.specs.Questions.{Question, answer, passes, changed}
+use Rattle.questions.proofs.Answers.{changed-passed}
 use Rattle.gcra.proofs.Encoding.{units-accepted}
-use Rattle.demand.specs.PeerState as peer-state
+use Rattle.demand.specs.Peers.State as peer-state
 use Rattle.limiter.specs.declared.Limiter.{Limiter}
 use Rattle.limiter.specs.declared.Changed.{Changed}
 use Rattle.limiter.specs.State as limiter-state
-use Rattle.limiter.specs.State.{base, LimiterState, LimiterTables, lengths, haveRoom, valueOf}
+use Rattle.limiter.specs.State.{parametersOf, settingsOf, LimiterState, LimiterTables, lengths, haveRoom, valueOf}
 use Rattle.limiter.specs.Checks.{clusterQuestions}
 use Rattle.limiter.specs.Ticks.{tick, tickWith, tickWithShares, noOthers, peersOthers}
 use Rattle.limiter.specs.Calls as limiter
@@ -21,10 +21,7 @@ use Rattle.limiter.proofs.States.WrittenLaws.{written-holds}
 use Rattle.run.specs.Run.{Held, Change, Query, What, Told, Reply, Does, Tells, Acts, lend, returned}
 use Rattle.run.specs.Typed.{typed, typedWhat}
 use Rattle.run.specs.Demand3.{CanCall}
-use Rattle.run.proofs.Standing.AnswerCases.{checkFrom, tracedFrom, changeFrom, ratesFrom, keyQuotaFrom, limitFrom, sinceFrom, heardFrom}
-use Rattle.run.proofs.Standing.AnswerCases.{quotaFrom, rateFrom, configFrom, flagFrom, lenFrom, totalFrom, check-back, traced-back}
-use Rattle.run.proofs.Standing.AnswerCases.{change-back, rates-back, key-quota-back, limit-back, since-back, heard-back, quota-back, rate-back}
-use Rattle.run.proofs.Standing.AnswerCases.{config-back, flag-back, len-back, total-back}
+use Rattle.run.proofs.Standing.AnswerCases.{checkFrom, tracedFrom, changeFrom, ratesFrom, keyQuotaFrom, limitFrom, sinceFrom, heardFrom, quotaFrom, rateFrom, configFrom, flagFrom, lenFrom, totalFrom, check-back, traced-back, change-back, rates-back, key-quota-back, limit-back, since-back, heard-back, quota-back, rate-back, config-back, flag-back, len-back, total-back}
 
 -- ---- a tick: `written after t` is the witness
 
@@ -75,23 +72,23 @@ can-do p (Change.tick now m) w = (
   _,
   _,
   Does.ticks
-      (can-tick (stateQuestions (p .limiter) (p .tables) ++ clusterQuestions m) (tick base now m (here (p .limiter) (p .tables))) (p .limiter)
+      (can-tick (stateQuestions (p .limiter) (p .tables) ++ clusterQuestions m) (tick (parametersOf (settingsOf (p .limiter))) unitNanos now m (here (p .limiter) (p .tables))) (p .limiter)
       (p .tables)
       (λ e.
       let a = both (haveRoom (p .limiter .config) (lengths (p .tables))) _ e in
       let b = both (limiter-state.isValid unitNanos (p .limiter) (p .tables)) _ (a .1) in
-      (tick-valid base units-accepted (noOthers m) now m (here (p .limiter) (p .tables)) w (lent-valid (p .limiter) (p .tables) (b .0)), a .0))),
+      (tick-valid (parametersOf (settingsOf (p .limiter))) unitNanos units-accepted (noOthers m) now m (here (p .limiter) (p .tables)) w (lent-valid (p .limiter) (p .tables) (b .0)), a .0))),
 )
 can-do p (Change.tick-with-shares now m) w = (
   _,
   _,
   Does.ticks-with-shares
       (can-tick (bothQuestions (p .limiter) (p .tables) (p .peers) (p .peerTables) ++ clusterQuestions m)
-      (tickWithShares base (peer-state.stateOf (p .peers) (p .peerTables)) now m (here (p .limiter) (p .tables))) (p .limiter) (p .tables)
+      (tickWithShares (parametersOf (settingsOf (p .limiter))) unitNanos (peer-state.stateOf (p .peers) (p .peerTables)) now m (here (p .limiter) (p .tables))) (p .limiter) (p .tables)
       (λ e.
       let a = both (haveRoom (p .limiter .config) (lengths (p .tables)) && peer-state.haveRoom (peer-state.lengths (p .peerTables))) _ e in
       let b = both (limiter-state.isValid unitNanos (p .limiter) (p .tables) && peer-state.isValid (p .peers) (p .peerTables)) _ (a .1) in (
-        tick-valid base units-accepted (peersOthers (here (p .limiter) (p .tables) .settings) (peer-state.stateOf (p .peers) (p .peerTables)) m) now m
+        tick-valid (parametersOf (settingsOf (p .limiter))) unitNanos units-accepted (peersOthers (here (p .limiter) (p .tables) .settings) (peer-state.stateOf (p .peers) (p .peerTables)) m) now m
             (here (p .limiter) (p .tables)) w
             (lent-valid (p .limiter) (p .tables) (both (limiter-state.isValid unitNanos (p .limiter) (p .tables)) _ (b .0) .0)),
         both (haveRoom (p .limiter .config) (lengths (p .tables))) _ (a .0) .0,

@@ -8,15 +8,16 @@ use lib.Dec.{leb}
 use lib.Ieee.{Float}
 use mathlib.Core.Option.{Option}
 use Rattle.records.specs.Records.{records}
-use Rattle.records.proofs.TestLaws.{split, both}
+use Rattle.questions.proofs.Tests.{split, both}
 use Rattle.gcra.specs.Packed.{unitNanos}
-use Rattle.gcra.specs.Questions.{Question, Answer, passes, changed}
+use Rattle.questions.specs.Questions.{Question, Answer, passes, changed}
 use Rattle.gcra.proofs.Encoding.{units-accepted}
-use Rattle.gcra.proofs.Answers.{changed-passed}
+use Rattle.questions.proofs.Answers.{changed-passed}
 use Rattle.demand.specs.declared.peer_demand.PeerDemand.{PeerDemand}
-use Rattle.demand.specs.HotSet as hot-set
-use Rattle.demand.specs.PeerState as peer-state
-use Rattle.demand.specs.PeerState.{PeersState, PeerTables, peersSize, snapshotKeysSize, contestedSize, exact, countsOf}
+use Rattle.demand.specs.HotSet.Set as hot-set
+use Rattle.demand.specs.Peers.State as peer-state
+use Rattle.demand.specs.Peers.State.{PeersState, PeerTables, peersSize, snapshotKeysSize, contestedSize, withCounts}
+use Rattle.records.specs.Typed.{exact}
 use Rattle.limiter.specs.declared.Limiter.{Limiter}
 use Rattle.limiter.specs.declared.Changed.{Changed}
 use Rattle.limiter.specs.State as limiter-state
@@ -25,8 +26,7 @@ use Rattle.limiter.specs.Calls.{Acts, Holds, Ticking}
 use Rattle.limiter.specs.Checks.{setCap}
 use Rattle.limiter.proofs.States.WrittenLaws.{cap-back, last-tick-back, read-back, written-valid, lengths-written}
 use Rattle.image.proofs.StoreLaws as stores
-use Rattle.run.proofs.Standing.Stands.{LimiterStands, PeersStand, putTables, putPeers, limiter-back, peers-back, keys-counted, hot-counted}
-use Rattle.run.proofs.Standing.Stands.{shadows-counted}
+use Rattle.run.proofs.Standing.Stands.{LimiterStands, PeersStand, putTables, putPeers, limiter-back, peers-back, keys-counted, hot-counted, shadows-counted}
 use Rattle.run.proofs.Standing.Asked.{asking, Agrees, same-answer, same-passes, same-state, same-changed}
 
 -- ---- any change
@@ -148,13 +148,13 @@ cap-leaves {qs} {l} {l′} {t} {y} whole x c keeps =
 
 module _ (y : PeersState) (t : PeerTables) (e : peer-state.valid y ≡ true) where
   -- what is written stands for the state
-  pub peers-written-stand : PeersStand (countsOf y) (peer-state.written y t) y
+  pub peers-written-stand : (p : PeerDemand) → PeersStand (withCounts p y) (peer-state.written y t) y
   unfolding peer-state.isValid
-  peers-written-stand =
+  peers-written-stand p =
       record {
         valid = e;
-        reads = stores.peers-back y e t;
-        exact = both (peer-state.areExact (countsOf y) (peer-state.written y t)) _ (stores.peers-back-valid y e t) .0;
+        reads = stores.peers-back y e t p;
+        exact = both (peer-state.areExact (withCounts p y) (peer-state.written y t)) _ (stores.peers-back-valid y e t p) .0;
       }
 
   -- the tables stay as long
@@ -171,16 +171,16 @@ pub record PeersLasting (y : PeersState) (t : PeerTables) : Type 0 where
 
 -- by `Changes`, whose value and words are of the state y
 pub changes-leave :
-    {qs : List Question} {y : PeersState} {p p′ : PeerDemand} {t t′ : PeerTables} (whole : PeerTables) → p′ ≡ changed qs p (countsOf y)
+    {qs : List Question} {y : PeersState} {p p′ : PeerDemand} {t t′ : PeerTables} (whole : PeerTables) → p′ ≡ changed qs p (withCounts p y)
     → t′ ≡ changed qs t (peer-state.written y t) → (passes qs ≡ true → PeersLasting y t) → Leaves PeersStand (putPeers whole) qs y p t p′ t′
 changes-leave {qs} {y} {p} {p′} {t} {t′} whole value words keeps =
     record {
       done = λ e.
           let k = keeps e in
-          subst (λ (a : PeerDemand). PeersStand a (putPeers whole t′) y) (changed-passed (countsOf y) p qs e ∙ sym value)
-          (subst (λ (b : PeerTables). PeersStand (countsOf y) (putPeers whole b) y) (changed-passed (peer-state.written y t) t qs e ∙ sym words)
-          (peers-back whole (peers-room-written y t (k .valid) (k .room)) (peers-written-stand y t (k .valid))));
-      kept = λ e. (value ∙ ap (λ (b : Bool). cond b (countsOf y) p) e, words ∙ ap (λ (b : Bool). cond b (peer-state.written y t) t) e);
+          subst (λ (a : PeerDemand). PeersStand a (putPeers whole t′) y) (changed-passed (withCounts p y) p qs e ∙ sym value)
+          (subst (λ (b : PeerTables). PeersStand (withCounts p y) (putPeers whole b) y) (changed-passed (peer-state.written y t) t qs e ∙ sym words)
+          (peers-back whole (peers-room-written y t (k .valid) (k .room)) (peers-written-stand y t (k .valid) p)));
+      kept = λ e. (value ∙ ap (λ (b : Bool). cond b (withCounts p y) p) e, words ∙ ap (λ (b : Bool). cond b (peer-state.written y t) t) e);
     }
 
 -- ---- a promise on what is lent is one on the state that it stands for

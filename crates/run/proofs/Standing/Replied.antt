@@ -6,36 +6,33 @@ use lib.Dec.{leb, eqb}
 use lib.ListN.{length, drop}
 use Rattle.records.specs.Records.{records, table, fits}
 use Rattle.gcra.specs.declared.Decision.{Decision}
-use Rattle.gcra.specs.Questions.{Question, _asks_, Answer, answer, changed, firstNo}
+use Rattle.questions.specs.Questions.{Question, _asks_, Answer, answer, changed, firstNo}
+use Rattle.gcra.specs.Packed.{unitNanos}
 use Rattle.demand.specs.declared.peer_demand.ChangeAnswer.{ChangeAnswer}
-use Rattle.demand.specs.declared.peer_demand.LenAnswer.{LenAnswer}
-use Rattle.demand.specs.HotSet.{get, isHot, sinceOf}
-use Rattle.demand.specs.PeerState as peer-state
-use Rattle.demand.specs.PeerState.{PeersState}
-use Rattle.demand.specs.PeerReaders as readers
-use Rattle.demand.specs.PeerCalls.{peersQuestions, reportQuestionsOf, TellsEach}
+use Rattle.demand.specs.declared.answers.LenAnswer.{LenAnswer}
+use Rattle.demand.specs.HotSet.Set.{get, isHot, sinceOf}
+use Rattle.demand.specs.Peers.State as peer-state
+use Rattle.demand.specs.Peers.State.{PeersState}
+use Rattle.demand.specs.Peers.Readers as readers
+use Rattle.demand.specs.Peers.Calls.{peersQuestions, reportQuestionsOf, TellsEach}
 use Rattle.limiter.specs.declared.Limit.{Limit}
 use Rattle.limiter.specs.State as limiter-state
-use Rattle.limiter.specs.State.{base, KeyRecord, LimiterState, isTracked}
-use Rattle.limiter.specs.Checks.{newKeyFactor, coldQuota, ownLimit, keyDecision, shadowDecision, checkEach, limitQuestions, clusterQuestions}
-use Rattle.limiter.specs.Checks.{checkQuestions, checkInQuestions, tracedQuestions, recordQuestions}
+use Rattle.limiter.specs.State.{parametersOf, KeyRecord, LimiterState, isTracked}
+use Rattle.limiter.specs.Checks.{newKeyFactor, coldQuota, ownLimit, keyDecision, shadowDecision, checkEach, limitQuestions, clusterQuestions, checkQuestions, checkInQuestions, tracedQuestions, recordQuestions}
 use Rattle.limiter.specs.Readers.{told, ratesOf, hotDemand, mostDenied, deniedRate, shadowDeniedRate}
 use Rattle.limiter.specs.Calls.{answerWords, outputQuestions, eachQuestions, here, stateQuestions, Lists}
 use Rattle.image.specs.Image.{State, image}
 use Rattle.run.specs.Run.{Held, Lent, Change, Query, What, Call, Told, Reply, Does, Tells, Acts, Step, lend, lentBy}
-use Rattle.run.specs.Trace.{onLimiter, onPeers, onBoth, asked}
+use Rattle.run.specs.Trace.{parametersIn, onLimiter, onPeers, onBoth, asked}
 use Rattle.run.proofs.Standing.Stands.{Stands}
 use Rattle.run.proofs.Standing.Asked.{same-answer, same-first-no, same-changed, limiter-agrees, peers-agree, both-agree}
-use Rattle.run.proofs.Standing.AnswerCases.{checkFrom, tracedFrom, changeFrom, ratesFrom, keyQuotaFrom, limitFrom, sinceFrom, heardFrom}
-use Rattle.run.proofs.Standing.AnswerCases.{quotaFrom, rateFrom, configFrom, flagFrom, lenFrom, totalFrom, check-said, traced-said}
-use Rattle.run.proofs.Standing.AnswerCases.{change-said, rates-said, key-quota-said, limit-said, since-said, heard-said, quota-said, rate-said}
-use Rattle.run.proofs.Standing.AnswerCases.{config-said, flag-said, len-said, total-said}
+use Rattle.run.proofs.Standing.AnswerCases.{checkFrom, tracedFrom, changeFrom, ratesFrom, keyQuotaFrom, limitFrom, sinceFrom, heardFrom, quotaFrom, rateFrom, configFrom, flagFrom, lenFrom, totalFrom, check-said, traced-said, change-said, rates-said, key-quota-said, limit-said, since-said, heard-said, quota-said, rate-said, config-said, flag-said, len-said, total-said}
 
 -- ---- the definitions' reply
 
 -- what the definitions decide of one check
 abbrev pub decisionOf : Lent → (key : ℕ) → Limit → (now m : ℕ) → Change → State → Answer Decision
-decisionOf n key z now m c s = answer (asked n c s) (keyDecision base (s .limiter) key z now m)
+decisionOf n key z now m c s = answer (asked n c s) (keyDecision unitNanos (s .limiter) key z now m)
 
 -- of a change
 unfoldable pub repliedTo : Lent → Change → State → Reply
@@ -45,11 +42,11 @@ repliedTo n (Change.check-traced key z y now m) s =
     Reply.traced
     (tracedFrom
     (answer (asked n (Change.check-traced key z y now m) s)
-    (record { decision = keyDecision base (s .limiter) key z now m; shadow = shadowDecision base (s .limiter) key z y now m })))
+    (record { decision = keyDecision unitNanos (s .limiter) key z now m; shadow = shadowDecision unitNanos (s .limiter) key z y now m })))
 repliedTo n (Change.check-each list count m out) s =
     Reply.decided-each (changeFrom (answer (asked n (Change.check-each list count m out) s) tt))
     (changed (asked n (Change.check-each list count m out) s) out
-    (table (map answerWords (checkEach base m (records 2 count list) (s .limiter) .answers)) out))
+    (table (map answerWords (checkEach unitNanos m (records 2 count list) (s .limiter) .answers)) out))
 repliedTo n (Change.tally key y z now m) s = Reply.done (changeFrom (answer (asked n (Change.tally key y z now m) s) tt))
 repliedTo n (Change.set-cap z) s = Reply.done (changeFrom (answer (asked n (Change.set-cap z) s) tt))
 repliedTo n (Change.tick now m) s = Reply.done (changeFrom (answer (asked n (Change.tick now m) s) tt))
@@ -75,21 +72,21 @@ saveAsked n out s = onBoth n s ++ ((16 asks leb (length (image s)) (length out))
 
 -- of a query
 unfoldable pub toldTo : Lent → Query → State → Told
-toldTo n (Query.key-rates key) s = Told.rates (ratesFrom (answer (onLimiter n s) (told (ratesOf base) key (s .limiter))))
+toldTo n (Query.key-rates key) s = Told.rates (ratesFrom (answer (onLimiter n s) (told (ratesOf (parametersIn s)) key (s .limiter))))
 toldTo n (Query.quota key) s = Told.quota (keyQuotaFrom (answer (onLimiter n s) (told (λ (k : KeyRecord). k .gcra .quota) key (s .limiter))))
 toldTo n (Query.limit key) s = Told.limit (limitFrom (answer (onLimiter n s) (told (λ (k : KeyRecord). k .limit) key (s .limiter))))
 toldTo n (Query.hot-since key) s = Told.since (sinceFrom (answer (onLimiter n s) (sinceOf (get key (s .limiter .hot)))))
 toldTo n (Query.is-hot key) s = Told.flag (flagFrom (answer (onLimiter n s) (isHot key (s .limiter .hot))))
 toldTo n (Query.is-tracked key) s = Told.flag (flagFrom (answer (onLimiter n s) (isTracked (s .limiter .keys) key)))
 toldTo n (Query.new-key-quota z m) s =
-    Told.new-quota (quotaFrom (answer (onLimiter n s ++ (limitQuestions z ++ clusterQuestions m)) (coldQuota base (s .limiter .settings) z m)))
+    Told.new-quota (quotaFrom (answer (onLimiter n s ++ (limitQuestions z ++ clusterQuestions m)) (coldQuota unitNanos (s .limiter .settings) z m)))
 toldTo n (Query.new-key-factor m) s = Told.factor (rateFrom (answer (onLimiter n s ++ clusterQuestions m) (newKeyFactor (s .limiter .settings) m)))
 toldTo n Query.config s = Told.config (configFrom (answer (onLimiter n s) (s .limiter .settings .config)))
 toldTo n Query.tracked-keys s = Told.size (lenFrom (answer (onLimiter n s) (length (s .limiter .keys))))
 toldTo n Query.hot-keys s = Told.size (lenFrom (answer (onLimiter n s) (length (s .limiter .hot))))
 toldTo n (Query.hot-demand out) s = listing n hotDemand out s
-toldTo n (Query.most-denied k out) s = listing n (mostDenied base deniedRate k) out s
-toldTo n (Query.most-shadow-denied k out) s = listing n (mostDenied base shadowDeniedRate k) out s
+toldTo n (Query.most-denied k out) s = listing n (λ (y : LimiterState). mostDenied (parametersOf (y .settings)) deniedRate k y) out s
+toldTo n (Query.most-shadow-denied k out) s = listing n (λ (y : LimiterState). mostDenied (parametersOf (y .settings)) shadowDeniedRate k y) out s
 toldTo n (Query.get peer key) s = Told.heard (heardFrom (answer (onPeers n s) (readers.heard peer key (s .peers))))
 toldTo n (Query.total key) s = Told.total (totalFrom (answer (onPeers n s) (readers.total key (s .peers))))
 toldTo n (Query.hot-elsewhere key) s = Told.flag (flagFrom (answer (onPeers n s) (readers.hotElsewhere key (s .peers))))
@@ -121,20 +118,20 @@ module _ {h : Held} {s : State} (n : Lent) (enough : lentBy (lend n h) ≡ n) (s
       ap Reply.decided
       (check-said (r .answer)
       (c .answered
-      ∙ same-answer (limiter-agrees n enough st) [] (λ (y : LimiterState). checkQuestions base y key now m)
-      (λ (y : LimiterState). keyDecision base y key (ownLimit y) now m)))
+      ∙ same-answer (limiter-agrees n enough st) [] (λ (y : LimiterState). checkQuestions unitNanos y key now m)
+      (λ (y : LimiterState). keyDecision unitNanos y key (ownLimit y) now m)))
   does-reply (Change.check-in key z now m) (Does.checks-in {r = r} c) =
       ap Reply.decided
       (check-said (r .answer)
       (c .answered
-      ∙ same-answer (limiter-agrees n enough st) [] (λ (y : LimiterState). checkInQuestions base y key z now m)
-      (λ (y : LimiterState). keyDecision base y key z now m)))
+      ∙ same-answer (limiter-agrees n enough st) [] (λ (y : LimiterState). checkInQuestions unitNanos y key z now m)
+      (λ (y : LimiterState). keyDecision unitNanos y key z now m)))
   does-reply (Change.check-traced key z y now m) (Does.checks-traced {r = r} c) =
       ap Reply.traced
       (traced-said (r .answer)
       (c .answered
-      ∙ same-answer (limiter-agrees n enough st) [] (λ (x : LimiterState). tracedQuestions base x key z y now m)
-      (λ (x : LimiterState). record { decision = keyDecision base x key z now m; shadow = shadowDecision base x key z y now m })))
+      ∙ same-answer (limiter-agrees n enough st) [] (λ (x : LimiterState). tracedQuestions unitNanos x key z y now m)
+      (λ (x : LimiterState). record { decision = keyDecision unitNanos x key z now m; shadow = shadowDecision unitNanos x key z y now m })))
   does-reply (Change.check-each list count m out) (Does.checks-each {r = r} c) =
       let front : List Question = (1 asks fits (length list) 2 count) ∷ [] in
       (λ i. Reply.decided-each
@@ -143,12 +140,12 @@ module _ {h : Held} {s : State} (n : Lent) (enough : lentBy (lend n h) ≡ n) (s
       ∙ same-answer (limiter-agrees n enough st) front (λ (y : LimiterState). eachQuestions count m out) (λ (y : LimiterState). tt)) i)
       ((c .output
       ∙ same-changed (limiter-agrees n enough st) front (λ (y : LimiterState). eachQuestions count m out) out
-      (λ (y : LimiterState). table (map answerWords (checkEach base m (records 2 count list) y .answers)) out)) i))
+      (λ (y : LimiterState). table (map answerWords (checkEach unitNanos m (records 2 count list) y .answers)) out)) i))
   does-reply (Change.tally key y z now m) (Does.tallies {r = r} c) =
       ap Reply.done
       (change-said (r .answer)
       (c .answered
-      ∙ same-answer (limiter-agrees n enough st) [] (λ (x : LimiterState). recordQuestions base x key y z now m) (λ (x : LimiterState). tt)))
+      ∙ same-answer (limiter-agrees n enough st) [] (λ (x : LimiterState). recordQuestions unitNanos x key y z now m) (λ (x : LimiterState). tt)))
   does-reply (Change.set-cap z) (Does.sets-cap {r = r} c) =
       ap Reply.done (change-said (r .answer)
       (c .answered ∙ same-answer (limiter-agrees n enough st) [] (λ (x : LimiterState). []) (λ (x : LimiterState). tt)))
@@ -222,7 +219,7 @@ module _ {h : Held} {s : State} (n : Lent) (enough : lentBy (lend n h) ≡ n) (s
   -- of each call that reads
   tells-same : (c : Query) {r : Told} → Tells (lend n h) c r → r ≡ toldTo n c s
   unfolding toldTo limiter-state.stateOf
-  tells-same (Query.key-rates key) (Tells.tells-rates {r = r} c) = ap Told.rates (rates-said r (c ∙ limiter-tells (told (ratesOf base) key)))
+  tells-same (Query.key-rates key) (Tells.tells-rates {r = r} c) = ap Told.rates (rates-said r (c ∙ limiter-tells (λ (y : LimiterState). told (ratesOf (parametersOf (y .settings))) key y)))
   tells-same (Query.quota key) (Tells.tells-quota {r = r} c) =
       ap Told.quota (key-quota-said r (c ∙ limiter-tells (told (λ (k : KeyRecord). k .gcra .quota) key)))
   tells-same (Query.limit key) (Tells.tells-limit {r = r} c) =
@@ -238,7 +235,7 @@ module _ {h : Held} {s : State} (n : Lent) (enough : lentBy (lend n h) ≡ n) (s
       (quota-said r
       (c
       ∙ same-answer (limiter-agrees n enough st) [] (λ (y : LimiterState). limitQuestions z ++ clusterQuestions m)
-      (λ (y : LimiterState). coldQuota base (y .settings) z m)))
+      (λ (y : LimiterState). coldQuota unitNanos (y .settings) z m)))
   tells-same (Query.new-key-factor m) (Tells.tells-factor {r = r} c) =
       ap Told.factor
       (rate-said r
@@ -249,8 +246,8 @@ module _ {h : Held} {s : State} (n : Lent) (enough : lentBy (lend n h) ≡ n) (s
   tells-same Query.tracked-keys (Tells.counts-keys {r = r} c) = ap Told.size (len-said r (c ∙ limiter-tells (λ (y : LimiterState). length (y .keys))))
   tells-same Query.hot-keys (Tells.counts-hot {r = r} c) = ap Told.size (len-said r (c ∙ limiter-tells (λ (y : LimiterState). length (y .hot))))
   tells-same (Query.hot-demand out) (Tells.lists-hot c) = lists-same hotDemand c
-  tells-same (Query.most-denied k out) (Tells.lists-denied c) = lists-same (mostDenied base deniedRate k) c
-  tells-same (Query.most-shadow-denied k out) (Tells.lists-shadow-denied c) = lists-same (mostDenied base shadowDeniedRate k) c
+  tells-same (Query.most-denied k out) (Tells.lists-denied c) = lists-same (λ (y : LimiterState). mostDenied (parametersOf (y .settings)) deniedRate k y) c
+  tells-same (Query.most-shadow-denied k out) (Tells.lists-shadow-denied c) = lists-same (λ (y : LimiterState). mostDenied (parametersOf (y .settings)) shadowDeniedRate k y) c
   tells-same (Query.get peer key) (Tells.gets {r = r} c) = ap Told.heard (heard-said r (c ∙ peers-tell (readers.heard peer key)))
   tells-same (Query.total key) (Tells.tells-total {r = r} c) = ap Told.total (total-said r (c ∙ peers-tell (readers.total key)))
   tells-same (Query.hot-elsewhere key) (Tells.tells-elsewhere {r = r} c) = ap Told.flag (flag-said r (c ∙ peers-tell (readers.hotElsewhere key)))

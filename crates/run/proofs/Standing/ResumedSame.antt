@@ -4,12 +4,12 @@ use mathlib.Core.Path.{_≡_, sym, ap, _∙_, subst}
 use mathlib.Core.Bool.{true, _&&_}
 use mathlib.Core.List.{List, _++_}
 use lib.ListN.{length, take, drop}
-use Rattle.records.proofs.TestLaws.{both, and-intro}
+use Rattle.questions.proofs.Tests.{both, and-intro}
 use Rattle.gcra.specs.Packed.{unitNanos}
-use Rattle.demand.specs.declared.peer_demand.LenAnswer.the-variants as len-answer
-use Rattle.demand.specs.PeerLists.{all}
-use Rattle.demand.specs.PeerState as peer-state
-use Rattle.demand.specs.PeerState.{PeerTables}
+use Rattle.demand.specs.declared.answers.LenAnswer.the-variants as len-answer
+use Rattle.questions.specs.Lists.{all}
+use Rattle.demand.specs.Peers.State as peer-state
+use Rattle.demand.specs.Peers.State.{PeerTables, newPeers}
 use Rattle.limiter.specs.declared.Config.{Config}
 use Rattle.limiter.specs.State as limiter-state
 use Rattle.limiter.specs.State.{LimiterTables, lengths}
@@ -43,7 +43,7 @@ written-state : (y : State) (t : LimiterTables) (pt : PeerTables) → valid y �
 unfolding valid
 written-state y t pt v =
     let b = both (limiter-state.valid unitNanos (y .limiter)) (peer-state.valid (y .peers)) v in
-    record { limiter = written-stands (y .limiter) t (b .0); peers = peers-written-stand (y .peers) pt (b .1) }
+    record { limiter = written-stands (y .limiter) t (b .0); peers = peers-written-stand (y .peers) pt (b .1) newPeers }
 
 module _ {h : Held} {s : State} (w : Resume) (st : Stands h s) where
   -- what the save is lent

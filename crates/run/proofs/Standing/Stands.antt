@@ -11,15 +11,16 @@ use lib.ListN.{length, take, drop, take-append-drop, length-map}
 use lib.Seq.{take-append-le}
 use Rattle.records.specs.Records.{records}
 use Rattle.records.proofs.RecordLaws.{length-records}
-use Rattle.records.proofs.TestLaws.{both}
+use Rattle.questions.proofs.Tests.{both}
 use Rattle.gcra.specs.Packed.{unitNanos}
 use Rattle.demand.specs.declared.peer_demand.PeerDemand.{PeerDemand}
-use Rattle.demand.specs.HotSet as hot-set
-use Rattle.demand.specs.PeerRecords.{peerWords, snapshotKeyWords, contestedWords, peerOf, snapshotKeyOf, contestedOf}
-use Rattle.demand.specs.PeerState as peer-state
-use Rattle.demand.specs.PeerState.{PeersState, PeerTables, PeerLengths, exact}
-use Rattle.demand.proofs.PeerKeptLaws as peers-kept
-use Rattle.demand.proofs.PeerRunLaws.{records-take}
+use Rattle.demand.specs.HotSet.Set as hot-set
+use Rattle.demand.specs.Peers.Records.{peerWords, snapshotKeyWords, contestedWords, peerOf, snapshotKeyOf, contestedOf}
+use Rattle.demand.specs.Peers.State as peer-state
+use Rattle.demand.specs.Peers.State.{PeersState, PeerTables, PeerLengths}
+use Rattle.records.specs.Typed.{exact}
+use Rattle.demand.proofs.Peers.Reports.KeptLaws as peers-kept
+use Rattle.records.proofs.RunLaws.{records-take}
 use Rattle.limiter.specs.declared.Limiter.{Limiter}
 use Rattle.limiter.specs.State as limiter-state
 use Rattle.limiter.specs.State.{LimiterState, LimiterTables, Lengths, lengths, haveRoom, keyWords, keyOf, shadowWords, shadowOf}

@@ -7,29 +7,28 @@ use borrow.Author.Tests.{leb-true, ltb-true}
 use lib.Dec.{leb, ltb}
 use lib.ListN.{length}
 use Rattle.records.specs.Records.{records, fits}
-use Rattle.records.proofs.TestLaws.{both}
+use Rattle.questions.proofs.Tests.{both}
 use Rattle.gcra.specs.Packed.{unitNanos}
-use Rattle.gcra.specs.Questions.{Question, _asks_, passes, changed}
+use Rattle.questions.specs.Questions.{Question, _asks_, passes, changed}
 use Rattle.gcra.proofs.Encoding.{units-accepted}
 use Rattle.demand.specs.declared.peer_demand.PeerDemand.{PeerDemand}
 use Rattle.demand.specs.declared.peer_demand.DemandReport.{DemandReport}
-use Rattle.demand.specs.PeerLists.{all}
-use Rattle.demand.specs.PeerState as peer-state
-use Rattle.demand.specs.PeerState.{PeersState, PeerTables, isWord}
-use Rattle.demand.specs.PeerChanges as peer-changes
-use Rattle.demand.specs.PeerCalls.{Widths, fitsWidths, hasDemands, hasPlace, reportQuestionsOf}
-use Rattle.demand.proofs.PeerReportValidLaws.{apply-valid}
-use Rattle.demand.proofs.PeerDepartureLaws.{forget-valid, leave-valid, expire-valid}
+use Rattle.questions.specs.Lists.{all}
+use Rattle.demand.specs.Peers.State as peer-state
+use Rattle.demand.specs.Peers.State.{PeersState, PeerTables}
+use Rattle.records.specs.Typed.{isWord}
+use Rattle.demand.specs.Peers.Changes as peer-changes
+use Rattle.demand.specs.Peers.Calls.{Widths, fitsWidths, hasDemands, hasPlace, reportQuestionsOf}
+use Rattle.demand.proofs.Peers.Reports.ReportValidLaws.{apply-valid}
+use Rattle.demand.proofs.Peers.Departures.DepartureLaws.{forget-valid, leave-valid, expire-valid}
 use Rattle.limiter.specs.declared.Limit.{Limit}
 use Rattle.limiter.specs.declared.Limiter.{Limiter}
 use Rattle.limiter.specs.State as limiter-state
-use Rattle.limiter.specs.State.{base, Settings, LimiterState, LimiterTables, haveRoom, isF64, valueOf}
-use Rattle.limiter.specs.Checks.{ownLimit, keyDecision, shadowDecision, checkIn, checkTraced, recordTally, setCap, checkEach, clusterQuestions}
-use Rattle.limiter.specs.Checks.{checkQuestions, checkInQuestions, tracedQuestions, recordQuestions}
+use Rattle.limiter.specs.State.{parametersOf, Settings, LimiterState, LimiterTables, haveRoom, isF64, valueOf}
+use Rattle.limiter.specs.Checks.{ownLimit, keyDecision, shadowDecision, checkIn, checkTraced, recordTally, setCap, checkEach, clusterQuestions, checkQuestions, checkInQuestions, tracedQuestions, recordQuestions}
 use Rattle.limiter.specs.Ticks.{noOthers, peersOthers, tickWith, tick, tickWithShares}
 use Rattle.limiter.specs.Calls.{eachQuestions}
-use Rattle.limiter.proofs.Calls.CheckValidLaws.{Given, check-valid, check-in-valid, traced-valid, record-valid, check-each-valid, pairs-fit}
-use Rattle.limiter.proofs.Calls.CheckValidLaws.{set-cap-valid}
+use Rattle.limiter.proofs.Calls.CheckValidLaws.{Given, check-valid, check-in-valid, traced-valid, record-valid, check-each-valid, pairs-fit, set-cap-valid}
 use Rattle.limiter.proofs.Calls.TickValidLaws.{tick-valid}
 use Rattle.limiter.proofs.LimiterTheorems.{each-settings}
 use Rattle.image.specs.Image.{State}
@@ -38,8 +37,7 @@ use Rattle.run.specs.Typed.{typedReport, typed, typedWhat}
 use Rattle.run.specs.Trace.{limiterOnly, peersOnly, onPeers, asked, made, after}
 use Rattle.run.proofs.Standing.Stands.{LimiterStands, PeersStand, Stands, putTables, putPeers, back-same, limiter-lent}
 use Rattle.run.proofs.Standing.Asked.{asking, same-changed, passes-room, passes-rest, limiter-agrees, peers-agree, both-agree}
-use Rattle.run.proofs.Standing.Left.{Leaves, left-stands, Lasting, acts-leave, ticking-leaves, cap-leaves, PeersLasting, changes-leave}
-use Rattle.run.proofs.Standing.Left.{acts-there, ticking-there}
+use Rattle.run.proofs.Standing.Left.{Leaves, left-stands, Lasting, acts-leave, ticking-leaves, cap-leaves, PeersLasting, changes-leave, acts-there, ticking-there}
 
 -- a limit's rate, with a key and a reading
 given : (key : ℕ) (x : Limit) (now : ℕ) → isWord key ≡ true → isWord now ≡ true → isF64 (x .rate) ≡ true → Given key x now
@@ -145,7 +143,7 @@ module _ {h : Held} {s : State} (n : Lent) (enough : lentBy (lend n h) ≡ n) (s
   peers-change :
       (rest : PeersState → List Question) (change : PeersState → PeersState) {p′ : PeerDemand} {t′ : PeerTables}
       → p′ ≡ changed (asking [] rest (peer-state.haveRoom (peer-state.lengths pt)) (peer-state.isValid p pt) (peer-state.stateOf p pt)) p
-      (peer-state.countsOf (change (peer-state.stateOf p pt)))
+      (peer-state.withCounts p (change (peer-state.stateOf p pt)))
       → t′ ≡ changed (asking [] rest (peer-state.haveRoom (peer-state.lengths pt)) (peer-state.isValid p pt) (peer-state.stateOf p pt)) pt
       (peer-state.written (change (peer-state.stateOf p pt)) pt)
       → (passes (rest (s .peers)) ≡ true → peer-state.valid (change (s .peers)) ≡ true)
@@ -153,7 +151,7 @@ module _ {h : Held} {s : State} (n : Lent) (enough : lentBy (lend n h) ≡ n) (s
   peers-change rest change value words keeps =
       let g = peers-agree n enough st in
       peers-step
-      (changes-leave (h .peerTables) (value ∙ same-changed g [] rest p (λ (y : PeersState). peer-state.countsOf (change y)))
+      (changes-leave (h .peerTables) (value ∙ same-changed g [] rest p (λ (y : PeersState). peer-state.withCounts p (change y)))
       (words ∙ same-changed g [] rest pt (λ (y : PeersState). peer-state.written (change y) pt))
       (λ e. peers-last (passes-room [] _ _ e) (keeps (passes-rest [] _ _ (rest (s .peers)) e))))
 
@@ -177,54 +175,54 @@ module _ {h : Held} {s : State} (n : Lent) (enough : lentBy (lend n h) ≡ n) (s
       let b = both (isWord key) (isWord now) w in
       limiter-steps
       (acts-leave (h .tables)
-      (acts-there (limiter-agrees n enough st) [] (λ (y : LimiterState). checkQuestions base y key now m)
-      (λ (y : LimiterState). keyDecision base y key (ownLimit y) now m)
-      (λ (y : LimiterState). checkIn base y key (ownLimit y) now m) c)
+      (acts-there (limiter-agrees n enough st) [] (λ (y : LimiterState). checkQuestions unitNanos y key now m)
+      (λ (y : LimiterState). keyDecision unitNanos y key (ownLimit y) now m)
+      (λ (y : LimiterState). checkIn unitNanos y key (ownLimit y) now m) c)
       (λ e. lasts (passes-room [] _ _ e) refl
-      (check-valid base units-accepted x x-valid key now m (b .0) (b .1) (passes-rest [] _ _ (checkQuestions base x key now m) e))))
+      (check-valid unitNanos units-accepted x x-valid key now m (b .0) (b .1) (passes-rest [] _ _ (checkQuestions unitNanos x key now m) e))))
   does-stand (Change.check-in key z now m) w (Does.checks-in c) =
       let a = both (isWord key) _ w in
       let b = both (isWord now) _ (a .1) in
       limiter-steps
       (acts-leave (h .tables)
-      (acts-there (limiter-agrees n enough st) [] (λ (y : LimiterState). checkInQuestions base y key z now m)
-      (λ (y : LimiterState). keyDecision base y key z now m)
-      (λ (y : LimiterState). checkIn base y key z now m) c)
+      (acts-there (limiter-agrees n enough st) [] (λ (y : LimiterState). checkInQuestions unitNanos y key z now m)
+      (λ (y : LimiterState). keyDecision unitNanos y key z now m)
+      (λ (y : LimiterState). checkIn unitNanos y key z now m) c)
       (λ e. lasts (passes-room [] _ _ e) refl
-      (check-in-valid base units-accepted x x-valid key z now m (given key z now (a .0) (b .0) (b .1))
-      (passes-rest [] _ _ (checkInQuestions base x key z now m) e))))
+      (check-in-valid unitNanos units-accepted x x-valid key z now m (given key z now (a .0) (b .0) (b .1))
+      (passes-rest [] _ _ (checkInQuestions unitNanos x key z now m) e))))
   does-stand (Change.check-traced key z y now m) w (Does.checks-traced c) =
       let a = both (isWord key) _ w in
       let b = both (isWord now) _ (a .1) in
       limiter-steps
       (acts-leave (h .tables)
-      (acts-there (limiter-agrees n enough st) [] (λ (x′ : LimiterState). tracedQuestions base x′ key z y now m)
-      (λ (x′ : LimiterState). record { decision = keyDecision base x′ key z now m; shadow = shadowDecision base x′ key z y now m })
-      (λ (x′ : LimiterState). checkTraced base x′ key z y now m) c)
+      (acts-there (limiter-agrees n enough st) [] (λ (x′ : LimiterState). tracedQuestions unitNanos x′ key z y now m)
+      (λ (x′ : LimiterState). record { decision = keyDecision unitNanos x′ key z now m; shadow = shadowDecision unitNanos x′ key z y now m })
+      (λ (x′ : LimiterState). checkTraced unitNanos x′ key z y now m) c)
       (λ e.
       lasts (passes-room [] _ _ e) refl
-      (traced-valid base units-accepted x x-valid key z now m (given key z now (a .0) (b .0) (b .1)) y
-      (passes-rest [] _ _ (tracedQuestions base x key z y now m) e))))
+      (traced-valid unitNanos units-accepted x x-valid key z now m (given key z now (a .0) (b .0) (b .1)) y
+      (passes-rest [] _ _ (tracedQuestions unitNanos x key z y now m) e))))
   does-stand (Change.check-each list count m out) w (Does.checks-each c) =
       limiter-steps
       (acts-leave (h .tables)
       (acts-there (limiter-agrees n enough st) ((1 asks fits (length list) 2 count) ∷ []) (λ (y : LimiterState). eachQuestions count m out)
       (λ (y : LimiterState). tt)
-      (λ (y : LimiterState). checkEach base m (records 2 count list) y .left) (c .acts))
+      (λ (y : LimiterState). checkEach unitNanos m (records 2 count list) y .left) (c .acts))
       (λ e.
       lasts (passes-room ((1 asks fits (length list) 2 count) ∷ []) _ _ e)
       (ap (λ (z : Settings). z .config) (each-settings m (records 2 count list) x))
-      (check-each-valid base units-accepted m (records 2 count list) x (pairs-fit count list w) x-valid)))
+      (check-each-valid unitNanos units-accepted m (records 2 count list) x (pairs-fit count list w) x-valid)))
   does-stand (Change.tally key y z now m) w (Does.tallies c) =
       let a = both (isWord key) _ w in
       let b = both (isWord now) _ (a .1) in
       limiter-steps
       (acts-leave (h .tables)
-      (acts-there (limiter-agrees n enough st) [] (λ (x′ : LimiterState). recordQuestions base x′ key y z now m) (λ (x′ : LimiterState). tt)
-      (λ (x′ : LimiterState). recordTally base x′ key y z now m) c)
+      (acts-there (limiter-agrees n enough st) [] (λ (x′ : LimiterState). recordQuestions unitNanos x′ key y z now m) (λ (x′ : LimiterState). tt)
+      (λ (x′ : LimiterState). recordTally unitNanos x′ key y z now m) c)
       (λ e. lasts (passes-room [] _ _ e) refl
-      (record-valid base units-accepted x x-valid key z now m (given key z now (a .0) (b .0) (b .1)) y
-      (passes-rest [] _ _ (recordQuestions base x key y z now m) e))))
+      (record-valid unitNanos units-accepted x x-valid key z now m (given key z now (a .0) (b .0) (b .1)) y
+      (passes-rest [] _ _ (recordQuestions unitNanos x key y z now m) e))))
   does-stand (Change.set-cap z) w (Does.sets-cap c) =
       limiter-steps
       (cap-leaves (h .tables) z
@@ -237,16 +235,16 @@ module _ {h : Held} {s : State} (n : Lent) (enough : lentBy (lend n h) ≡ n) (s
   does-stand (Change.tick now m) w (Does.ticks c) =
       limiter-steps
       (ticking-leaves (h .tables)
-      (ticking-there (limiter-agrees n enough st) [] (λ (y : LimiterState). clusterQuestions m) (λ (y : LimiterState). tick base now m y) c)
-      (λ e. lasts (passes-room [] _ _ e) refl (tick-valid base units-accepted (noOthers m) now m x w x-valid)))
+      (ticking-there (limiter-agrees n enough st) [] (λ (y : LimiterState). clusterQuestions m) (λ (y : LimiterState). tick (parametersOf (y .settings)) unitNanos now m y) c)
+      (λ e. lasts (passes-room [] _ _ e) refl (tick-valid (parametersOf (x .settings)) unitNanos units-accepted (noOthers m) now m x w x-valid)))
   does-stand (Change.tick-with-shares now m) w (Does.ticks-with-shares c) =
       limiter-steps
       (ticking-leaves (h .tables)
       (ticking-there (both-agree n enough st) [] (λ (y : State). clusterQuestions m)
-      (λ (y : State). tickWithShares base (y .peers) now m (y .limiter)) c)
+      (λ (y : State). tickWithShares (parametersOf (y .limiter .settings)) unitNanos (y .peers) now m (y .limiter)) c)
       (λ e.
       lasts (both (haveRoom (x .settings .config) (n .limiter)) (peer-state.haveRoom (n .peers)) (passes-room [] _ _ e) .0) refl
-      (tick-valid base units-accepted (peersOthers (x .settings) (s .peers) m) now m x w x-valid)))
+      (tick-valid (parametersOf (x .settings)) unitNanos units-accepted (peersOthers (x .settings) (s .peers) m) now m x w x-valid)))
   does-stand (Change.report sender z now) w (Does.reports c) =
       let a = both (isWord sender) _ w in
       let b = both (isWord now) _ (a .1) in

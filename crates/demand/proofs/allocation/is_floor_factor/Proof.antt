@@ -3,7 +3,7 @@ use mathlib.Core.Path.{_≡_, ap, sym, _∙_}
 use mathlib.Core.Bool.{true, false}
 use lib.Ieee.{Float, binary64, ofBits, le}
 use Rattle.demand.specs.Allocation.{isFloorFactor}
-use Rattle.demand.proofs.Literals.{zero-is, one-is}
+use Rattle.demand.proofs.Estimating.Literals.{zero-is, one-is}
 use Rattle.demand.proofs.allocation.is_floor_factor.Statement.{statement}
 use Rattle.demand.proofs.allocation.is_floor_factor.Tie as tie
 

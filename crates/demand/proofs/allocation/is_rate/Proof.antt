@@ -4,7 +4,7 @@ use mathlib.Core.Bool.{Bool, true, false}
 use lib.Ieee.{Float, binary64, ofBits, lt}
 use lib.Ieee.Scale.{finite}
 use Rattle.demand.specs.Allocation.{isRate}
-use Rattle.demand.proofs.Literals.{zero-is}
+use Rattle.demand.proofs.Estimating.Literals.{zero-is}
 use borrow.Author.Needs.{needs}
 use Rattle.demand.proofs.allocation.is_rate.Statement.{statement}
 use Rattle.demand.proofs.allocation.is_rate.Tie as tie

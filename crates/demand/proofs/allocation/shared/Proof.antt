@@ -3,9 +3,9 @@ use mathlib.Core.Path.{_≡_, ap, sym, _∙_}
 use mathlib.Core.Bool.{true, false}
 use lib.Ieee.{Float, binary64, ofBits, add, sub, mul, div, lt}
 use Rattle.demand.specs.declared.allocation.View.{View}
-use Rattle.demand.specs.Estimator.{whole}
+use Rattle.demand.specs.Estimators.Estimator.{whole}
 use Rattle.demand.specs.Allocation.{shared}
-use Rattle.demand.proofs.Literals.{zero-is, one-is}
+use Rattle.demand.proofs.Estimating.Literals.{zero-is, one-is}
 use borrow.Author.Needs.{needs}
 use Rattle.demand.proofs.allocation.shared.Statement.{statement}
 use Rattle.demand.proofs.allocation.shared.Tie as tie

@@ -5,8 +5,8 @@ use native.Mathlib.Nat.{mod-lt, pos-of-ne-zero}
 use lib.Dec.{lit<}
 use borrow.Author.Needs.{needs}
 use borrow.Author.Tests.{eq-eqb, ne-eqb, le-leb, lt-leb}
-use Rattle.demand.specs.Weight.{S, series, power, weight}
-use Rattle.demand.proofs.Division.{scaled-lt}
+use Rattle.demand.specs.Decay.Weight.{S, series, power, weight}
+use Rattle.demand.proofs.Weight.Division.{scaled-lt}
 use Rattle.demand.proofs.decay.decay_weight.Statement.{statement}
 use Rattle.demand.proofs.decay.decay_weight.Tie as tie
 

@@ -3,8 +3,8 @@ use mathlib.Core.Path.{_≡_, _∙_, ap, subst, sym}
 use Prim.Native.Nat.{ℕ, _*_, _/_, _≤_}
 use native.Mathlib.Nat.{mul-comm, div-div-eq-div-mul, le-of-lt}
 use borrow.Author.Needs.{needs}
-use Rattle.demand.specs.Weight.{S, next}
-use Rattle.demand.proofs.Terms.{next-le}
+use Rattle.demand.specs.Decay.Weight.{S, next}
+use Rattle.demand.proofs.Weight.Terms.{next-le}
 use Rattle.demand.proofs.decay.next_term.Statement.{statement}
 use Rattle.demand.proofs.decay.next_term.Tie as tie
 

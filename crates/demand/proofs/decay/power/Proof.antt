@@ -5,7 +5,7 @@ use native.Mathlib.Nat.{le-refl, mul-le-mul, div-le-of-le-mul}
 use native.Mathlib.Numerals.{add-one}
 use native.Mathlib.Omega.{arith}
 use lib.Dec.{lit≤}
-use Rattle.demand.specs.Weight.{S, next, term, sum, series, power}
+use Rattle.demand.specs.Decay.Weight.{S, next, term, sum, series, power}
 use Rattle.demand.proofs.decay.power.Statement.{statement}
 use Rattle.demand.proofs.decay.power.Tie as tie
 

@@ -4,7 +4,7 @@ use native.Mathlib.Nat.{mod-lt}
 use native.Mathlib.Omega.{arith}
 use lib.Pow.{pow-pos}
 use borrow.Author.Needs.{needs}
-use Rattle.demand.proofs.Division.{Divided, first, digit, quotient, quotient-lt, scaled-lt}
+use Rattle.demand.proofs.Weight.Division.{Divided, first, digit, quotient, quotient-lt, scaled-lt}
 use Rattle.demand.proofs.decay.ratio.Statement.{statement}
 use Rattle.demand.proofs.decay.ratio.Tie as tie
 

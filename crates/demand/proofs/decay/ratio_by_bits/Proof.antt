@@ -6,7 +6,7 @@ use native.Mathlib.Nat.{two-pow-succ, le-trans}
 use native.Mathlib.Numerals.{add-one}
 use native.Mathlib.Omega.{arith}
 use lib.Pow.{pow-mono, pow-pos}
-use Rattle.demand.proofs.Division.{Divided, none, bit-clear, bit-set, quotient, quotient-lt}
+use Rattle.demand.proofs.Weight.Division.{Divided, none, bit-clear, bit-set, quotient, quotient-lt}
 use Rattle.demand.proofs.decay.ratio_by_bits.Statement.{statement}
 use Rattle.demand.proofs.decay.ratio_by_bits.Tie as tie
 

@@ -1,8 +1,8 @@
 -- `decay::series` meets its contract. The invariant: the sum of the terms 0 to 2 * j, and the last of them.
 use Prim.Native.Nat.{_-_, _≤_}
 use native.Mathlib.Omega.{arith}
-use Rattle.demand.specs.Weight.{S}
-use Rattle.demand.proofs.Terms.{Upto, start, step, settled, whole-sum}
+use Rattle.demand.specs.Decay.Weight.{S}
+use Rattle.demand.proofs.Weight.Terms.{Upto, start, step, settled, whole-sum}
 use Rattle.demand.proofs.decay.series.Statement.{statement}
 use Rattle.demand.proofs.decay.series.Tie as tie
 

@@ -4,10 +4,10 @@ use mathlib.Core.Bool.{false}
 use lib.Ieee.{Float, binary64, ofBits, div, round}
 use Prim.Native.Nat.{ℕ, _-_, _≤_}
 use native.Mathlib.Nat.{sub-le}
-use Rattle.demand.specs.Weight.{S, weight}
-use Rattle.demand.specs.Estimator.{whole, alpha}
-use Rattle.demand.proofs.Literals.{parts-is}
-use Rattle.demand.proofs.Alpha.{weight-le, parts-over}
+use Rattle.demand.specs.Decay.Weight.{S, weight}
+use Rattle.demand.specs.Estimators.Estimator.{whole, alpha}
+use Rattle.demand.proofs.Estimating.Literals.{parts-is}
+use Rattle.demand.proofs.Estimating.Alpha.{weight-le, parts-over}
 use borrow.Author.Needs.{needs}
 use Rattle.demand.proofs.demand.alpha.Statement.{statement}
 use Rattle.demand.proofs.demand.alpha.Tie as tie

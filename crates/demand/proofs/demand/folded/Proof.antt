@@ -2,7 +2,7 @@
 use mathlib.Core.Path.{_≡_, ap, _∙_}
 use lib.Ieee.{Float}
 use Prim.Native.Nat.{ℕ}
-use Rattle.demand.specs.Estimator.{alpha, foldedBy, folded}
+use Rattle.demand.specs.Estimators.Estimator.{alpha, foldedBy, folded}
 use borrow.Author.Needs.{needs}
 use Rattle.demand.proofs.demand.folded.Statement.{statement}
 use Rattle.demand.proofs.demand.folded.Tie as tie

@@ -2,8 +2,8 @@
 use mathlib.Core.Path.{_≡_}
 use lib.Ieee.{Float, binary64, ofBits, add, sub, mul, div}
 use Prim.Native.Nat.{ℕ}
-use Rattle.demand.specs.Estimator.{whole, foldedBy}
-use Rattle.demand.proofs.Literals.{one-is, billion-is}
+use Rattle.demand.specs.Estimators.Estimator.{whole, foldedBy}
+use Rattle.demand.proofs.Estimating.Literals.{one-is, billion-is}
 use borrow.Author.Needs.{needs}
 use Rattle.demand.proofs.demand.folded_by.Statement.{statement}
 use Rattle.demand.proofs.demand.folded_by.Tie as tie

@@ -1,6 +1,6 @@
 -- `demand::unbiased_by` meets its contract.
-use Rattle.demand.proofs.Literals.{zero-is}
-use Rattle.demand.proofs.Averages.{no-time, no-weight, weighted}
+use Rattle.demand.proofs.Estimating.Literals.{zero-is}
+use Rattle.demand.proofs.Estimating.Averages.{no-time, no-weight, weighted}
 use Rattle.demand.proofs.demand.unbiased_by.Statement.{statement}
 use Rattle.demand.proofs.demand.unbiased_by.Tie as tie
 

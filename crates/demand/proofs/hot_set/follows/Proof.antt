@@ -1,6 +1,6 @@
 -- `follows` meets its contract.
 use borrow.Author.Needs.{needs}
-use Rattle.demand.proofs.HotSetTests.{first-follows, next-follows}
+use Rattle.demand.proofs.HotSet.Tests.{first-follows, next-follows}
 use Rattle.demand.proofs.hot_set.follows.Statement.{statement}
 use Rattle.demand.proofs.hot_set.follows.Tie as tie
 

@@ -6,7 +6,7 @@ use borrow.Author.Needs.{needs}
 use lib.ListN.{length}
 use Rattle.records.specs.Records.{findIn}
 use Rattle.records.specs.declared.Found.the-variants.{At}
-use Rattle.demand.proofs.HotSetMap.{at-within, got-at, got-gap, never-unfit}
+use Rattle.demand.proofs.HotSet.Map.{at-within, got-at, got-gap, never-unfit}
 use Rattle.demand.proofs.hot_set.get.Statement.{statement}
 use Rattle.demand.proofs.hot_set.get.Tie as tie
 

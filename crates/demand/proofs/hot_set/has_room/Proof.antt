@@ -1,6 +1,6 @@
 -- `has_room` meets its contract.
 use borrow.Author.Needs.{needs}
-use Rattle.demand.proofs.HotSetTests.{room-most, room-less}
+use Rattle.demand.proofs.HotSet.Tests.{room-most, room-less}
 use Rattle.demand.proofs.hot_set.has_room.Statement.{statement}
 use Rattle.demand.proofs.hot_set.has_room.Tie as tie
 

@@ -1,7 +1,7 @@
 -- `is_entry` meets its contract.
 use mathlib.Core.Path.{sym, _∙_}
 use borrow.Author.Needs.{needs}
-use Rattle.demand.proofs.HotSetWords.{is-entry-at}
+use Rattle.demand.proofs.HotSet.Words.{is-entry-at}
 use Rattle.demand.proofs.hot_set.is_entry.Statement.{statement}
 use Rattle.demand.proofs.hot_set.is_entry.Tie as tie
 

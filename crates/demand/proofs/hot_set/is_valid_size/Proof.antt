@@ -1,5 +1,5 @@
 -- `is_valid_size` meets its contract.
-use Rattle.demand.proofs.HotSetTests.{no-size, some-size}
+use Rattle.demand.proofs.HotSet.Tests.{no-size, some-size}
 use Rattle.demand.proofs.hot_set.is_valid_size.Statement.{statement}
 use Rattle.demand.proofs.hot_set.is_valid_size.Tie as tie
 

@@ -1,7 +1,7 @@
 -- `put` meets its contract.
 use mathlib.Core.Path.{sym, _∙_}
 use borrow.Author.Needs.{needs}
-use Rattle.demand.proofs.HotSetMap.{put-at, put-gap, never-unfit}
+use Rattle.demand.proofs.HotSet.Map.{put-at, put-gap, never-unfit}
 use Rattle.demand.proofs.hot_set.put.Statement.{statement}
 use Rattle.demand.proofs.hot_set.put.Tie as tie
 

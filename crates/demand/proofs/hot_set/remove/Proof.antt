@@ -1,7 +1,7 @@
 -- `remove` meets its contract.
 use mathlib.Core.Path.{sym, _∙_}
 use borrow.Author.Needs.{needs}
-use Rattle.demand.proofs.HotSetMap.{removed-at, removed-none, gap-says, never-unfit}
+use Rattle.demand.proofs.HotSet.Map.{removed-at, removed-none, gap-says, never-unfit}
 use Rattle.demand.proofs.hot_set.remove.Statement.{statement}
 use Rattle.demand.proofs.hot_set.remove.Tie as tie
 

@@ -5,7 +5,7 @@ use Prim.Native.Nat.{ℕ, _+_, _-_, _*_, _≤_}
 use native.Mathlib.Omega.{arith}
 use borrow.Author.Needs.{needs}
 use lib.ListN.{length}
-use Rattle.demand.proofs.HotSetScan.{Weakest, weakest-start, weakest-next, weakest-same, weakest-done}
+use Rattle.demand.proofs.HotSet.Scan.{Weakest, weakest-start, weakest-next, weakest-same, weakest-done}
 use Rattle.demand.proofs.hot_set.weakest.Statement.{statement}
 use Rattle.demand.proofs.hot_set.weakest.Tie as tie
 

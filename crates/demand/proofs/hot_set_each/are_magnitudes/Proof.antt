@@ -8,8 +8,8 @@ use lib.Ieee.{nan}
 use lib.ListN.{take, drop}
 use lib.Seq.{getD-take, length-take-le}
 use Rattle.float.specs.Magnitude.{magnitude}
-use Rattle.demand.specs.PeerLists.{all}
-use Rattle.demand.proofs.PeerStepLaws.{all-next, all-stop, all-end}
+use Rattle.questions.specs.Lists.{all}
+use Rattle.records.proofs.StepLaws.{all-next, all-stop, all-end}
 use Rattle.demand.proofs.hot_set_each.are_magnitudes.Statement.{statement}
 use Rattle.demand.proofs.hot_set_each.are_magnitudes.Tie as tie
 

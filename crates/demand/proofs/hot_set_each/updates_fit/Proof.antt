@@ -1,7 +1,7 @@
 -- `updates_fit` meets its contract.
 use borrow.Author.Needs.{needs}
-use Rattle.gcra.proofs.Cases.{told-no, told-yes}
-use Rattle.demand.proofs.HotSetEachLaws.{no-keys, no-demands, no-thresholds, by-flags}
+use Rattle.questions.proofs.Tests.{told-no, told-yes}
+use Rattle.demand.proofs.HotSet.EachLaws.{no-keys, no-demands, no-thresholds, by-flags}
 use Rattle.demand.proofs.hot_set_each.updates_fit.Statement.{statement}
 use Rattle.demand.proofs.hot_set_each.updates_fit.Tie as tie
 

@@ -1,6 +1,6 @@
 -- `round_is_newer` meets its contract: the wrapped difference of rounds that differ is compared with half the circle.
 use native.Mathlib.Omega.{arith}
-use Rattle.demand.proofs.PeerRoundLaws.{wraps-ahead, some-ahead, newer-if, not-newer-self}
+use Rattle.demand.proofs.Peers.Reports.RoundLaws.{wraps-ahead, some-ahead, newer-if, not-newer-self}
 use borrow.Author.Needs.{needs}
 use Rattle.demand.proofs.peer_demand.round_is_newer.Statement.{statement}
 use Rattle.demand.proofs.peer_demand.round_is_newer.Tie as tie

@@ -3,10 +3,10 @@ use mathlib.Core.Path.{_≡_, sym, ap, _∙_}
 use mathlib.Core.Bool.{true}
 use native.Mathlib.Omega.{arith}
 use borrow.Author.Tests.{not-true, not-false}
-use Rattle.gcra.specs.Questions.{given}
-use Rattle.gcra.proofs.Answers.{alone-no, alone-yes}
+use Rattle.questions.specs.Questions.{given}
+use Rattle.questions.proofs.Answers.{alone-no, alone-yes}
 use Rattle.demand.specs.Allocation.{isClusterSize}
-use Rattle.demand.proofs.PeerRoundLaws.{cluster-small}
+use Rattle.demand.proofs.Peers.Reports.RoundLaws.{cluster-small}
 use borrow.Author.Needs.{needs}
 use Rattle.demand.proofs.peer_demand.stale_after_rounds.Statement.{statement}
 use Rattle.demand.proofs.peer_demand.stale_after_rounds.Tie as tie

@@ -5,7 +5,7 @@ use mathlib.Core.List.{List}
 use mathlib.Core.Path.{_≡_, refl, ap, _∙_}
 use native.Mathlib.Omega.{arith}
 use lib.ListN.{length, set, length-set}
-use Rattle.demand.proofs.PeerMarkLaws.{clearedTo, cleared-none, cleared-next, cleared-all}
+use Rattle.demand.proofs.Peers.Readers.MarkLaws.{clearedTo, cleared-none, cleared-next, cleared-all}
 use Rattle.demand.proofs.peer_each.clear.Statement.{statement}
 use Rattle.demand.proofs.peer_each.clear.Tie as tie
 

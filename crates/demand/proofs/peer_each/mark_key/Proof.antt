@@ -1,7 +1,7 @@
 -- `mark_key` meets its contract.
 use mathlib.Core.Path.{sym, _∙_}
 use borrow.Author.Needs.{needs}
-use Rattle.demand.proofs.PeerMarkLaws.{place-marked, key-marked, key-absent, key-fits}
+use Rattle.demand.proofs.Peers.Readers.MarkLaws.{place-marked, key-marked, key-absent, key-fits}
 use Rattle.demand.proofs.peer_each.mark_key.Statement.{statement}
 use Rattle.demand.proofs.peer_each.mark_key.Tie as tie
 

@@ -1,7 +1,7 @@
 -- `mark_record` meets its contract.
 use mathlib.Core.Path.{_∙_}
 use borrow.Author.Needs.{needs}
-use Rattle.demand.proofs.PeerMarkLaws.{mark-primary, mark-other}
+use Rattle.demand.proofs.Peers.Readers.MarkLaws.{mark-primary, mark-other}
 use Rattle.demand.proofs.peer_each.mark_record.Statement.{statement}
 use Rattle.demand.proofs.peer_each.mark_record.Tie as tie
 

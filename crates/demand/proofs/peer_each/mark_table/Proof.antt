@@ -5,8 +5,8 @@ use native.Mathlib.Omega.{arith}
 use lib.ListN.{length}
 use Rattle.records.specs.Records.{records}
 use Rattle.records.proofs.RecordLaws.{row}
-use Rattle.demand.specs.Steps.PeerEach.{Markable}
-use Rattle.demand.proofs.PeerMarkLaws.{length-marked, left, mark-goes, mark-ends}
+use Rattle.demand.specs.Peers.Steps.Each.{Markable}
+use Rattle.demand.proofs.Peers.Readers.MarkLaws.{length-marked, left, mark-goes, mark-ends}
 use Rattle.demand.proofs.peer_each.mark_table.Statement.{statement}
 use Rattle.demand.proofs.peer_each.mark_table.Tie as tie
 

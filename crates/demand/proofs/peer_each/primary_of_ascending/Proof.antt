@@ -4,8 +4,8 @@ use native.Mathlib.Omega.{arith}
 use lib.ListN.{length}
 use borrow.Author.Needs.{needs}
 use Rattle.records.specs.Records.{records}
-use Rattle.demand.specs.Steps.PeerEach.{isPrimaryIn, marked}
-use Rattle.demand.proofs.PeerMarkLaws.{length-marked, marked-twice}
+use Rattle.demand.specs.Peers.Steps.Each.{isPrimaryIn, marked}
+use Rattle.demand.proofs.Peers.Readers.MarkLaws.{length-marked, marked-twice}
 use Rattle.demand.proofs.peer_each.primary_of_ascending.Statement.{statement}
 use Rattle.demand.proofs.peer_each.primary_of_ascending.Tie as tie
 

@@ -1,8 +1,8 @@
 -- `add_heard` meets its contract.
 use mathlib.Core.Path.{sym, ap, _∙_}
 use lib.Ieee.{binary64, add}
-use Rattle.demand.specs.PeerReaders.{addHeard}
-use Rattle.demand.specs.Steps.PeerHeard.{saidOf}
+use Rattle.demand.specs.Peers.Readers.{addHeard}
+use Rattle.demand.specs.Peers.Steps.Heard.{saidOf}
 use borrow.Author.Needs.{needs}
 use Rattle.demand.proofs.peer_heard.add_heard.Statement.{statement}
 use Rattle.demand.proofs.peer_heard.add_heard.Tie as tie

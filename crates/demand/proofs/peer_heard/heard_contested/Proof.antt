@@ -7,8 +7,8 @@ use native.Mathlib.Omega.{arith}
 use lib.ListN.{length}
 use Rattle.records.specs.declared.Found.the-variants.{At}
 use Rattle.records.specs.Records.{records, find}
-use Rattle.demand.proofs.PeerRowLaws.{find-says, never-unfit}
-use Rattle.demand.proofs.PeerHeardLaws.{place-below, demand-fits, round-fits, contested-found, contested-missing}
+use Rattle.records.proofs.RowLaws.{find-says, never-unfit}
+use Rattle.demand.proofs.Peers.Readers.HeardLaws.{place-below, demand-fits, round-fits, contested-found, contested-missing}
 use borrow.Author.Needs.{needs}
 use Rattle.demand.proofs.peer_heard.heard_contested.Statement.{statement}
 use Rattle.demand.proofs.peer_heard.heard_contested.Tie as tie

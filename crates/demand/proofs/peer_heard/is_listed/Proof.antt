@@ -1,8 +1,8 @@
 -- `is_listed` meets its contract.
 use mathlib.Core.Path.{_∙_}
 use native.Mathlib.Omega.{arith}
-use Rattle.demand.proofs.PeerRowLaws.{find-says, never-unfit}
-use Rattle.demand.proofs.PeerReaderLaws.{listed-found, listed-missing}
+use Rattle.records.proofs.RowLaws.{find-says, never-unfit}
+use Rattle.demand.proofs.Peers.Readers.ReaderLaws.{listed-found, listed-missing}
 use borrow.Author.Needs.{needs}
 use Rattle.demand.proofs.peer_heard.is_listed.Statement.{statement}
 use Rattle.demand.proofs.peer_heard.is_listed.Tie as tie

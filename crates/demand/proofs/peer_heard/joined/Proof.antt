@@ -1,5 +1,5 @@
 -- `joined` meets its contract.
-use Rattle.demand.proofs.PeerHeardLaws.{joined-second, joined-first}
+use Rattle.demand.proofs.Peers.Readers.HeardLaws.{joined-second, joined-first}
 use borrow.Author.Needs.{needs}
 use Rattle.demand.proofs.peer_heard.joined.Statement.{statement}
 use Rattle.demand.proofs.peer_heard.joined.Tie as tie

@@ -1,7 +1,7 @@
 -- `key_heard` meets its contract.
 use Prim.Native.Nat.{_+_}
 use lib.ListN.{getD}
-use Rattle.demand.proofs.WordLaws.{flag-is}
+use Rattle.records.proofs.FieldLaws.{flag-is}
 use borrow.Author.Needs.{needs}
 use Rattle.demand.proofs.peer_heard.key_heard.Statement.{statement}
 use Rattle.demand.proofs.peer_heard.key_heard.Tie as tie

@@ -7,9 +7,9 @@ use lib.ListN.{length, length-take, length-drop, take, drop, getD}
 use borrow.Author.Tests.{not-true, not-false}
 use Rattle.records.specs.Records.{records}
 use Rattle.records.proofs.RecordLaws.{row, record-at}
-use Rattle.demand.specs.PeerLists.{all}
-use Rattle.demand.specs.Steps.PeerScan.{arePeerWords}
-use Rattle.demand.proofs.PeerRowLaws.{scan-fails, scan-goes, scan-ends}
+use Rattle.questions.specs.Lists.{all}
+use Rattle.demand.specs.Peers.Steps.Scan.{arePeerWords}
+use Rattle.records.proofs.RowLaws.{scan-fails, scan-goes, scan-ends}
 use borrow.Author.Needs.{needs}
 use Rattle.demand.proofs.peer_scan.are_all_peer_words.Statement.{statement}
 use Rattle.demand.proofs.peer_scan.are_all_peer_words.Tie as tie

@@ -5,7 +5,7 @@ use mathlib.Core.Bool.{Bool, true, false, _||_}
 use lib.Dec.{ltb}
 use lib.ListN.{getD}
 use borrow.Author.Tests.{lt-ltb, le-ltb, le-leb, lt-leb}
-use Rattle.demand.proofs.PeerScanLaws.{stop, goes, key-words-at}
+use Rattle.demand.proofs.Peers.Validity.ScanLaws.{stop, goes, key-words-at}
 use borrow.Author.Needs.{needs}
 use Rattle.demand.proofs.peer_scan.are_key_words.Statement.{statement}
 use Rattle.demand.proofs.peer_scan.are_key_words.Tie as tie

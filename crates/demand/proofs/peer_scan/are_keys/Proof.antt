@@ -6,13 +6,13 @@ use lib.Dec.{leb}
 use lib.ListN.{length}
 use borrow.Author.Tests.{le-leb, lt-leb}
 use Rattle.records.specs.Records.{records}
-use Rattle.records.proofs.TestLaws.{contradiction}
+use Rattle.questions.proofs.Tests.{contradiction}
 use Rattle.records.proofs.RecordLaws.{length-records}
 use Rattle.records.proofs.TableLaws.{wide-records}
-use Rattle.demand.specs.Steps.PeerScan.{areKeys, KeysReady}
-use Rattle.demand.proofs.PeerScanLaws.{stop, goes}
-use Rattle.demand.proofs.PeerScanRunLaws.{runs-are-valid}
-use Rattle.demand.proofs.PeerValidLaws.{keys-ready}
+use Rattle.demand.specs.Peers.Steps.Scan.{areKeys, KeysReady}
+use Rattle.demand.proofs.Peers.Validity.ScanLaws.{stop, goes}
+use Rattle.demand.proofs.Peers.Validity.ScanRunLaws.{runs-are-valid}
+use Rattle.demand.proofs.Peers.Validity.ValidLaws.{keys-ready}
 use borrow.Author.Needs.{needs}
 use Rattle.demand.proofs.peer_scan.are_keys.Statement.{statement}
 use Rattle.demand.proofs.peer_scan.are_keys.Tie as tie

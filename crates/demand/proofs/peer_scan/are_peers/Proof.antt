@@ -7,11 +7,11 @@ use lib.Dec.{leb}
 use lib.ListN.{length}
 use borrow.Author.Tests.{le-leb, lt-leb, not-true, not-false}
 use Rattle.records.specs.Records.{records, keyed, ascending}
-use Rattle.records.proofs.TestLaws.{and-skip}
+use Rattle.questions.proofs.Tests.{and-skip}
 use Rattle.records.proofs.RecordLaws.{length-records}
-use Rattle.demand.specs.Steps.PeerScan.{arePeers}
-use Rattle.demand.proofs.PeerScanLaws.{stop, goes}
-use Rattle.demand.proofs.PeerRowLaws.{keyed-fit}
+use Rattle.demand.specs.Peers.Steps.Scan.{arePeers}
+use Rattle.demand.proofs.Peers.Validity.ScanLaws.{stop, goes}
+use Rattle.records.proofs.RowLaws.{keyed-fit}
 use borrow.Author.Needs.{needs}
 use Rattle.demand.proofs.peer_scan.are_peers.Statement.{statement}
 use Rattle.demand.proofs.peer_scan.are_peers.Tie as tie

@@ -4,10 +4,10 @@ use mathlib.Core.Path.{_≡_, refl, sym, _∙_}
 use native.Mathlib.Omega.{arith}
 use lib.ListN.{length, length-set}
 use borrow.Author.Tests.{eqb-true, not-true, not-false}
-use Rattle.records.proofs.TestLaws.{contradiction}
-use Rattle.demand.specs.Steps.PeerScan.{Starts}
-use Rattle.demand.proofs.PeerStartLaws.{starts-none, starts-next, starts-all}
-use Rattle.demand.proofs.PeerScanRunLaws.{Scanned, run-inside, runs-fail, runs-go, runs-end}
+use Rattle.questions.proofs.Tests.{contradiction}
+use Rattle.demand.specs.Peers.Steps.Scan.{Starts}
+use Rattle.demand.proofs.Peers.Validity.StartLaws.{starts-none, starts-next, starts-all}
+use Rattle.demand.proofs.Peers.Validity.ScanRunLaws.{Scanned, run-inside, runs-fail, runs-go, runs-end}
 use borrow.Author.Needs.{needs}
 use Rattle.demand.proofs.peer_scan.are_runs.Statement.{statement}
 use Rattle.demand.proofs.peer_scan.are_runs.Tie as tie

@@ -1,6 +1,6 @@
 -- `is_key_of` meets its contract.
 use mathlib.Core.Path.{_∙_}
-use Rattle.demand.proofs.PeerScanRunLaws.{other-peer, same-peer}
+use Rattle.demand.proofs.Peers.Validity.ScanRunLaws.{other-peer, same-peer}
 use borrow.Author.Needs.{needs}
 use Rattle.demand.proofs.peer_scan.is_key_of.Statement.{statement}
 use Rattle.demand.proofs.peer_scan.is_key_of.Tie as tie

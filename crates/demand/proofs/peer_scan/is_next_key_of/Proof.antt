@@ -2,7 +2,7 @@
 use Prim.Native.Nat.{_+_, _-_}
 use mathlib.Core.Path.{_∙_}
 use lib.ListN.{getD}
-use Rattle.demand.proofs.PeerScanRunLaws.{not-above, above}
+use Rattle.demand.proofs.Peers.Validity.ScanRunLaws.{not-above, above}
 use borrow.Author.Needs.{needs}
 use Rattle.demand.proofs.peer_scan.is_next_key_of.Statement.{statement}
 use Rattle.demand.proofs.peer_scan.is_next_key_of.Tie as tie

@@ -2,8 +2,8 @@
 use mathlib.Core.Path.{_≡_, sym, _∙_}
 use mathlib.Core.Bool.{true, false}
 use borrow.Author.Tests.{le-leb, lt-leb, not-true, not-false}
-use Rattle.demand.specs.Steps.PeerScan.{isPastEpoch, isPast}
-use Rattle.demand.proofs.PeerScanLaws.{stop, goes}
+use Rattle.demand.specs.Peers.Steps.Scan.{isPastEpoch, isPast}
+use Rattle.demand.proofs.Peers.Validity.ScanLaws.{stop, goes}
 use borrow.Author.Needs.{needs}
 use Rattle.demand.proofs.peer_scan.is_past.Statement.{statement}
 use Rattle.demand.proofs.peer_scan.is_past.Tie as tie

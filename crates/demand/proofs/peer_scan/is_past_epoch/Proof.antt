@@ -1,5 +1,5 @@
 -- `is_past_epoch` meets its contract.
-use Rattle.demand.proofs.PeerScanLaws.{counted-epoch, further-epoch}
+use Rattle.demand.proofs.Peers.Validity.ScanLaws.{counted-epoch, further-epoch}
 use Rattle.demand.proofs.peer_scan.is_past_epoch.Statement.{statement}
 use Rattle.demand.proofs.peer_scan.is_past_epoch.Tie as tie
 

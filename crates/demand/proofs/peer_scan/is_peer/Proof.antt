@@ -3,9 +3,9 @@ use mathlib.Core.Path.{_≡_, sym, ap, _∙_}
 use mathlib.Core.Bool.{Bool, true, false, _||_}
 use lib.Dec.{eqb}
 use borrow.Author.Tests.{lt-ltb, le-ltb, not-true, not-false}
-use Rattle.demand.specs.Words.{isTime}
-use Rattle.demand.specs.Steps.PeerScan.{isSnapshot, isPast, isPeer}
-use Rattle.demand.proofs.PeerScanLaws.{stop, goes}
+use Rattle.records.specs.Fields.{isTime}
+use Rattle.demand.specs.Peers.Steps.Scan.{isSnapshot, isPast, isPeer}
+use Rattle.demand.proofs.Peers.Validity.ScanLaws.{stop, goes}
 use borrow.Author.Needs.{needs}
 use Rattle.demand.proofs.peer_scan.is_peer.Statement.{statement}
 use Rattle.demand.proofs.peer_scan.is_peer.Tie as tie

@@ -1,5 +1,5 @@
 -- `is_run` meets its contract.
-use Rattle.demand.proofs.PeerScanRunLaws.{empty-run, long-run, short-run}
+use Rattle.demand.proofs.Peers.Validity.ScanRunLaws.{empty-run, long-run, short-run}
 use Rattle.demand.proofs.peer_scan.is_run.Statement.{statement}
 use Rattle.demand.proofs.peer_scan.is_run.Tie as tie
 

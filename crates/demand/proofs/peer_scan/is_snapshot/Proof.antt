@@ -1,5 +1,5 @@
 -- `is_snapshot` meets its contract.
-use Rattle.demand.proofs.PeerScanLaws.{absent-epoch, absent-round, absent-time, other-flag, long-epoch, round-decides}
+use Rattle.demand.proofs.Peers.Validity.ScanLaws.{absent-epoch, absent-round, absent-time, other-flag, long-epoch, round-decides}
 use Rattle.demand.proofs.peer_scan.is_snapshot.Statement.{statement}
 use Rattle.demand.proofs.peer_scan.is_snapshot.Tie as tie
 

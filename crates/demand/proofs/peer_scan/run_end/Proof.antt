@@ -5,7 +5,7 @@ use native.Mathlib.Omega.{arith}
 use lib.ListN.{length}
 use borrow.Author.Tests.{not-true, not-false}
 use Rattle.records.proofs.RecordLaws.{row}
-use Rattle.demand.proofs.PeerScanRunLaws.{Ran, run-out, run-none, run-begins, run-next, run-ended, run-full}
+use Rattle.demand.proofs.Peers.Validity.ScanRunLaws.{Ran, run-out, run-none, run-begins, run-next, run-ended, run-full}
 use Rattle.demand.proofs.peer_scan.run_end.Statement.{statement}
 use Rattle.demand.proofs.peer_scan.run_end.Tie as tie
 

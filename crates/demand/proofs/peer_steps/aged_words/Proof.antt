@@ -6,9 +6,9 @@ use native.Mathlib.Omega.{arith}
 use borrow.Author.Needs.{needs}
 use lib.ListN.{length, drop, getD, drop-of-length-le}
 use lib.Seq.{drop-cons}
-use Rattle.demand.specs.PeerRecords.{peerOf, peerWords}
-use Rattle.demand.specs.Steps.PeerSteps.{isStale}
-use Rattle.demand.proofs.PeerStayLaws.{stale-same, aged-not, aged-bare}
+use Rattle.demand.specs.Peers.Records.{peerOf, peerWords}
+use Rattle.demand.specs.Peers.Steps.Stays.{isStale}
+use Rattle.demand.proofs.Peers.Departures.StayLaws.{stale-same, aged-not, aged-bare}
 use Rattle.demand.proofs.peer_steps.aged_words.Statement.{statement}
 use Rattle.demand.proofs.peer_steps.aged_words.Tie as tie
 

@@ -4,8 +4,9 @@ use mathlib.Core.Path.{sym}
 use native.Mathlib.Omega.{arith}
 use lib.ListN.{length}
 use Rattle.records.proofs.RecordLaws.{row}
-use Rattle.demand.proofs.PeerTableLaws.{InOrder, in-order-says, test-past}
-use Rattle.demand.proofs.PeerStayLaws.{taken-here}
+use Rattle.records.proofs.TabledLaws.{InOrder, in-order-says}
+use Rattle.demand.proofs.Peers.Tables.TableLaws.{test-past}
+use Rattle.demand.proofs.Peers.Departures.StayLaws.{taken-here}
 use Rattle.demand.proofs.peer_steps.has_snapshot.Statement.{statement}
 use Rattle.demand.proofs.peer_steps.has_snapshot.Tie as tie
 

@@ -6,8 +6,8 @@ use borrow.Author.Needs.{needs}
 use lib.ListN.{length, length-set}
 use Rattle.records.specs.declared.Found.the-variants.{At}
 use Rattle.records.specs.Records.{findIn}
-use Rattle.demand.proofs.PeerTableLaws.{InOrder, in-order-says, found-inside, found-fit}
-use Rattle.demand.proofs.PeerHoldLaws.{held-at, held-gap}
+use Rattle.records.proofs.TabledLaws.{InOrder, in-order-says, found-inside, found-fit}
+use Rattle.demand.proofs.Peers.Tables.HoldLaws.{held-at, held-gap}
 use Rattle.demand.proofs.peer_steps.hold_peer.Statement.{statement}
 use Rattle.demand.proofs.peer_steps.hold_peer.Tie as tie
 

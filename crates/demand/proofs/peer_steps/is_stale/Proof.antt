@@ -3,10 +3,10 @@ use Prim.Native.Nat.{ℕ, zero, suc}
 use mathlib.Core.Path.{_≡_, refl, sym, ap, _∙_}
 use mathlib.Core.Bool.{true, false, not}
 use native.Mathlib.Omega.{arith}
-use Rattle.demand.specs.Words.{timeOf}
-use Rattle.demand.specs.PeerRecords.{snapshotOf}
-use Rattle.demand.specs.PeerChanges.{isFresh}
-use Rattle.demand.specs.Steps.PeerSteps.{isStale}
+use Rattle.records.specs.Fields.{timeOf}
+use Rattle.demand.specs.Peers.Records.{snapshotOf}
+use Rattle.demand.specs.Peers.Changes.{isFresh}
+use Rattle.demand.specs.Peers.Steps.Stays.{isStale}
 use borrow.Author.Needs.{needs}
 use Rattle.demand.proofs.peer_steps.is_stale.Statement.{statement}
 use Rattle.demand.proofs.peer_steps.is_stale.Tie as tie

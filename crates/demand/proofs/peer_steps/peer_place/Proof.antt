@@ -5,8 +5,9 @@ use native.Mathlib.Omega.{arith}
 use borrow.Author.Needs.{needs}
 use lib.ListN.{length}
 use Rattle.records.proofs.RecordLaws.{row}
-use Rattle.demand.specs.Steps.PeerSteps.{foundOr, placeOf}
-use Rattle.demand.proofs.PeerTableLaws.{InOrder, in-order-says, found-here}
+use Rattle.records.specs.Typed.{foundOr}
+use Rattle.demand.specs.Peers.Steps.Stays.{placeOf}
+use Rattle.records.proofs.TabledLaws.{InOrder, in-order-says, found-here}
 use Rattle.demand.proofs.peer_steps.peer_place.Statement.{statement}
 use Rattle.demand.proofs.peer_steps.peer_place.Tie as tie
 

@@ -8,11 +8,11 @@ use lib.ListN.{length}
 use Rattle.records.specs.Records.{records}
 use Rattle.records.proofs.RecordLaws.{length-records}
 use Rattle.records.proofs.TableLaws.{wide-records}
-use Rattle.demand.specs.PeerRecords.{peerOf, contestedOf}
-use Rattle.demand.specs.Steps.PeerSteps.{staysContested}
-use Rattle.demand.proofs.PeerKeepLaws.{Kept, kept-none, kept-long, kept-all, kept-first, kept-word, kept-inside, kept-copied}
-use Rattle.demand.proofs.PeerTableLaws.{in-order-says}
-use Rattle.demand.proofs.PeerStayLaws.{stays-placed}
+use Rattle.demand.specs.Peers.Records.{peerOf, contestedOf}
+use Rattle.demand.specs.Peers.Steps.Stays.{staysContested}
+use Rattle.records.proofs.KeepLaws.{Kept, kept-none, kept-long, kept-all, kept-first, kept-word, kept-inside, kept-copied}
+use Rattle.records.proofs.TabledLaws.{in-order-says}
+use Rattle.demand.proofs.Peers.Departures.StayLaws.{stays-placed}
 use Rattle.demand.proofs.peer_steps.retain_contested.Statement.{statement}
 use Rattle.demand.proofs.peer_steps.retain_contested.Tie as tie
 

@@ -8,16 +8,16 @@ use borrow.Author.Needs.{needs}
 use lib.ListN.{length, take, drop, getD, length-map}
 use Rattle.records.specs.Records.{records}
 use Rattle.records.proofs.RecordLaws.{length-records}
-use Rattle.demand.specs.Words.{timeOf, flagOf}
-use Rattle.demand.specs.PeerRecords.{ContestedKey, peerOf, peerWords, contestedOf}
-use Rattle.demand.specs.PeerState.{isTaken}
-use Rattle.demand.specs.PeerChanges.{agePeer}
-use Rattle.demand.specs.Steps.PeerSteps.{staysPeer}
-use Rattle.demand.proofs.PeerStayLaws.{taken-flag}
-use Rattle.demand.proofs.PeerWordLaws.{wide-map, peer-long}
-use Rattle.demand.proofs.PeerListLaws.{map-at}
-use Rattle.demand.proofs.PeerKeepLaws.{Kept, kept-none, kept-long, kept-all, kept-inside, kept-here, kept-written}
-use Rattle.demand.proofs.PeerHoldLaws.{exact-at}
+use Rattle.records.specs.Fields.{timeOf, flagOf}
+use Rattle.demand.specs.Peers.Records.{ContestedKey, peerOf, peerWords, contestedOf}
+use Rattle.demand.specs.Peers.State.{isTaken, isHeld}
+use Rattle.demand.specs.Peers.Changes.{agePeer}
+use Rattle.demand.specs.Peers.Steps.Stays.{staysPeer}
+use Rattle.demand.proofs.Peers.Departures.StayLaws.{taken-flag}
+use Rattle.records.proofs.TypedLaws.{wide-map, exact-record}
+use Rattle.demand.proofs.Peers.Tables.WordLaws.{peer-long}
+use Rattle.questions.proofs.ListLaws.{map-at}
+use Rattle.records.proofs.KeepLaws.{Kept, kept-none, kept-long, kept-all, kept-inside, kept-here, kept-written}
 use Rattle.demand.proofs.peer_steps.retain_peers.Statement.{statement}
 use Rattle.demand.proofs.peer_steps.retain_peers.Tie as tie
 
@@ -25,7 +25,7 @@ abbrev test : List ℕ → ℕ → ℕ → List ℕ → Bool
 test contested c at x = staysPeer at (map contestedOf (records 6 c contested)) (peerOf x .id) (peerOf x .heldUntil) (isTaken (peerOf x))
 
 abbrev aged : ℕ → ℕ → List ℕ → List ℕ
-aged at age x = peerWords (agePeer at age (peerOf x))
+aged at age x = peerWords (agePeer isHeld at age (peerOf x))
 
 abbrev Inv-loop : tie.InvT-loop
 Inv-loop contested c peers₀ n reading max-age kept₀ i₀ peers kept i = Kept (test contested c reading) 12 n (map (aged reading max-age) (records 12 n peers₀)) peers₀ peers i kept
@@ -67,7 +67,7 @@ loop-holds c =
     let rs : List (List ℕ) = records 12 (s .args .n) (s .args .peers .now) in
     let f : List ℕ → List ℕ = aged (s .args .reading) (s .args .max-age) in
     kept-none (test (s .args .contested .now) (s .args .c) (s .args .reading)) 12 (s .args .n) (map f rs) (s .args .peers .now) (omega arith) (s .pre .1)
-    (wide-map f 12 (λ x. peer-long (agePeer (s .args .reading) (s .args .max-age) (peerOf x))) rs)
+    (wide-map f 12 (λ x. peer-long (agePeer isHeld (s .args .reading) (s .args .max-age) (peerOf x))) rs)
     (length-map rs f ∙ length-records 12 (s .args .n) (s .args .peers .now))
 
 mul-at : tie.Need-mul-at Inv-loop μ-loop
@@ -89,7 +89,7 @@ aged-words-requires : tie.Need-aged-words-requires Inv-loop μ-loop
 aged-words-requires c κs =
     let t = c .before .before in
     let s = start t in
-    let e = exact-at peerWords peerOf (records 12 (s .args .n) (s .args .peers .now)) (s .pre .2) (t .before .loop .i) (omega (arith, t .loop-test .taken, length-records 12 (s .args .n) (s .args .peers .now))) in (
+    let e = exact-record peerWords peerOf (records 12 (s .args .n) (s .args .peers .now)) (s .pre .2) (t .before .loop .i) (omega (arith, t .loop-test .taken, length-records 12 (s .args .n) (s .args .peers .now))) in (
       ap length (lent-is t ∙ sym e) ∙ peer-long (peerOf (peer t)),
       ap (λ (x : List ℕ). peerWords (peerOf x)) (lent-is t) ∙ e ∙ sym (lent-is t),
     )
@@ -106,7 +106,7 @@ aged-is c =
 aged-long : (c : tie.After-aged-words Inv-loop μ-loop) → length (c .aged-words .result) ≡ 12
 aged-long c =
     let t = c .before .before .before in
-    ap length (c .aged-words .ensures) ∙ peer-long (agePeer (start t .args .reading) (start t .args .max-age) (peerOf (lent t)))
+    ap length (c .aged-words .ensures) ∙ peer-long (agePeer isHeld (start t .args .reading) (start t .args .max-age) (peerOf (lent t)))
 
 stays-peer-requires : tie.Need-stays-peer-requires Inv-loop μ-loop
 stays-peer-requires c κs = start (c .before .before .before) .pre .0

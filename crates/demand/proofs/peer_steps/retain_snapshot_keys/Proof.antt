@@ -8,11 +8,11 @@ use lib.ListN.{length}
 use Rattle.records.specs.Records.{records}
 use Rattle.records.proofs.RecordLaws.{length-records}
 use Rattle.records.proofs.TableLaws.{wide-records}
-use Rattle.demand.specs.PeerRecords.{peerOf, snapshotKeyOf}
-use Rattle.demand.specs.PeerState.{hasSnapshot}
-use Rattle.demand.proofs.PeerKeepLaws.{Kept, kept-none, kept-long, kept-all, kept-first, kept-inside, kept-copied}
-use Rattle.demand.proofs.PeerTableLaws.{in-order-says}
-use Rattle.demand.proofs.PeerStayLaws.{taken-placed}
+use Rattle.demand.specs.Peers.Records.{peerOf, snapshotKeyOf}
+use Rattle.demand.specs.Peers.State.{hasSnapshot}
+use Rattle.records.proofs.KeepLaws.{Kept, kept-none, kept-long, kept-all, kept-first, kept-inside, kept-copied}
+use Rattle.records.proofs.TabledLaws.{in-order-says}
+use Rattle.demand.proofs.Peers.Departures.StayLaws.{taken-placed}
 use Rattle.demand.proofs.peer_steps.retain_snapshot_keys.Statement.{statement}
 use Rattle.demand.proofs.peer_steps.retain_snapshot_keys.Tie as tie
 

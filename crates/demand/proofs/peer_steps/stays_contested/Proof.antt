@@ -5,8 +5,9 @@ use native.Mathlib.Omega.{arith}
 use borrow.Author.Needs.{needs}
 use lib.ListN.{length}
 use Rattle.records.proofs.RecordLaws.{row}
-use Rattle.demand.proofs.PeerTableLaws.{InOrder, in-order-says, test-past}
-use Rattle.demand.proofs.PeerStayLaws.{stays-here, held-stays, free-stays}
+use Rattle.records.proofs.TabledLaws.{InOrder, in-order-says}
+use Rattle.demand.proofs.Peers.Tables.TableLaws.{test-past}
+use Rattle.demand.proofs.Peers.Departures.StayLaws.{stays-here, held-stays, free-stays}
 use Rattle.demand.proofs.peer_steps.stays_contested.Statement.{statement}
 use Rattle.demand.proofs.peer_steps.stays_contested.Tie as tie
 

@@ -4,10 +4,10 @@ use mathlib.Core.List.{List, map}
 use native.Mathlib.Omega.{arith}
 use lib.Dec.{eqb}
 use Rattle.records.specs.Records.{records}
-use Rattle.demand.specs.PeerRecords.{ContestedKey, contestedOf}
-use Rattle.demand.proofs.PeerRangeLaws.{any-map}
-use Rattle.demand.proofs.PeerTableLaws.{in-order-says, in-order-run}
-use Rattle.demand.proofs.PeerStayLaws.{held-peer, taken-peer, bare-peer}
+use Rattle.demand.specs.Peers.Records.{ContestedKey, contestedOf}
+use Rattle.questions.proofs.ListLaws.{any-map}
+use Rattle.records.proofs.TabledLaws.{in-order-says, in-order-run}
+use Rattle.demand.proofs.Peers.Departures.StayLaws.{held-peer, taken-peer, bare-peer}
 use Rattle.demand.proofs.peer_steps.stays_peer.Statement.{statement}
 use Rattle.demand.proofs.peer_steps.stays_peer.Tie as tie
 

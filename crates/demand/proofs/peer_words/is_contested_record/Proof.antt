@@ -1,10 +1,10 @@
 -- `is_contested_record` meets its contract.
 use borrow.Author.Needs.{needs}
-use Rattle.demand.specs.PeerRecords.{contestedWords, contestedOf}
-use Rattle.demand.specs.PeerState.{validContested}
-use Rattle.demand.specs.Steps.PeerScan.{areKeyWords}
-use Rattle.demand.proofs.PeerScanLaws.{contested-words-pass}
-use Rattle.demand.proofs.PeerOneLaws.{unlike-record, scanned-record}
+use Rattle.demand.specs.Peers.Records.{contestedWords, contestedOf}
+use Rattle.demand.specs.Peers.State.{validContested}
+use Rattle.demand.specs.Peers.Steps.Scan.{areKeyWords}
+use Rattle.demand.proofs.Peers.Validity.ScanLaws.{contested-words-pass}
+use Rattle.demand.proofs.Peers.Validity.OneLaws.{unlike-record, scanned-record}
 use Rattle.demand.proofs.peer_words.is_contested_record.Statement.{statement}
 use Rattle.demand.proofs.peer_words.is_contested_record.Tie as tie
 

@@ -1,10 +1,10 @@
 -- `is_peer_record` meets its contract.
 use borrow.Author.Needs.{needs}
-use Rattle.demand.specs.PeerRecords.{peerWords, peerOf}
-use Rattle.demand.specs.PeerState.{validPeer}
-use Rattle.demand.specs.Steps.PeerScan.{arePeerWords}
-use Rattle.demand.proofs.PeerScanLaws.{peer-words-pass}
-use Rattle.demand.proofs.PeerOneLaws.{unlike-record, scanned-record}
+use Rattle.demand.specs.Peers.Records.{peerWords, peerOf}
+use Rattle.demand.specs.Peers.State.{validPeer}
+use Rattle.demand.specs.Peers.Steps.Scan.{arePeerWords}
+use Rattle.demand.proofs.Peers.Validity.ScanLaws.{peer-words-pass}
+use Rattle.demand.proofs.Peers.Validity.OneLaws.{unlike-record, scanned-record}
 use Rattle.demand.proofs.peer_words.is_peer_record.Statement.{statement}
 use Rattle.demand.proofs.peer_words.is_peer_record.Tie as tie
 

@@ -1,10 +1,10 @@
 -- `is_snapshot_key_record` meets its contract.
 use borrow.Author.Needs.{needs}
-use Rattle.demand.specs.PeerRecords.{snapshotKeyWords, snapshotKeyOf}
-use Rattle.demand.specs.PeerState.{validSnapshotKey}
-use Rattle.demand.specs.Steps.PeerScan.{areKeyWords}
-use Rattle.demand.proofs.PeerScanLaws.{key-words-pass}
-use Rattle.demand.proofs.PeerOneLaws.{unlike-record, scanned-record}
+use Rattle.demand.specs.Peers.Records.{snapshotKeyWords, snapshotKeyOf}
+use Rattle.demand.specs.Peers.State.{validSnapshotKey}
+use Rattle.demand.specs.Peers.Steps.Scan.{areKeyWords}
+use Rattle.demand.proofs.Peers.Validity.ScanLaws.{key-words-pass}
+use Rattle.demand.proofs.Peers.Validity.OneLaws.{unlike-record, scanned-record}
 use Rattle.demand.proofs.peer_words.is_snapshot_key_record.Statement.{statement}
 use Rattle.demand.proofs.peer_words.is_snapshot_key_record.Tie as tie
 

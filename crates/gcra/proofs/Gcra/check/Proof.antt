@@ -1,8 +1,8 @@
 -- `gcra::Gcra::check` meets its contract.
 use borrow.Author.Needs.{needs}
 use Rattle.gcra.specs.Meter.{checked}
-use Rattle.gcra.proofs.Cases.{told-no, told-yes}
-use Rattle.gcra.proofs.Answers.{alone-no, alone-yes, alone-kept, alone-changed}
+use Rattle.questions.proofs.Tests.{told-no, told-yes}
+use Rattle.questions.proofs.Answers.{alone-no, alone-yes, alone-kept, alone-changed}
 use Rattle.gcra.proofs.Gcra.check.Statement.{statement}
 use Rattle.gcra.proofs.Gcra.check.Tie as tie
 

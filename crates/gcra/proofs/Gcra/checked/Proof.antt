@@ -1,7 +1,7 @@
 -- `gcra::Gcra::checked` meets its contract.
 use mathlib.Core.Path.{_≡_, sym, _∙_}
 use borrow.Author.Needs.{needs}
-use Rattle.gcra.specs.Meter.{attempt, parameters, tatAt}
+use Rattle.gcra.specs.Meter.{attempt, paceOf, tatAt}
 use Rattle.gcra.proofs.Checks.{checked-allow, checked-deny}
 use Rattle.gcra.proofs.Gcra.checked.Statement.{statement}
 use Rattle.gcra.proofs.Gcra.checked.Tie as tie
@@ -10,7 +10,7 @@ abbrev start : tie.After-attempt → tie.Start
 start c = c .before .before .before .before
 
 attempted : (c : tie.After-attempt)
-    → c .attempt .result ≡ attempt (parameters (start c .args .self .quota)) (tatAt (start c .args .self .tat) (start c .args .now)) (start c .args .now)
+    → c .attempt .result ≡ attempt (paceOf (start c .args .self .quota)) (tatAt (start c .args .self .tat) (start c .args .now)) (start c .args .now)
 attempted c = cc
 
 returns : tie.Need-returns

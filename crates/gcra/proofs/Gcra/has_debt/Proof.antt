@@ -2,8 +2,8 @@
 use borrow.Author.Needs.{needs}
 use Rattle.gcra.specs.Calls.{gcraHasDebt}
 use Rattle.gcra.specs.Meter.{hasDebt}
-use Rattle.gcra.proofs.Cases.{told-no, told-yes}
-use Rattle.gcra.proofs.Answers.{alone-no, alone-yes}
+use Rattle.questions.proofs.Tests.{told-no, told-yes}
+use Rattle.questions.proofs.Answers.{alone-no, alone-yes}
 use Rattle.gcra.proofs.Gcra.has_debt.Statement.{statement}
 use Rattle.gcra.proofs.Gcra.has_debt.Tie as tie
 

@@ -1,8 +1,8 @@
 -- `gcra::Gcra::quota` meets its contract.
 use borrow.Author.Needs.{needs}
 use Rattle.gcra.specs.Calls.{gcraQuota}
-use Rattle.gcra.proofs.Cases.{told-no, told-yes}
-use Rattle.gcra.proofs.Answers.{alone-no, alone-yes}
+use Rattle.questions.proofs.Tests.{told-no, told-yes}
+use Rattle.questions.proofs.Answers.{alone-no, alone-yes}
 use Rattle.gcra.proofs.Gcra.quota.Statement.{statement}
 use Rattle.gcra.proofs.Gcra.quota.Tie as tie
 

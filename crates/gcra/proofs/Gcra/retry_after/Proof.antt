@@ -4,11 +4,11 @@ use mathlib.Core.Bool.{true}
 use native.Mathlib.Omega.{arith}
 use borrow.Author.Needs.{needs}
 use Rattle.gcra.specs.Calls.{gcraRetryAfter}
-use Rattle.gcra.specs.Questions.{answer}
-use Rattle.gcra.specs.Meter.{attempt, parameters, tatAt, retryAfter, decision}
+use Rattle.questions.specs.Questions.{answer}
+use Rattle.gcra.specs.Meter.{attempt, paceOf, tatAt, retryAfter, decision}
 use Rattle.gcra.specs.Packed.{unitNanos, validQuota}
-use Rattle.gcra.proofs.Cases.{told-no, told-yes}
-use Rattle.gcra.proofs.Answers.{alone-no}
+use Rattle.questions.proofs.Tests.{told-no, told-yes}
+use Rattle.questions.proofs.Answers.{alone-no}
 use Rattle.gcra.proofs.Checks.{stepped-decision, deny-is}
 use Rattle.gcra.proofs.Gcra.retry_after.Statement.{statement}
 use Rattle.gcra.proofs.Gcra.retry_after.Tie as tie
@@ -31,7 +31,7 @@ unfolding decision
 sub-t14 c =
     let s = c .before .before .before in
     let a = start s .args in
-    omega (arith, deny-is (parameters (a .self .quota)) (tatAt (a .self .tat) (a .now)) (a .now) (sym (decided s) ∙ c .before .decision .given .1) .0)
+    omega (arith, deny-is (paceOf (a .self .quota)) (tatAt (a .self .tat) (a .now)) (a .now) (sym (decided s) ∙ c .before .decision .given .1) .0)
 
 returns-2 : tie.Need-returns-2
 unfolding gcraRetryAfter retryAfter answer

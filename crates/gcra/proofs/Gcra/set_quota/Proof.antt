@@ -9,8 +9,8 @@ use Rattle.gcra.specs.declared.SetAnswer.the-variants.{No, Done}
 use Rattle.gcra.specs.Packed.{unitNanos, validQuota}
 use Rattle.gcra.specs.Rate.{setQuota}
 use Rattle.gcra.specs.Calls.{GcraSets}
-use Rattle.gcra.proofs.Cases.{told-no, told-yes, and-true}
-use Rattle.gcra.proofs.Answers.{alone-no, alone-yes, alone-kept, alone-changed}
+use Rattle.questions.proofs.Tests.{told-no, told-yes, and-intro}
+use Rattle.questions.proofs.Answers.{alone-no, alone-yes, alone-kept, alone-changed}
 use Rattle.gcra.proofs.Gcra.set_quota.Statement.{statement}
 use Rattle.gcra.proofs.Gcra.set_quota.Tie as tie
 
@@ -34,7 +34,7 @@ returns-3 : tie.Need-returns-3
 returns-3 c =
     let o = told-yes (c .before .before .before .before .is-valid .ensures) (c .before .before .before .if1 .left) in
     let n = told-yes (c .before .before .is-valid2 .ensures) (c .before .if2 .left) in
-    sets _ _ _ (and-true o n) (c .changed .ensures)
+    sets _ _ _ (and-intro _ _ o n) (c .changed .ensures)
 
 pub set-quota-spec : {M : Type 1} → statement M
 set-quota-spec =

@@ -5,8 +5,8 @@ use borrow.Author.Needs.{needs}
 use borrow.Author.Tests.{le-leb, lt-leb}
 use Rattle.gcra.specs.Calls.{quotaCeiling}
 use Rattle.gcra.specs.Packed.{ceiling}
-use Rattle.gcra.specs.Questions.{answer}
-use Rattle.gcra.proofs.Cases.{told-no, told-yes}
+use Rattle.questions.specs.Questions.{answer}
+use Rattle.questions.proofs.Tests.{told-no, told-yes}
 use Rattle.gcra.proofs.Validity.{valid-quota}
 use Rattle.gcra.proofs.Quota.ceiling.Statement.{statement}
 use Rattle.gcra.proofs.Quota.ceiling.Tie as tie

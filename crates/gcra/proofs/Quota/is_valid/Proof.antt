@@ -3,7 +3,7 @@ use mathlib.Core.Bool.{and-false}
 use borrow.Author.Needs.{needs}
 use borrow.Author.Tests.{le-leb, lt-leb}
 use Rattle.gcra.specs.Packed.{validQuota, maxInterval}
-use Rattle.gcra.proofs.Cases.{told-no, told-yes}
+use Rattle.questions.proofs.Tests.{told-no, told-yes}
 use Rattle.gcra.proofs.Quota.is_valid.Statement.{statement}
 use Rattle.gcra.proofs.Quota.is_valid.Tie as tie
 

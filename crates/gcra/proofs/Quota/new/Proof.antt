@@ -6,8 +6,8 @@ use lib.Dec.{ltb}
 use borrow.Author.Needs.{needs}
 use borrow.Author.Tests.{lt-ltb}
 use Rattle.gcra.specs.Calls.{quotaNew}
-use Rattle.gcra.specs.Questions.{answer}
-use Rattle.gcra.proofs.Cases.{told-no, told-yes}
+use Rattle.questions.specs.Questions.{answer}
+use Rattle.questions.proofs.Tests.{told-no, told-yes}
 use Rattle.gcra.proofs.Quota.new.Statement.{statement}
 use Rattle.gcra.proofs.Quota.new.Tie as tie
 

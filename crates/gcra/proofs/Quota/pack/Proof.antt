@@ -1,8 +1,8 @@
 -- `gcra::Quota::pack` meets its contract.
 use borrow.Author.Needs.{needs}
 use Rattle.gcra.specs.Calls.{quotaPack}
-use Rattle.gcra.proofs.Cases.{told-no, told-yes}
-use Rattle.gcra.proofs.Answers.{alone-no, alone-yes}
+use Rattle.questions.proofs.Tests.{told-no, told-yes}
+use Rattle.questions.proofs.Answers.{alone-no, alone-yes}
 use Rattle.gcra.proofs.Encoding.{units-accepted}
 use Rattle.gcra.proofs.Validity.{valid-quota}
 use Rattle.gcra.proofs.Quota.pack.Statement.{statement}

@@ -2,8 +2,8 @@
 use borrow.Author.Needs.{needs}
 use Rattle.gcra.specs.Calls.{quotaRate}
 use Rattle.gcra.specs.Rate.{ratePerSec}
-use Rattle.gcra.proofs.Cases.{told-no, told-yes}
-use Rattle.gcra.proofs.Answers.{alone-no, alone-yes}
+use Rattle.questions.proofs.Tests.{told-no, told-yes}
+use Rattle.questions.proofs.Answers.{alone-no, alone-yes}
 use Rattle.gcra.proofs.Rates.{second-is}
 use Rattle.gcra.proofs.Quota.rate_per_sec.Statement.{statement}
 use Rattle.gcra.proofs.Quota.rate_per_sec.Tie as tie

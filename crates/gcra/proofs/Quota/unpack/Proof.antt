@@ -1,8 +1,8 @@
 -- `gcra::Quota::unpack` meets its contract.
 use borrow.Author.Needs.{needs}
 use Rattle.gcra.specs.Calls.{quotaUnpack}
-use Rattle.gcra.proofs.Cases.{told-no, told-yes}
-use Rattle.gcra.proofs.Answers.{alone-no, alone-yes}
+use Rattle.questions.proofs.Tests.{told-no, told-yes}
+use Rattle.questions.proofs.Answers.{alone-no, alone-yes}
 use Rattle.gcra.proofs.Quota.unpack.Statement.{statement}
 use Rattle.gcra.proofs.Quota.unpack.Tie as tie
 

@@ -1,7 +1,7 @@
 -- `last_tick_of` meets its contract.
 use mathlib.Core.Path.{sym, ap}
 use Prim.Native.Nat.{ℕ}
-use Rattle.demand.specs.Words.{timeOf}
+use Rattle.records.specs.Fields.{timeOf}
 use Rattle.image.proofs.JudgeLaws.{time-set}
 use Rattle.image.proofs.judge.last_tick_of.Statement.{statement}
 use Rattle.image.proofs.judge.last_tick_of.Tie as tie

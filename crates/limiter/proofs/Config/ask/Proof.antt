@@ -1,7 +1,7 @@
 -- `Config::ask` meets its contract.
 use borrow.Author.Needs.{needs}
-use Rattle.gcra.proofs.Cases.{told-no, told-yes}
-use Rattle.gcra.proofs.Answers.{first-no, first-yes, first-none}
+use Rattle.questions.proofs.Tests.{told-no, told-yes}
+use Rattle.questions.proofs.Answers.{first-no, first-yes, first-none}
 use Rattle.limiter.proofs.Config.ask.Statement.{statement}
 use Rattle.limiter.proofs.Config.ask.Tie as tie
 

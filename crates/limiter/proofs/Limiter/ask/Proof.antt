@@ -1,7 +1,7 @@
 -- `Limiter::ask` meets its contract.
 use borrow.Author.Needs.{needs}
-use Rattle.gcra.proofs.Cases.{told-no, told-yes}
-use Rattle.gcra.proofs.Answers.{first-no, first-yes, first-none}
+use Rattle.questions.proofs.Tests.{told-no, told-yes}
+use Rattle.questions.proofs.Answers.{first-no, first-yes, first-none}
 use Rattle.limiter.proofs.Limiter.ask.Statement.{statement}
 use Rattle.limiter.proofs.Limiter.ask.Tie as tie
 

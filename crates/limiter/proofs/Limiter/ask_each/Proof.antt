@@ -6,9 +6,9 @@ use mathlib.Core.List.{List, [], _∷_, _++_}
 use lib.Dec.{leb, lit<}
 use lib.ListN.{length}
 use Rattle.records.specs.Records.{fits}
-use Rattle.gcra.specs.Questions.{Question, _asks_, firstNo}
-use Rattle.gcra.proofs.Cases.{told-no, told-yes}
-use Rattle.gcra.proofs.Answers.{first-no, first-yes, first-none, first-more, first-rest, passed-none}
+use Rattle.questions.specs.Questions.{Question, _asks_, firstNo}
+use Rattle.questions.proofs.Tests.{told-no, told-yes}
+use Rattle.questions.proofs.Answers.{first-no, first-yes, first-none, first-more, first-rest, passed-none}
 use Rattle.limiter.specs.State.{tables}
 use Rattle.limiter.specs.Checks.{clusterQuestions}
 use Rattle.limiter.specs.Calls.{stateQuestions, eachAsked}

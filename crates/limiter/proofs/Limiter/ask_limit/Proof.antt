@@ -2,8 +2,8 @@
 use mathlib.Core.Path.{_∙_}
 use mathlib.Core.List.{List, _++_}
 use lib.Dec.{lit<}
-use Rattle.gcra.specs.Questions.{Question}
-use Rattle.gcra.proofs.Answers.{first-more, first-rest, passed-none}
+use Rattle.questions.specs.Questions.{Question}
+use Rattle.questions.proofs.Answers.{first-more, first-rest, passed-none}
 use Rattle.limiter.specs.State.{tables}
 use Rattle.limiter.specs.Checks.{limitQuestions, clusterQuestions}
 use Rattle.limiter.specs.Calls.{stateQuestions}

@@ -1,8 +1,9 @@
 -- `check` meets its contract.
 use mathlib.Core.List.{List, _++_}
 use lib.Dec.{lit<}
-use Rattle.gcra.specs.Questions.{Question}
-use Rattle.limiter.specs.State.{LimiterTables, tables, base, stateOf}
+use Rattle.questions.specs.Questions.{Question}
+use Rattle.gcra.specs.Packed.{unitNanos}
+use Rattle.limiter.specs.State.{LimiterTables, tables, stateOf}
 use Rattle.limiter.specs.Checks.{clusterQuestions, checkKeyQuestions, keyDecision, checkIn, ownLimit}
 use Rattle.limiter.specs.Calls.{here, stateQuestions}
 use Rattle.limiter.proofs.Checking.LiftLaws.{Passed, passed, ready, refused-before, own-burst, checks-lifted}
@@ -28,10 +29,10 @@ returns : tie.Need-returns
 returns c =
     let s = c .before .before .before .before .before .before in
     let x = here (s .args .self) (lent s) in
-    refused-before (keyDecision base x (s .args .key) (ownLimit x) (s .args .reading) (s .args .cluster-size)) (s .args .self) (lent s)
+    refused-before (keyDecision unitNanos x (s .args .key) (ownLimit x) (s .args .reading) (s .args .cluster-size)) (s .args .self) (lent s)
     (stateQuestions (s .args .self) (lent s) ++ others s)
-    (checkKeyQuestions base x (s .args .key) (s .args .reading) (s .args .cluster-size))
-    (checkIn base x (s .args .key) (ownLimit x) (s .args .reading) (s .args .cluster-size)) _ (c .before .ask-cluster .ensures) (c .if1 .taken)
+    (checkKeyQuestions unitNanos x (s .args .key) (s .args .reading) (s .args .cluster-size))
+    (checkIn unitNanos x (s .args .key) (ownLimit x) (s .args .reading) (s .args .cluster-size)) _ (c .before .ask-cluster .ensures) (c .if1 .taken)
 
 check-key-requires : tie.Need-check-key-requires
 unfolding stateOf

@@ -1,12 +1,11 @@
 -- `check_in` meets its contract.
 use mathlib.Core.Option.{none}
-use mathlib.Core.List.{List, _++_}
-use lib.Dec.{lit<}
-use Rattle.gcra.specs.Questions.{Question}
-use Rattle.limiter.specs.State.{LimiterTables, tables, base, stateOf}
-use Rattle.limiter.specs.Checks.{limitQuestions, clusterQuestions, keyQuestions, keyDecision, checkIn, checkedKey, entry}
+use Rattle.gcra.specs.Packed.{unitNanos}
+use mathlib.Core.List.{_++_}
+use Rattle.limiter.specs.State.{LimiterTables, tables, stateOf}
+use Rattle.limiter.specs.Checks.{keyQuestions, keyDecision, checkIn, checkedKey, entry}
 use Rattle.limiter.specs.Calls.{here, stateQuestions}
-use Rattle.limiter.proofs.Checking.LiftLaws.{Passed, passed, ready, refused-before, burst-passed, checks-lifted}
+use Rattle.limiter.proofs.Checking.LiftLaws.{Passed, refused-before, limitAsked, limit-passed, limit-ready, checks-lifted}
 use borrow.Author.Needs.{needs}
 use Rattle.limiter.proofs.Limiter.check_in.Statement.{statement}
 use Rattle.limiter.proofs.Limiter.check_in.Tie as tie
@@ -15,33 +14,24 @@ use Rattle.limiter.proofs.Limiter.check_in.Tie as tie
 abbrev lent : tie.Start → LimiterTables
 lent s = tables (s .args .keys .now) (s .args .hot .now) (s .args .shadows .now)
 
--- the questions past 2 that come before those of the key
-abbrev others : tie.Start → List Question
-others s = limitQuestions (s .args .limit) ++ clusterQuestions (s .args .cluster-size)
-
 abbrev start : tie.Else1 → tie.Start
 start e = e .before .before .before .before .before .before
 
-asked : (e : tie.Else1) → let s = start e in Passed (s .args .self) (lent s) (others s)
-asked e = let s = start e in
-    passed (s .args .self) (lent s) (others s) _ (lit< tt, (lit< tt, (lit< tt, tt))) (e .before .ask-limit .ensures) (e .if1 .left)
+asked : (e : tie.Else1) → let s = start e in Passed (s .args .self) (lent s) (limitAsked (s .args .limit) (s .args .cluster-size))
+asked e = let s = start e in limit-passed (s .args .self) (lent s) (s .args .limit) (s .args .cluster-size) _ (e .before .ask-limit .ensures) (e .if1 .left)
 
 returns : tie.Need-returns
 returns c =
     let s = c .before .before .before .before .before .before in
     let x = here (s .args .self) (lent s) in
-    refused-before (keyDecision base x (s .args .key) (s .args .limit) (s .args .reading) (s .args .cluster-size)) (s .args .self) (lent s)
-    (stateQuestions (s .args .self) (lent s) ++ others s)
-    (keyQuestions x (checkedKey (s .args .reading) none (entry base x (s .args .key) (s .args .limit) (s .args .reading) (s .args .cluster-size))))
-    (checkIn base x (s .args .key) (s .args .limit) (s .args .reading) (s .args .cluster-size)) _ (c .before .ask-limit .ensures) (c .if1 .taken)
+    refused-before (keyDecision unitNanos x (s .args .key) (s .args .limit) (s .args .reading) (s .args .cluster-size)) (s .args .self) (lent s)
+    (stateQuestions (s .args .self) (lent s) ++ limitAsked (s .args .limit) (s .args .cluster-size))
+    (keyQuestions x (checkedKey (s .args .reading) none (entry unitNanos x (s .args .key) (s .args .limit) (s .args .reading) (s .args .cluster-size))))
+    (checkIn unitNanos x (s .args .key) (s .args .limit) (s .args .reading) (s .args .cluster-size)) _ (c .before .ask-limit .ensures) (c .if1 .taken)
 
 check-key-requires : tie.Need-check-key-requires
 unfolding stateOf
-check-key-requires c κs =
-    let e = c .before in
-    let s = start e in
-    let p = asked e in
-    (ready (s .args .self) (lent s) (p .room) (p .ok), burst-passed (s .args .limit) (s .args .cluster-size) (p .rest))
+check-key-requires c κs = let s = start (c .before) in limit-ready (s .args .self) (lent s) (s .args .limit) (s .args .cluster-size) (asked (c .before))
 
 returns-2 : tie.Need-returns-2
 unfolding stateOf
@@ -49,7 +39,7 @@ returns-2 c =
     let k = c .before .before in
     let e = k .before .before in
     let s = start e in
-    checks-lifted (s .args .self) (lent s) (others s) (asked e) (s .args .key) (s .args .limit) (s .args .reading) (s .args .cluster-size) _
+    checks-lifted (s .args .self) (lent s) _ (asked e) (s .args .key) (s .args .limit) (s .args .reading) (s .args .cluster-size) _
     (k .check-key .result) (k .check-key .ensures)
 
 pub check-in-spec : {M : Type 1} → statement M

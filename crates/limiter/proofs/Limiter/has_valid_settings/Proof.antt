@@ -2,8 +2,8 @@
 use mathlib.Core.Path.{_∙_}
 use mathlib.Core.Bool.{false}
 use borrow.Author.Needs.{needs}
-use Rattle.gcra.proofs.Cases.{told-no, told-yes}
-use Rattle.demand.proofs.PeerScanLaws.{stop, goes}
+use Rattle.questions.proofs.Tests.{told-no, told-yes}
+use Rattle.demand.proofs.Peers.Validity.ScanLaws.{stop, goes}
 use Rattle.limiter.proofs.Validity.SettingsLaws.{Held, settings-are, cap-words, tick-words}
 use Rattle.limiter.proofs.Limiter.has_valid_settings.Statement.{statement}
 use Rattle.limiter.proofs.Limiter.has_valid_settings.Tie as tie

@@ -6,9 +6,9 @@ use borrow.Author.Needs.{needs}
 use Rattle.records.specs.Records.{records}
 use Rattle.gcra.specs.Packed.{unitNanos}
 use Rattle.gcra.proofs.Encoding.{units-accepted}
-use Rattle.gcra.proofs.Cases.{told-no, told-yes}
-use Rattle.demand.proofs.PeerScanLaws.{stop, goes}
-use Rattle.demand.proofs.PeerValidLaws.{all-words}
+use Rattle.questions.proofs.Tests.{told-no, told-yes}
+use Rattle.demand.proofs.Peers.Validity.ScanLaws.{stop, goes}
+use Rattle.demand.proofs.Peers.Validity.ValidLaws.{all-words}
 use Rattle.limiter.specs.State.{LimiterTables, tables, settingsOf, validSettings, isValid}
 use Rattle.limiter.specs.Steps.Scan.{areKeys, isScanned, KeysReady}
 use Rattle.limiter.proofs.Validity.ValidLaws.{Roomy, room-says, keys-ready, scanned-is-valid}

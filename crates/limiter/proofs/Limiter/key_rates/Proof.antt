@@ -1,10 +1,13 @@
 -- `Limiter::key_rates` meets its contract.
+use mathlib.Core.Path.{ap, _∙_}
 use mathlib.Core.List.{[]}
 use borrow.Author.Needs.{needs}
-use Rattle.gcra.proofs.Answers.{answer-no}
-use Rattle.limiter.specs.State.{LimiterTables, tables, base}
+use Rattle.questions.proofs.Answers.{answer-no}
+use Rattle.limiter.specs.declared.Parameters.{Parameters}
+use Rattle.limiter.specs.State.{LimiterTables, tables, parametersOf, settingsOf}
 use Rattle.limiter.specs.Readers.{ratesOf}
 use Rattle.limiter.specs.Calls.{stateQuestions}
+use Rattle.limiter.specs.Steps.KeySteps.{keyRecord}
 use Rattle.limiter.proofs.Checking.LiftLaws.{Passed, ready}
 use Rattle.limiter.proofs.Reading.ReaderLaws.{past, tells-key, tells-untracked, found-valid}
 use Rattle.limiter.proofs.Limiter.key_rates.Statement.{statement}
@@ -29,7 +32,7 @@ find-key-requires c κs = let s = start (c .before) in let p = asked c in ready 
 
 rates-of-requires : tie.Need-rates-of-requires
 rates-of-requires c κs =
-    let k = c .before in
+    let k = c .before .before in
     let f = k .before .before in
     let s = start (f .before .before) in
     let p = asked (f .before) in
@@ -39,14 +42,15 @@ returns-2 : tie.Need-returns-2
 returns-2 c =
     let f = c .before .before in
     let s = start (f .before .before) in
-    tells-untracked (s .args .self) (lent s) (asked (f .before)) (s .args .key) _ (f .find-key .ensures) (ratesOf base) (c .enum-told .given .1)
+    tells-untracked (s .args .self) (lent s) (asked (f .before)) (s .args .key) _ (f .find-key .ensures) (ratesOf (parametersOf (settingsOf (s .args .self)))) (c .enum-told .given .1)
 
 returns-3 : tie.Need-returns-3
 returns-3 c =
-    let k = c .before .before in
+    let k = c .before .before .before in
     let f = k .before .before in
     let s = start (f .before .before) in
-    tells-key (s .args .self) (lent s) (asked (f .before)) (s .args .key) _ (f .find-key .ensures) (ratesOf base) _ (k .state .given .1) _ (c .rates-of .ensures)
+    tells-key (s .args .self) (lent s) (asked (f .before)) (s .args .key) _ (f .find-key .ensures) (ratesOf (parametersOf (settingsOf (s .args .self)))) _ (k .state .given .1) _
+    (c .rates-of .ensures ∙ ap (λ (x : Parameters). ratesOf x (keyRecord (k .state .given .0 .0))) (c .before .parameters-of .ensures))
 
 pub key-rates-spec : {M : Type 1} → statement M
 key-rates-spec =
@@ -57,6 +61,7 @@ key-rates-spec =
     find-key-requires
     (λ c. search needs)
     (λ c. search needs)
+    (λ c κs. search needs)
     rates-of-requires
     returns-2
     returns-3)

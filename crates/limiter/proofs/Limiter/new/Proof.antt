@@ -2,8 +2,8 @@
 use mathlib.Core.List.{List}
 use lib.Dec.{lit<}
 use borrow.Author.Needs.{needs}
-use Rattle.gcra.specs.Questions.{Question}
-use Rattle.gcra.proofs.Answers.{answer-no, answer-passed, passed-none}
+use Rattle.questions.specs.Questions.{Question}
+use Rattle.questions.proofs.Answers.{answer-no, answer-passed, passed-none}
 use Rattle.limiter.specs.State.{tables}
 use Rattle.limiter.specs.Calls.{newQuestions}
 use Rattle.limiter.proofs.Limiter.new.Statement.{statement}

@@ -3,8 +3,8 @@ use mathlib.Core.Path.{_∙_, ap}
 use mathlib.Core.List.{List, _++_}
 use lib.Dec.{lit<}
 use borrow.Author.Needs.{needs}
-use Rattle.gcra.specs.Questions.{Question, given}
-use Rattle.gcra.proofs.Answers.{answer-no, answer-passed, passed-none}
+use Rattle.questions.specs.Questions.{Question, given}
+use Rattle.questions.proofs.Answers.{answer-no, answer-passed, passed-none}
 use Rattle.limiter.specs.State.{tables, stateOf}
 use Rattle.limiter.specs.Checks.{limitQuestions, clusterQuestions}
 use Rattle.limiter.specs.Calls.{stateQuestions}

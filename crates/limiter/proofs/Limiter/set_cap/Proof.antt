@@ -2,7 +2,7 @@
 use mathlib.Core.Path.{_∙_}
 use mathlib.Core.List.{[]}
 use borrow.Author.Needs.{needs}
-use Rattle.gcra.proofs.Answers.{answer-no, answer-passed, kept-no, changed-passed}
+use Rattle.questions.proofs.Answers.{answer-no, answer-passed, kept-no, changed-passed}
 use Rattle.limiter.specs.State.{LimiterTables, tables}
 use Rattle.limiter.specs.Calls.{stateQuestions}
 use Rattle.limiter.proofs.Checking.LiftLaws.{Passed}

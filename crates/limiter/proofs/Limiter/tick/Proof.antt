@@ -4,8 +4,9 @@ use mathlib.Core.List.{List, _++_}
 use native.Mathlib.Omega.{arith}
 use borrow.Author.Needs.{needs}
 use lib.Dec.{lit<}
-use Rattle.gcra.specs.Questions.{Question}
-use Rattle.limiter.specs.State.{LimiterTables, LimiterState, tables, base}
+use Rattle.questions.specs.Questions.{Question}
+use Rattle.gcra.specs.Packed.{unitNanos}
+use Rattle.limiter.specs.State.{LimiterTables, LimiterState, tables, parametersOf, settingsOf}
 use Rattle.limiter.specs.Checks.{clusterQuestions}
 use Rattle.limiter.specs.Ticks.{noOthers, tick}
 use Rattle.limiter.specs.Calls.{here, stateQuestions}
@@ -26,7 +27,7 @@ abbrev asks : tie.Start → List Question
 asks s = stateQuestions (s .args .self) (lent s) ++ clusterQuestions (s .args .cluster-size)
 
 abbrev after : tie.Start → LimiterState
-after s = tick base (s .args .reading) (s .args .cluster-size) (here (s .args .self) (lent s))
+after s = tick (parametersOf (settingsOf (s .args .self))) unitNanos (s .args .reading) (s .args .cluster-size) (here (s .args .self) (lent s))
 
 abbrev start : tie.After-ask-cluster → tie.Start
 start c = c .before .before .before .before .before .before .before
@@ -60,7 +61,7 @@ finish-tick-requires c κs =
     let p = asked e in
     let l = s .args .self in
     let n = s .args .cluster-size in
-    finishing l (lent s) (p .room) (p .ok) (noOthers n) (s .args .reading) n (k .pass-one .result) _ _ _
+    finishing l (lent s) (p .room) (p .ok) (parametersOf (settingsOf l)) (noOthers n) (s .args .reading) n (k .pass-one .result) _ _ _
     (k .pass-one .ensures (noOthers n) (none-elsewhere (l .keys) (s .args .keys .now) (few-keys l (lent s) (p .room) (p .ok) .0))) _ (omega arith)
     (size-passed n (p .rest))
 
@@ -75,7 +76,7 @@ returns-2 c =
     let n = s .args .cluster-size in
     let h = k .pass-one .ensures (noOthers n) (none-elsewhere (l .keys) (s .args .keys .now) (few-keys l (lent s) (p .room) (p .ok) .0)) in
     ticking-done (asks s) (after s) l (lent s) (d .finish-tick .result) _ (p .all)
-    (ticked l (lent s) (p .room) (p .ok) (noOthers n) (s .args .reading) n (k .pass-one .result) _ _ _ h true _ (even-share l n _ _)
+    (ticked l (lent s) (p .room) (p .ok) (parametersOf (settingsOf l)) (noOthers n) (s .args .reading) n (k .pass-one .result) _ _ _ h true _ (even-share l n _ _)
     (d .finish-tick .result) _ _ (d .finish-tick .ensures))
 
 pub tick-spec : {M : Type 1} → statement M

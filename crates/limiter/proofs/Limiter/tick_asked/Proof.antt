@@ -2,9 +2,9 @@
 use mathlib.Core.Bool.{false}
 use native.Mathlib.Omega.{arith}
 use borrow.Author.Needs.{needs}
-use Rattle.demand.specs.PeerState as peer-state
-use Rattle.demand.specs.PeerState.{PeerTables}
-use Rattle.limiter.specs.State.{LimiterTables, tables, settingsOf, stateOf}
+use Rattle.demand.specs.Peers.State as peer-state
+use Rattle.demand.specs.Peers.State.{PeerTables}
+use Rattle.limiter.specs.State.{LimiterTables, tables, parametersOf, settingsOf, stateOf}
 use Rattle.limiter.specs.Ticks.{Others, peersOthers}
 use Rattle.limiter.proofs.Checking.ReadyLaws.{few-keys, held-keys}
 use Rattle.limiter.proofs.PassOne.StartLaws.{pass-ready}
@@ -55,7 +55,7 @@ finish-tick-requires c κs =
     let p = asked s in
     let l = s .args .self in
     let n = s .args .cluster-size in
-    finishing l (lent s) (p .room) (p .ok) (others s) (s .args .reading) n (k .pass-one .result) _ _ _
+    finishing l (lent s) (p .room) (p .ok) (parametersOf (settingsOf l)) (others s) (s .args .reading) n (k .pass-one .result) _ _ _
     (k .pass-one .ensures (others s)
     (told-elsewhere (s .args .peers) (theirs s) (p .peers) (l .keys) (s .args .keys .now) _ _ _ (b .hot-elsewhere-of-each .ensures)
     (held-keys l (lent s) (p .room) (p .ok) .fit) (few-keys l (lent s) (p .room) (p .ok) .0)))
@@ -90,11 +90,11 @@ returns c =
     let h = k .pass-one .ensures (others s)
     (told-elsewhere (s .args .peers) (theirs s) (p .peers) (l .keys) (s .args .keys .now) _ _ _ (b .hot-elsewhere-of-each .ensures)
     (held-keys l (lent s) (p .room) (p .ok) .fit) (few-keys l (lent s) (p .room) (p .ok) .0)) in
-    let z = few l (lent s) (p .room) (p .ok) (others s) now n (k .pass-one .result) _ _ _ h in
+    let z = few l (lent s) (p .room) (p .ok) (parametersOf (settingsOf l)) (others s) now n (k .pass-one .result) _ _ _ h in
     let t = told-totals (s .args .peers) (theirs s) (p .peers) (k .pass-one .result .hot) _ _ _ _ (u .total-of-each .ensures) (h .hot-held .fit)
     (z .1) in
     let q = peers-share l (peer-state.stateOf (s .args .peers) (theirs s)) n _ _ (totals-of _ _ _ _ _ (h .hot-count) (h .hot-are) t) in
-    ticked l (lent s) (p .room) (p .ok) (others s) now n (k .pass-one .result) _ _ _ h false _ q (d .finish-tick .result) _ _
+    ticked l (lent s) (p .room) (p .ok) (parametersOf (settingsOf l)) (others s) now n (k .pass-one .result) _ _ _ h false _ q (d .finish-tick .result) _ _
     (d .finish-tick .ensures)
 
 pub tick-asked-spec : {M : Type 1} → statement M

@@ -1,7 +1,7 @@
 -- `Limiter::tracked` meets its contract.
 use mathlib.Core.List.{[]}
 use borrow.Author.Needs.{needs}
-use Rattle.gcra.proofs.Answers.{answer-no}
+use Rattle.questions.proofs.Answers.{answer-no}
 use Rattle.limiter.specs.State.{LimiterTables, tables, stateOf}
 use Rattle.limiter.specs.Calls.{stateQuestions}
 use Rattle.limiter.proofs.Checking.LiftLaws.{Passed}

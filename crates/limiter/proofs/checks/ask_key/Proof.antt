@@ -1,6 +1,6 @@
 -- `ask_key` meets its contract.
-use Rattle.gcra.proofs.Cases.{told-no, told-yes}
-use Rattle.gcra.proofs.Answers.{first-no, first-yes, first-none}
+use Rattle.questions.proofs.Tests.{told-no, told-yes}
+use Rattle.questions.proofs.Answers.{first-no, first-yes, first-none}
 use borrow.Author.Needs.{needs}
 use Rattle.limiter.proofs.checks.ask_key.Statement.{statement}
 use Rattle.limiter.proofs.checks.ask_key.Tie as tie

@@ -1,6 +1,6 @@
 -- `ask_limit` meets its contract.
-use Rattle.gcra.proofs.Cases.{told-no, told-yes}
-use Rattle.gcra.proofs.Answers.{first-no, first-yes}
+use Rattle.questions.proofs.Tests.{told-no, told-yes}
+use Rattle.questions.proofs.Answers.{first-no, first-yes}
 use borrow.Author.Needs.{needs}
 use Rattle.limiter.proofs.checks.ask_limit.Statement.{statement}
 use Rattle.limiter.proofs.checks.ask_limit.Tie as tie

@@ -5,11 +5,11 @@ use Prim.Native.Nat.{ℕ}
 use Rattle.gcra.specs.declared.Gcra.{Gcra}
 use Rattle.gcra.specs.declared.Checked.{Checked}
 use Rattle.gcra.specs.Packed.{unitNanos, validQuota}
-use Rattle.gcra.specs.Questions.{passes}
+use Rattle.questions.specs.Questions.{passes}
 use Rattle.gcra.specs.Meter.{decision, check}
 use Rattle.gcra.specs.Calls.{checkAnswer, askQuota, GcraChecks}
-use Rattle.gcra.proofs.Answers.{changed-passed}
-use Rattle.records.proofs.TestLaws.{and-intro}
+use Rattle.questions.proofs.Answers.{changed-passed}
+use Rattle.questions.proofs.Tests.{and-intro}
 use Rattle.limiter.proofs.Checking.KeyRecordLaws.{given-is, never-refused}
 use borrow.Author.Needs.{needs}
 use Rattle.limiter.proofs.checks.ask_meter.Statement.{statement}

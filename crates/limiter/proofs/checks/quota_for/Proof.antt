@@ -3,7 +3,7 @@ use mathlib.Core.Path.{refl, sym, ap}
 use mathlib.Core.List.{[], _∷_}
 use Rattle.gcra.specs.Packed.{unitNanos, validBurst}
 use Rattle.gcra.specs.Rate.{perSecond}
-use Rattle.gcra.specs.Questions.{_asks_, passes}
+use Rattle.questions.specs.Questions.{_asks_, passes}
 use Rattle.gcra.specs.Calls.{quotaAnswer, quotaPerSecond}
 use Rattle.limiter.proofs.Checking.KeyRecordLaws.{given-is, never-refused}
 use Rattle.limiter.proofs.Checking.CheckLaws.{any-burst}

@@ -2,7 +2,7 @@
 use mathlib.Core.Path.{sym, ap, _∙_, subst}
 use Prim.Native.Nat.{ℕ}
 use Rattle.gcra.specs.Packed.{validQuota}
-use Rattle.gcra.specs.Questions.{firstNo}
+use Rattle.questions.specs.Questions.{firstNo}
 use Rattle.limiter.specs.State.{KeyRecord}
 use Rattle.limiter.specs.Checks.{raised}
 use Rattle.limiter.specs.Steps.KeySteps.{units, keyRecord}

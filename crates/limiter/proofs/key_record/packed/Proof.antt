@@ -2,9 +2,9 @@
 use mathlib.Core.Path.{refl, sym, ap}
 use mathlib.Core.Bool.{true}
 use Rattle.gcra.specs.Packed.{unitNanos, validQuota, pack}
-use Rattle.gcra.specs.Questions.{passes}
+use Rattle.questions.specs.Questions.{passes}
 use Rattle.gcra.specs.Calls.{numberAnswer, askQuota, quotaPack}
-use Rattle.records.proofs.TestLaws.{and-intro}
+use Rattle.questions.proofs.Tests.{and-intro}
 use Rattle.limiter.proofs.Checking.KeyRecordLaws.{given-is, never-refused}
 use borrow.Author.Needs.{needs}
 use Rattle.limiter.proofs.key_record.packed.Statement.{statement}

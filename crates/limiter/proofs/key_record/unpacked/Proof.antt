@@ -3,9 +3,9 @@ use mathlib.Core.Path.{refl, sym, ap}
 use mathlib.Core.Bool.{true}
 use mathlib.Core.List.{[], _∷_}
 use Rattle.gcra.specs.Packed.{unitNanos, unpacks, unpack}
-use Rattle.gcra.specs.Questions.{_asks_, passes}
+use Rattle.questions.specs.Questions.{_asks_, passes}
 use Rattle.gcra.specs.Calls.{quotaAnswer, quotaUnpack}
-use Rattle.records.proofs.TestLaws.{and-intro}
+use Rattle.questions.proofs.Tests.{and-intro}
 use Rattle.limiter.proofs.Checking.KeyRecordLaws.{given-is, never-refused}
 use borrow.Author.Needs.{needs}
 use Rattle.limiter.proofs.key_record.unpacked.Statement.{statement}

@@ -1,7 +1,7 @@
 -- `decision_words` meets its contract.
 use mathlib.Core.Path.{sym, ap}
 use Rattle.gcra.specs.declared.Decision.{Decision}
-use Rattle.gcra.specs.Questions.{given}
+use Rattle.questions.specs.Questions.{given}
 use Rattle.limiter.specs.Calls.{answerWords}
 use borrow.Author.Needs.{needs}
 use Rattle.limiter.proofs.many_checks.decision_words.Statement.{statement}

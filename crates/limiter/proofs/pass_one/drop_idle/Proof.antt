@@ -10,7 +10,7 @@ returns c =
     let q = k .before .before .before .before .before in
     let m = q .before .before .before .before in
     let s = m .before .before .before .before .before .before .before in
-    dropped (s .args .reading) (s .args .n) (s .args .keys .now) (s .args .hots .now) (s .args .flags .now) _ (k .keep-flagged .result) _ _
+    dropped (s .args .silent) (s .args .reading) (s .args .n) (s .args .keys .now) (s .args .hots .now) (s .args .flags .now) _ (k .keep-flagged .result) _ _
     (s .pre .1 .0) (m .mark-busy .ensures) (q .copy-flagged .ensures) (k .keep-flagged .ensures)
 
 pub drop-idle-spec : {M : Type 1} → statement M

@@ -26,7 +26,7 @@ returns-2 c =
     let f = d .before in
     let e = cold d in
     let s = start e in
-    stays-demand (s .args .r .now) (s .args .reading) (s .args .hot) (e .if1 .left) (f .from-bits .result) (f .from-bits .ensures)
+    stays-demand (s .args .silent) (s .args .r .now) (s .args .reading) (s .args .hot) (e .if1 .left) (f .from-bits .result) (f .from-bits .ensures)
     (sym (d .is-demand .ensures) ∙ c .if2 .taken)
 
 returns-3 : tie.Need-returns-3
@@ -36,7 +36,7 @@ returns-3 c =
     let f = d .before in
     let e = cold d in
     let s = start e in
-    stays-pending (s .args .r .now) (s .args .reading) (s .args .hot) (e .if1 .left) (f .from-bits .result) (f .from-bits .ensures)
+    stays-pending (s .args .silent) (s .args .r .now) (s .args .reading) (s .args .hot) (e .if1 .left) (f .from-bits .result) (f .from-bits .ensures)
     (sym (d .is-demand .ensures) ∙ n .if2 .left) (c .if3 .taken)
 
 -- the key's words, once its attempts are read
@@ -60,7 +60,7 @@ returns-4 c =
     let f = d .before in
     let e = cold d in
     let s = start e in
-    stays-debt (s .args .r .now) (s .args .reading) (s .args .hot) (e .if1 .left) (f .from-bits .result) (f .from-bits .ensures)
+    stays-debt (s .args .silent) (s .args .r .now) (s .args .reading) (s .args .hot) (e .if1 .left) (f .from-bits .result) (f .from-bits .ensures)
     (sym (d .is-demand .ensures) ∙ n .if2 .left)
     (omega (arith, q .if3 .left)) (c .has-debt .result)
     (c .has-debt .ensures ∙ ap (λ (g : Gcra). hasDebt g (s .args .reading)) (m .meter-of-words .ensures))

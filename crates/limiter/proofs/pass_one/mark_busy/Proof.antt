@@ -10,10 +10,10 @@ use Rattle.limiter.proofs.pass_one.mark_busy.Statement.{statement}
 use Rattle.limiter.proofs.pass_one.mark_busy.Tie as tie
 
 abbrev Inv-loop : tie.InvT-loop
-Inv-loop keys n reading hots stays₀ i₀ stays i = Busy n keys reading hots stays₀ stays i
+Inv-loop keys n silent reading hots stays₀ i₀ stays i = Busy silent n keys reading hots stays₀ stays i
 
 abbrev μ-loop : tie.MeasureT-loop
-μ-loop keys n reading hots stays₀ i₀ stays i = n - i
+μ-loop keys n silent reading hots stays₀ i₀ stays i = n - i
 
 abbrev start : tie.In-loop Inv-loop μ-loop → tie.Start Inv-loop μ-loop
 start c = c .before .before .before .before .before
@@ -27,7 +27,7 @@ loop-again c =
     let l = c .before .before .before in
     let s = start l in
     let h = l .loop-test .taken in
-    busy-more _ _ _ _ _ _ _ (l .before .loop .inv) (s .pre .1) h (c .key-stays .result) _
+    busy-more _ _ _ _ _ _ _ _ (l .before .loop .inv) (s .pre .1) h (c .key-stays .result) _
     (lent-is (s .args .n) (s .args .keys .now) (l .before .loop .i) h) (c .key-stays .ensures)
 
 pub mark-busy-spec : {M : Type 1} → statement M
@@ -50,4 +50,4 @@ mark-busy-spec =
     (λ c. omega arith)
     loop-again
     (λ c. c .before .loop .inv .long)
-    (λ c. busy-all _ _ _ _ _ _ _ (c .before .loop .inv) (c .loop-test .left)))
+    (λ c. busy-all _ _ _ _ _ _ _ _ (c .before .loop .inv) (c .loop-test .left)))

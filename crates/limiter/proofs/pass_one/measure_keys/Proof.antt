@@ -9,16 +9,16 @@ use Rattle.limiter.proofs.pass_one.measure_keys.Statement.{statement}
 use Rattle.limiter.proofs.pass_one.measure_keys.Tie as tie
 
 abbrev Inv-loop : tie.InvT-loop
-Inv-loop keys n alpha cluster-size elsewhere demands₀ thresholds₀ flags₀ i₀ demands thresholds flags i =
-    Measuring n keys alpha cluster-size elsewhere demands₀ thresholds₀ flags₀ demands thresholds flags i
+Inv-loop keys n silent alpha cluster-size elsewhere demands₀ thresholds₀ flags₀ i₀ demands thresholds flags i =
+    Measuring silent n keys alpha cluster-size elsewhere demands₀ thresholds₀ flags₀ demands thresholds flags i
 
 abbrev μ-loop : tie.MeasureT-loop
-μ-loop keys n alpha cluster-size elsewhere demands₀ thresholds₀ flags₀ i₀ demands thresholds flags i = n - i
+μ-loop keys n silent alpha cluster-size elsewhere demands₀ thresholds₀ flags₀ i₀ demands thresholds flags i = n - i
 
 loop-holds : tie.Need-loop-holds Inv-loop μ-loop
 loop-holds c =
     let s = c .before .before .before .before .before in
-    measure-none _ _ _ _ _ _ _ _ (s .pre .0 .1) (s .pre .1 .0) (s .pre .1 .1) (s .pre .1 .2)
+    measure-none _ _ _ _ _ _ _ _ _ (s .pre .0 .1) (s .pre .1 .0) (s .pre .1 .1) (s .pre .1 .2)
 
 -- the record is within the words
 inside : (c : tie.In-loop Inv-loop μ-loop)
@@ -38,7 +38,7 @@ loop-again c =
     let x = c .before .before in
     let f = first x in
     let l = read f in
-    measure-more _ _ _ _ _ _ _ _ _ _ _ _ (l .before .loop .inv) (l .loop-test .taken) (f .from-bits .result) (x .from-bits2 .result)
+    measure-more _ _ _ _ _ _ _ _ _ _ _ _ _ (l .before .loop .inv) (l .loop-test .taken) (f .from-bits .result) (x .from-bits2 .result)
     (f .from-bits .ensures) (x .from-bits2 .ensures) (c .is-elsewhere .result) (c .is-elsewhere .ensures)
 
 pub measure-keys-spec : {M : Type 1} → statement M
@@ -70,4 +70,4 @@ measure-keys-spec =
     (λ c. c .before .loop .inv .demand-rates .long)
     (λ c. c .before .loop .inv .cold-rates .long)
     (λ c. c .before .loop .inv .elsewhere-flags .long)
-    (λ c. measure-all _ _ _ _ _ _ _ _ _ _ _ _ (c .before .loop .inv) (c .loop-test .left)))
+    (λ c. measure-all _ _ _ _ _ _ _ _ _ _ _ _ _ (c .before .loop .inv) (c .loop-test .left)))

@@ -1,16 +1,28 @@
 -- `pass_one` meets its contract.
 use mathlib.Core.Bool.{true}
-use mathlib.Core.Path.{_≡_}
+use mathlib.Core.Path.{_≡_, ap}
 use borrow.Author.Needs.{needs}
-use Rattle.demand.specs.PeerState.{isWord}
+use Rattle.demand.specs.HotSet.Calls.{evictionMargin}
+use Rattle.records.specs.Typed.{isWord}
+use Rattle.limiter.specs.declared.Parameters.{Parameters}
 use Rattle.limiter.specs.Steps.TickSteps.{HeldKeys}
 use Rattle.limiter.proofs.States.RecordValidLaws.{word-of}
 use Rattle.limiter.proofs.PassOne.PassLaws.{passing-held, passes}
 use Rattle.limiter.proofs.pass_one.pass_one.Statement.{statement}
 use Rattle.limiter.proofs.pass_one.pass_one.Tie as tie
 
+abbrev given : tie.After-fold-keys → tie.After-parameters-of
+given c = c .before .before
+
 abbrev start : tie.After-fold-keys → tie.Start
-start c = c .before .before .before .before .before .before
+start c = given c .before .before .before .before .before
+
+-- the parameters, which have the eviction margin that `update_each` has
+abbrev par : tie.After-fold-keys → Parameters
+par c = given c .parameters-of .result
+
+margin : (c : tie.After-fold-keys) → par c .«eviction_margin» ≡ evictionMargin
+margin c = ap (λ (x : Parameters). x .«eviction_margin») (given c .parameters-of .ensures)
 
 abbrev folded : tie.After-hots → tie.After-fold-keys
 folded c = c .before .before .before .before .before .before .before
@@ -26,7 +38,7 @@ reads s = word-of (s .fits .reading .fits)
 held : (c : tie.After-fold-keys) → HeldKeys (start c .args .limiter .keys) (c .fold-keys .last .0)
 held c =
     let s = start c in
-    passing-held (s .args .limiter) (s .args .keys .now) (s .args .hot .now) (s .args .elsewhere .now) (s .args .reading) (s .args .cluster-size)
+    passing-held (par c) (margin c) (s .args .limiter) (s .args .keys .now) (s .args .hot .now) (s .args .elsewhere .now) (s .args .reading) (s .args .cluster-size)
     (s .pre) (reads s) _ (c .fold-keys .ensures)
 
 update-hot-requires : tie.Need-update-hot-requires
@@ -47,15 +59,16 @@ returns c =
     let u = updated (d .before) in
     let f = folded (u .before) in
     let s = start f in
-    passes (s .args .limiter) (s .args .keys .now) (s .args .hot .now) (s .args .elsewhere .now) (s .args .reading) (s .args .cluster-size) (s .pre)
-    (reads s) _ (f .fold-keys .ensures)
+    passes (par f) (margin f) (s .args .limiter) (s .args .keys .now) (s .args .hot .now) (s .args .elsewhere .now) (s .args .reading)
+    (s .args .cluster-size) (s .pre) (reads s) _ (f .fold-keys .ensures) _ (given f .parameters-of .ensures)
     (record { keys = d .drop-idle .result; hot = u .update-hot .result }) _ _ _ _ _ (u .update-hot .ensures) (d .drop-idle .ensures)
 
 pub pass-one-spec : {M : Type 1} → statement M
 pass-one-spec =
     tie.close
     (tie.spec
-    (λ c κs. c .before .before .before .before .before .pre .keys-held)
+    (λ c κs. search needs)
+    (λ c κs. c .before .before .before .before .before .before .pre .keys-held)
     (λ c. search needs)
     (λ c. search needs)
     update-hot-requires

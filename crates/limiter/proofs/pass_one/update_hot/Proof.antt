@@ -21,7 +21,7 @@ returns c =
     let z = sized m in
     let s = start z in
     let p = s .pre in
-    each-done (s .args .limiter) (s .args .reading) (s .args .cluster-size) (s .args .keys .now) (s .args .hot .now) (s .args .elsewhere .now)
+    each-done (s .args .silent) (s .args .limiter) (s .args .reading) (s .args .cluster-size) (s .args .keys .now) (s .args .hot .now) (s .args .elsewhere .now)
     (p .0 .0) (p .0 .1) (p .1 .0) _ (z .u64-to-f64 .ensures) _ _ _ (m .measure-keys .ensures) _ (p .1 .2) _ _ _ (u .update-each .ensures)
     (g .left .given .0 .0) (g .left .given .1)
 
@@ -32,7 +32,7 @@ returns-2 c =
     let z = sized m in
     let s = start z in
     let p = s .pre in
-    each-never (s .args .limiter) (s .args .reading) (s .args .cluster-size) (s .args .keys .now) (s .args .hot .now) (s .args .elsewhere .now)
+    each-never (s .args .silent) (s .args .limiter) (s .args .reading) (s .args .cluster-size) (s .args .keys .now) (s .args .hot .now) (s .args .elsewhere .now)
     (p .0 .0) (p .0 .1) (p .1 .0) _ (z .u64-to-f64 .ensures) _ _ _ (m .measure-keys .ensures) _ (p .1 .2) _ _ _ (u .update-each .ensures) _
     (c .enum-told .given .1)
 

@@ -5,8 +5,8 @@ use native.Mathlib.Omega.{arith}
 use borrow.Author.Needs.{needs}
 use lib.ListN.{length}
 use Rattle.demand.specs.Allocation.{isRate}
-use Rattle.demand.specs.HotSet.{entries}
-use Rattle.demand.proofs.HotSetWords.{length-entries}
+use Rattle.demand.specs.HotSet.Set.{entries}
+use Rattle.demand.proofs.HotSet.Words.{length-entries}
 use Rattle.limiter.proofs.PassTwo.QuotaLaws.{row-long, limit-passes}
 use Rattle.limiter.proofs.PassTwo.RateLaws.{found-within, rate-found, rate-absent, rate-fit}
 use Rattle.limiter.proofs.pass_two.key_rate.Statement.{statement}

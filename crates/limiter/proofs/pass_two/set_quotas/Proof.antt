@@ -7,7 +7,7 @@ use native.Mathlib.Omega.{arith}
 use Prim.Native.Nat.{ℕ}
 use lib.ListN.{length, getD}
 use Rattle.gcra.specs.Packed.{unitNanos}
-use Rattle.demand.specs.HotSet.{entries}
+use Rattle.demand.specs.HotSet.Set.{entries}
 use Rattle.limiter.specs.State.{keyWords}
 use Rattle.limiter.specs.Steps.TickSteps.{keyRecord, keyRecords}
 use Rattle.limiter.specs.Steps.PassTwoSteps.{rateBy, quotaRow, requoted}

@@ -6,7 +6,7 @@ use native.Mathlib.Omega.{arith}
 use borrow.Author.Needs.{needs}
 use Rattle.records.specs.declared.Found.the-variants.{At}
 use Rattle.records.specs.Records.{findIn}
-use Rattle.demand.specs.PeerLists.{first}
+use Rattle.questions.specs.Lists.{first}
 use Rattle.limiter.specs.Steps.KeySteps.{Readable}
 use Rattle.limiter.proofs.Checking.KeyTableLaws.{readable-found, those-key, no-key, never-unfit-key}
 use Rattle.limiter.proofs.readers.find_key.Statement.{statement}

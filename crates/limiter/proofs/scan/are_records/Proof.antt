@@ -8,7 +8,7 @@ use lib.ListN.{length, length-take, length-drop, take, drop, getD}
 use Rattle.records.specs.Records.{records}
 use Rattle.records.proofs.RecordLaws.{row, record-at}
 use Rattle.gcra.specs.Packed.{unitNanos}
-use Rattle.gcra.proofs.Cases.{told-no, told-yes}
+use Rattle.questions.proofs.Tests.{told-no, told-yes}
 use Rattle.limiter.specs.Steps.Scan.{areWords}
 use Rattle.limiter.proofs.Validity.ScanTableLaws.{Scanned, scan-start, scan-step, scan-done, scan-order, scan-record}
 use Rattle.limiter.proofs.scan.are_records.Statement.{statement}

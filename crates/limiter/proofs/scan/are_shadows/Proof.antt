@@ -1,7 +1,7 @@
 -- `are_shadows` meets its contract.
 use mathlib.Core.Path.{refl, _∙_}
 use native.Mathlib.Omega.{arith}
-use Rattle.gcra.proofs.Cases.{told-no, told-yes}
+use Rattle.questions.proofs.Tests.{told-no, told-yes}
 use Rattle.gcra.specs.Packed.{unitNanos}
 use Rattle.limiter.specs.Steps.Scan.{areWords}
 use Rattle.limiter.proofs.Validity.MergeLaws.{too-many, not-records, by-merge}

@@ -24,10 +24,10 @@ abbrev demand : tie.Start → Estimate
 demand s = folded (s .args .time-constant) (s .args .reading) (key s .demand)
 
 abbrev requests : tie.Start → Estimate
-requests s = folded 10_000_000_000 (s .args .reading) (key s .requests)
+requests s = folded (s .args .denial-time-constant) (s .args .reading) (key s .requests)
 
 abbrev denials : tie.Start → Estimate
-denials s = folded 10_000_000_000 (s .args .reading) (key s .denials)
+denials s = folded (s .args .denial-time-constant) (s .args .reading) (key s .denials)
 
 -- the words after each call
 first : (c : tie.After-fold-estimate) → let s = start (c .before) in c .fold-estimate .last .0 ≡ keyWords unitNanos (withEstimates (key s) (demand s) (key s .requests) (key s .denials) (key s .shadowDenials))
@@ -42,7 +42,7 @@ second : (c : tie.After-fold-estimate2) → let s = start (one (c .before) .befo
 second c =
     let f = one (c .before) in
     let s = start (f .before) in
-    folded-7 (key s) (demand s) (key s .requests) (key s .denials) (key s .shadowDenials) _ (first f) (good s .requests) _ _ 10_000_000_000 (s .args .reading) (s .pre .1 .denials-for) (c .fold-estimate2 .ensures .1)
+    folded-7 (key s) (demand s) (key s .requests) (key s .denials) (key s .shadowDenials) _ (first f) (good s .requests) _ _ (s .args .denial-time-constant) (s .args .reading) (s .pre .1 .denials-for) (c .fold-estimate2 .ensures .1)
 
 abbrev two : tie.After-fold-estimate-arg3 → tie.After-fold-estimate2
 two c = c .before .before .before
@@ -51,7 +51,7 @@ third : (c : tie.After-fold-estimate3) → let s = start (one (two (c .before) .
 third c =
     let f = two (c .before) in
     let s = start (one (f .before) .before) in
-    folded-11 (key s) (demand s) (requests s) (key s .denials) (key s .shadowDenials) _ (second f) (good s .denials) _ _ 10_000_000_000 (s .args .reading) (f .fold-estimate2 .ensures .0 .0 ∙ s .pre .1 .denials-for) (c .fold-estimate3 .ensures .1)
+    folded-11 (key s) (demand s) (requests s) (key s .denials) (key s .shadowDenials) _ (second f) (good s .denials) _ _ (s .args .denial-time-constant) (s .args .reading) (f .fold-estimate2 .ensures .0 .0 ∙ s .pre .1 .denials-for) (c .fold-estimate3 .ensures .1)
 
 abbrev three : tie.After-fold-estimate-arg4 → tie.After-fold-estimate3
 three c = c .before .before .before
@@ -97,7 +97,7 @@ returns c =
         denials-for = for;
         denials = h .fold-estimate4 .ensures .0 .1;
       },
-      folded-15 (key s) (demand s) (requests s) (denials s) (key s .shadowDenials) _ (third g) (good s .shadowDenials) _ _ 10_000_000_000 (s .args .reading)
+      folded-15 (key s) (demand s) (requests s) (denials s) (key s .shadowDenials) _ (third g) (good s .shadowDenials) _ _ (s .args .denial-time-constant) (s .args .reading)
           (g .fold-estimate3 .ensures .0 .0 ∙ f .fold-estimate2 .ensures .0 .0 ∙ s .pre .1 .denials-for) (h .fold-estimate4 .ensures .1),
     )
 

@@ -2,7 +2,7 @@
 use mathlib.Core.Path.{ap, _∙_}
 use lib.Ieee.{Float}
 use borrow.Author.Needs.{needs}
-use Rattle.demand.specs.Estimator.{foldedBy}
+use Rattle.demand.specs.Estimators.Estimator.{foldedBy}
 use Rattle.limiter.specs.State.{floatWord}
 use Rattle.limiter.proofs.ticks.folded_by.Statement.{statement}
 use Rattle.limiter.proofs.ticks.folded_by.Tie as tie

@@ -4,7 +4,7 @@ use mathlib.Core.List.{List, map}
 use native.Mathlib.Omega.{arith}
 use lib.ListN.{drop}
 use Rattle.records.specs.Records.{records}
-use Rattle.demand.specs.HotSet.{entries}
+use Rattle.demand.specs.HotSet.Set.{entries}
 use Rattle.limiter.specs.Steps.TickSteps.{keyRecord, keyRank}
 use Rattle.limiter.proofs.Walking.RowLaws.{rows-from, rows-done}
 use Rattle.limiter.proofs.Walking.CutLaws.{Filling, fill-none, fill-more, fill-all}

@@ -3,10 +3,10 @@ use mathlib.Core.Path.{refl, sym, ap, _∙_}
 use mathlib.Core.Bool.{true}
 use lib.Ieee.{Float, binary64, mul, div}
 use Rattle.gcra.specs.Packed.{unitNanos, validQuota}
-use Rattle.gcra.specs.Questions.{passes}
+use Rattle.questions.specs.Questions.{passes}
 use Rattle.gcra.specs.Rate.{perSecond, ratePerSec}
 use Rattle.gcra.specs.Calls.{rateAnswer, askQuota, quotaRate}
-use Rattle.records.proofs.TestLaws.{and-intro}
+use Rattle.questions.proofs.Tests.{and-intro}
 use Rattle.limiter.specs.Checks.{shadowQuota}
 use Rattle.limiter.proofs.Checking.KeyRecordLaws.{given-is, never-refused}
 use borrow.Author.Needs.{needs}

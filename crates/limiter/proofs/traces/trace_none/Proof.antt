@@ -3,8 +3,9 @@ use mathlib.Core.Path.{refl, sym, ap, _∙_}
 use mathlib.Core.Option.{none}
 use Rattle.gcra.specs.Meter.{decision}
 use Rattle.gcra.specs.Calls.{checkAnswer}
-use Rattle.gcra.proofs.Answers.{given-passed}
-use Rattle.limiter.specs.State.{base, KeyRecord}
+use Rattle.questions.proofs.Answers.{given-passed}
+use Rattle.gcra.specs.Packed.{unitNanos}
+use Rattle.limiter.specs.State.{KeyRecord}
 use Rattle.limiter.specs.Checks.{entry}
 use Rattle.limiter.specs.Steps.CheckSteps.{keysOnly}
 use Rattle.limiter.specs.Steps.TraceSteps.{tracedAsks}
@@ -15,7 +16,7 @@ use Rattle.limiter.proofs.traces.trace_none.Tie as tie
 
 -- the key of the call
 abbrev found : tie.Start → KeyRecord
-found s = entry base (keysOnly (s .args .limiter) (s .args .keys .now)) (s .args .key) (s .args .limit) (s .args .reading) (s .args .cluster-size)
+found s = entry unitNanos (keysOnly (s .args .limiter) (s .args .keys .now)) (s .args .key) (s .args .limit) (s .args .reading) (s .args .cluster-size)
 
 returns : tie.Need-returns
 returns c =

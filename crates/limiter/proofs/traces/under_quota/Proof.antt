@@ -4,11 +4,11 @@ use mathlib.Core.Bool.{true, _&&_}
 use Rattle.gcra.specs.declared.Gcra.{Gcra}
 use Rattle.gcra.specs.declared.Quota.{Quota}
 use Rattle.gcra.specs.Packed.{unitNanos, validQuota}
-use Rattle.gcra.specs.Questions.{passes}
+use Rattle.questions.specs.Questions.{passes}
 use Rattle.gcra.specs.Rate.{setQuota}
 use Rattle.gcra.specs.Calls.{askQuotas}
-use Rattle.gcra.proofs.Answers.{changed-passed}
-use Rattle.records.proofs.TestLaws.{and-intro}
+use Rattle.questions.proofs.Answers.{changed-passed}
+use Rattle.questions.proofs.Tests.{and-intro}
 use borrow.Author.Needs.{needs}
 use Rattle.limiter.proofs.traces.under_quota.Statement.{statement}
 use Rattle.limiter.proofs.traces.under_quota.Tie as tie

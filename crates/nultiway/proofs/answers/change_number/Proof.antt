@@ -1,7 +1,7 @@
 -- `change_number` meets its contract.
 use mathlib.Core.Path.{sym, ap}
 use borrow.Author.Needs.{needs}
-use Rattle.demand.specs.PeerCalls.{changeAnswer}
+use Rattle.demand.specs.Peers.Calls.{changeAnswer}
 use Rattle.demand.specs.declared.peer_demand.ChangeAnswer.{ChangeAnswer}
 use Rattle.nultiway.specs.Calls.{numberOf}
 use Rattle.nultiway.proofs.answers.change_number.Statement.{statement}

@@ -4,8 +4,8 @@ use mathlib.Core.List.{[], _∷_}
 use mathlib.Core.Path.{ap, _∙_}
 use borrow.Author.Needs.{needs}
 use Rattle.records.specs.Words.{paste}
-use Rattle.demand.specs.PeerCalls.{flagAnswer}
-use Rattle.demand.specs.declared.peer_demand.FlagAnswer.{FlagAnswer}
+use Rattle.demand.specs.Answers.{flagAnswer}
+use Rattle.demand.specs.declared.answers.FlagAnswer.{FlagAnswer}
 use Rattle.nultiway.specs.Calls.{flagWords}
 use Rattle.nultiway.proofs.CallLaws.{said-put}
 use Rattle.nultiway.proofs.answers.put_flag.Statement.{statement}

@@ -1,8 +1,8 @@
 -- `put_len` meets its contract.
 use mathlib.Core.Path.{ap}
 use borrow.Author.Needs.{needs}
-use Rattle.demand.specs.declared.peer_demand.LenAnswer.{LenAnswer}
-use Rattle.demand.specs.PeerCalls.{lenAnswer}
+use Rattle.demand.specs.declared.answers.LenAnswer.{LenAnswer}
+use Rattle.demand.specs.Answers.{lenAnswer}
 use Rattle.nultiway.specs.Calls.{oneWord}
 use Rattle.nultiway.proofs.CallLaws.{said-put}
 use Rattle.nultiway.proofs.answers.put_len.Statement.{statement}

@@ -1,8 +1,8 @@
 -- `put_since` meets its contract.
 use mathlib.Core.Path.{ap}
 use borrow.Author.Needs.{needs}
-use Rattle.demand.specs.HotSetCalls.{sinceAnswer}
-use Rattle.demand.specs.Words.{timeWords}
+use Rattle.demand.specs.HotSet.Calls.{sinceAnswer}
+use Rattle.records.specs.Fields.{timeWords}
 use Rattle.demand.specs.declared.hot_set.SinceAnswer.{SinceAnswer}
 use Rattle.nultiway.proofs.CallLaws.{said-put}
 use Rattle.nultiway.proofs.answers.put_since.Statement.{statement}

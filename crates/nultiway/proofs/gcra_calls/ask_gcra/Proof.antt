@@ -1,6 +1,6 @@
 -- Question by question.
 use borrow.Author.Needs.{needs}
-use Rattle.gcra.proofs.Cases.{told-no, told-yes}
+use Rattle.questions.proofs.Tests.{told-no, told-yes}
 use mathlib.Core.Path.{refl}
 use Rattle.nultiway.proofs.GcraWordLaws.{asked-short, asked-small, asked-other, asked-none}
 use Rattle.nultiway.proofs.gcra_calls.ask_gcra.Statement.{statement}

@@ -3,10 +3,10 @@ use borrow.Author.Needs.{needs}
 use mathlib.Core.Path.{refl}
 use mathlib.Core.List.{[]}
 use lib.ListN.{length}
-use Rattle.gcra.proofs.Cases.{told-no, told-yes}
-use Rattle.gcra.proofs.Answers.{first-no}
+use Rattle.questions.proofs.Tests.{told-no, told-yes}
+use Rattle.questions.proofs.Answers.{first-no}
 use Rattle.nultiway.proofs.CallLaws.{refused-call, passed-call, room-passed, one}
-use Rattle.nultiway.proofs.ImageCallLaws.{both-long}
+use Rattle.nultiway.proofs.RoomLaws.{both-long}
 use Rattle.nultiway.proofs.image_calls.nultiway_load.Statement.{statement}
 use Rattle.nultiway.proofs.image_calls.nultiway_load.Tie as tie
 

@@ -6,7 +6,8 @@ use mathlib.Core.Bool.{_&&_}
 use lib.Dec.{leb}
 use lib.ListN.{length}
 use Rattle.nultiway.proofs.CallLaws.{refused-call, passed-call, Open, opened, tells}
-use Rattle.nultiway.proofs.ImageCallLaws.{asked-with, both-long, both-read}
+use Rattle.nultiway.proofs.ImageCallLaws.{asked-with, both-read}
+use Rattle.nultiway.proofs.RoomLaws.{both-long}
 use Rattle.nultiway.proofs.image_calls.nultiway_save.Statement.{statement}
 use Rattle.nultiway.proofs.image_calls.nultiway_save.Tie as tie
 

@@ -2,8 +2,8 @@
 use mathlib.Core.Bool.{true}
 use mathlib.Core.Path.{ap, _∙_}
 use borrow.Author.Needs.{needs}
-use Rattle.gcra.proofs.Answers.{first-more, first-rest}
-use Rattle.gcra.specs.Questions.{firstNo}
+use Rattle.questions.proofs.Answers.{first-more, first-rest}
+use Rattle.questions.specs.Questions.{firstNo}
 use Rattle.limiter.specs.Calls.{stateQuestions}
 use Rattle.limiter.specs.State.{LimiterTables, tables}
 use Rattle.limiter.specs.declared.Limiter.{Limiter}

@@ -15,15 +15,6 @@ start a = a .before .before .before .before .before .before
 passed : (e : tie.Else1) → let s = start (e .before) in Open (s .args .limiter .now) (leb 4 (length (s .args .answer .now)))
 passed e = opened _ _ _ (e .before .ask-limiter .ensures) (e .if1 .left)
 
-returns : tie.Need-returns
-returns c = refused-call _ _ (c .before .ask-limiter .ensures) (c .if1 .taken) refl
-
-limiter-of-requires : tie.Need-limiter-of-requires
-limiter-of-requires c κs = passed c .long
-
-put-rates-requires : tie.Need-put-rates-requires
-put-rates-requires c κs = leb-true _ _ (passed (c .before .before .before) .others)
-
 returns-2 : tie.Need-returns-2
 returns-2 c =
     let n = c .before .before in
@@ -38,9 +29,9 @@ nultiway-key-rates-spec =
     tie.close
     (tie.spec
     (λ c κs. search needs)
-    returns
-    limiter-of-requires
+    (λ c. refused-call _ _ (c .before .ask-limiter .ensures) (c .if1 .taken) refl)
+    (λ c κs. passed c .long)
     (λ c κs. search needs)
-    put-rates-requires
+    (λ c κs. leb-true _ _ (passed (c .before .before .before) .others))
     (λ c. search needs)
     returns-2)

@@ -4,7 +4,7 @@ use Prim.Native.Nat.{ℕ}
 use mathlib.Core.Path.{refl, ap, _∙_}
 use mathlib.Core.List.{List}
 use Rattle.records.specs.Words.{paste}
-use Rattle.gcra.specs.Questions.{given}
+use Rattle.questions.specs.Questions.{given}
 use Rattle.nultiway.proofs.RoomLaws.{called-short, called-room}
 use Rattle.nultiway.proofs.GcraWordLaws.{step-words}
 use Rattle.nultiway.proofs.lone_calls.nultiway_step.Statement.{statement}

@@ -1,7 +1,7 @@
 -- By the answer.
 use borrow.Author.Needs.{needs}
 use mathlib.Core.Path.{ap}
-use Rattle.demand.specs.PeerCalls.{peersAnswer}
+use Rattle.demand.specs.Peers.Calls.{peersAnswer}
 use Rattle.nultiway.proofs.CallLaws.{said-put}
 use Rattle.nultiway.proofs.peer_answers.put_new_peers.Statement.{statement}
 use Rattle.nultiway.proofs.peer_answers.put_new_peers.Tie as tie

@@ -3,15 +3,12 @@ use borrow.Author.Needs.{needs}
 use mathlib.Core.Path.{refl}
 use mathlib.Core.List.{[]}
 use lib.ListN.{length}
-use Rattle.gcra.proofs.Cases.{told-no, told-yes}
-use Rattle.gcra.proofs.Answers.{first-no}
+use Rattle.questions.proofs.Tests.{told-no, told-yes}
+use Rattle.questions.proofs.Answers.{first-no}
 use Rattle.nultiway.proofs.CallLaws.{refused-call, passed-call, room-passed, one, tells}
-use Rattle.nultiway.proofs.ImageCallLaws.{both-long}
+use Rattle.nultiway.proofs.RoomLaws.{both-long}
 use Rattle.nultiway.proofs.peer_calls.nultiway_peers_hot_elsewhere.Statement.{statement}
 use Rattle.nultiway.proofs.peer_calls.nultiway_peers_hot_elsewhere.Tie as tie
-
-returns : tie.Need-returns
-returns c = refused-call _ 1 (first-no 1 [] (told-no (c .before .are-long .ensures) (c .if1 .taken))) one refl
 
 peers-of-requires : tie.Need-peers-of-requires
 peers-of-requires c κs =
@@ -40,7 +37,7 @@ nultiway-peers-hot-elsewhere-spec =
     tie.close
     (tie.spec
     (λ c κs. search needs)
-    returns
+    (λ c. refused-call _ 1 (first-no 1 [] (told-no (c .before .are-long .ensures) (c .if1 .taken))) one refl)
     peers-of-requires
     (λ c κs. search needs)
     put-flag-requires

@@ -5,9 +5,8 @@ use borrow.Author.Needs.{needs}
 use borrow.Author.Tests.{le-leb, lt-leb}
 use lib.Dec.{leb}
 use lib.ListN.{length}
-use Rattle.records.proofs.TestLaws.{and-intro, and-first, and-second}
-use Rattle.gcra.proofs.Cases.{told-no, told-yes}
-use Rattle.gcra.proofs.Answers.{first-no, first-yes, first-none}
+use Rattle.questions.proofs.Tests.{and-intro, and-first, and-second, told-no, told-yes}
+use Rattle.questions.proofs.Answers.{first-no, first-yes, first-none}
 use Rattle.nultiway.proofs.values.ask_limiter.Statement.{statement}
 use Rattle.nultiway.proofs.values.ask_limiter.Tie as tie
 

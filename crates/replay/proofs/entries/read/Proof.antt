@@ -44,17 +44,17 @@ use denote.Triple.Walked.{Stays, stay-dropped, walkOf, goes-dropped, Walks, ends
 use denote.Exit.{yes}
 use Rattle.demand.specs.declared.hot_set.HotEntry.{HotEntry}
 use Rattle.demand.specs.declared.hot_set.HotSet.{HotSet}
-use Rattle.demand.specs.declared.hot_set.TestAnswer.{TestAnswer}
+use Rattle.demand.specs.declared.answers.FlagAnswer.{FlagAnswer}
 use Rattle.demand.specs.declared.hot_set.SinceAnswer.{SinceAnswer}
-use Rattle.demand.specs.declared.hot_set.LenAnswer.{LenAnswer}
+use Rattle.demand.specs.declared.answers.LenAnswer.{LenAnswer}
 use Rattle.demand.proofs.hot_set.HotSet as S
 use Rattle.demand.proofs.hot_set.HotSet.Laws as S′
-use Rattle.demand.proofs.hot_set.TestAnswer as T
-use Rattle.demand.proofs.hot_set.TestAnswer.Laws as T′
+use Rattle.demand.proofs.answers.FlagAnswer as T
+use Rattle.demand.proofs.answers.FlagAnswer.Laws as T′
 use Rattle.demand.proofs.hot_set.SinceAnswer as N
 use Rattle.demand.proofs.hot_set.SinceAnswer.Laws as N′
-use Rattle.demand.proofs.hot_set.LenAnswer as L
-use Rattle.demand.proofs.hot_set.LenAnswer.Laws as L′
+use Rattle.demand.proofs.answers.LenAnswer as L
+use Rattle.demand.proofs.answers.LenAnswer.Laws as L′
 use Rattle.hot_lent.proofs.Rows.{R}
 use Rattle.hot_lent.proofs.is_hot as hot′
 use Rattle.hot_lent.proofs.is_hot.Symbol as hot-def
@@ -75,8 +75,7 @@ use Rattle.hot_lent.proofs.len.Met as len-thm
 use Rattle.replay.specs.declared.entries.Readings.{Readings}
 use Rattle.replay.proofs.entries.Readings as G
 use Rattle.replay.proofs.entries.Readings.Laws as G′
-use Rattle.replay.proofs.Lends.{Entries, entries-type, entries-vals, entries-mach, entries-tells, entries-lawful}
-use Rattle.replay.proofs.Lends.{LentShr, lends-shr, back-shr}
+use Rattle.replay.proofs.Lends.{Entries, entries-type, entries-vals, entries-mach, entries-tells, entries-lawful, LentShr, lends-shr, back-shr}
 use Rattle.replay.proofs.entries.all_four as four′
 use Rattle.replay.proofs.entries.all_four.Symbol as four-def
 use Rattle.replay.proofs.entries.all_four.Symbol.{name as #all-four}
@@ -164,9 +163,9 @@ module _ {M : Type 1} (𝓤 : URA M) (H : Heap 𝓤) (A : Atoms 𝓤) (W : Given
         owned ! S.the-row (Is S.the-row) (LL.makes S.the-type S′.the-plain 𝓤 H A) st _ st-is $ fjoin ! $
         nothing ! $ move ! (2 ∷ 0 ∷ []) $ join ! $ join ! $ frame ! $ done !
 
-  module _ (r₁ r₂ : TestAnswer) (r₃ : SinceAnswer) (r₄ : LenAnswer) (w₁ w₂ w₃ w₄ : Val) (is₁ : Is T.the-row r₁ (w₁ ∷ [])) (is₂ : Is T.the-row r₂ (w₂
+  module _ (r₁ r₂ : FlagAnswer) (r₃ : SinceAnswer) (r₄ : LenAnswer) (w₁ w₂ w₃ w₄ : Val) (is₁ : Is T.the-row r₁ (w₁ ∷ [])) (is₂ : Is T.the-row r₂ (w₂
       ∷ [])) (is₃ : Is N.the-row r₃ (w₃ ∷ [])) (is₄ : Is L.the-row r₄ (w₄ ∷ [])) where
-    abbrev answers : TestAnswer × (TestAnswer × (SinceAnswer × (LenAnswer × Unit {0})))
+    abbrev answers : FlagAnswer × (FlagAnswer × (SinceAnswer × (LenAnswer × Unit {0})))
     answers = (r₁, (r₂, (r₃, (r₄, tt))))
 
     abbrev to-four : Four 𝓤 H A mem run .Ghost
@@ -221,7 +220,7 @@ module _ {M : Type 1} (𝓤 : URA M) (H : Heap 𝓤) (A : Atoms 𝓤) (W : Given
         use2 W (raw (Hot 𝓤 H A mem run .pre (to-hot α l₄ γ))) (goes-hot α l₄ γ) $
         calls-at ! fm (Hot 𝓤 H A mem run) known-hot (to-hot α l₄ γ) (and-then ! (load ! (from ! (stop !)) (look ! 30 refl)) (and-then ! (load !
         (from ! (stop !)) (look ! 15 refl)) (and-then ! (load ! (from ! (stop !)) (look ! 28 refl)) (no-more !)))) (λ w₁.
-        use1 W (later (some (λ (r : TestAnswer). ((‵ (flft (α ∷ []) fullShare) ⊛ ‵ ftrue) ⊛ ‵ (T.the-row .own r (w₁ ∷ []))) ⊛ raw (ensured 𝓤 H A
+        use1 W (later (some (λ (r : FlagAnswer). ((‵ (flft (α ∷ []) fullShare) ⊛ ‵ ftrue) ⊛ ‵ (T.the-row .own r (w₁ ∷ []))) ⊛ raw (ensured 𝓤 H A
         hot′.ended (hot′.clauses 𝓤 H A mem run) (α ∷ [], tt) (args α l₄ γ) tt r)))) (id⊢ 𝓤 _) $ await ! tt $ pick ! (λ r₁. split ! $ move ! (1 ∷ [])
         $ drop ! $ split ! $ move ! (1 ∷ []) $
         facts ! T.the-row (Is T.the-row) (shows 𝓤 H A T.the-row) r₁ (w₁ ∷ []) (λ is₁.
@@ -236,7 +235,7 @@ module _ {M : Type 1} (𝓤 : URA M) (H : Heap 𝓤) (A : Atoms 𝓤) (W : Given
         use2 W (raw (Primary 𝓤 H A mem run .pre (to-hot α l₄ γ))) (goes-hot α l₄ γ) $
         calls-at ! fm (Primary 𝓤 H A mem run) known-primary (to-hot α l₄ γ) (and-then ! (load ! (from ! (stop !)) (look ! 30 refl)) (and-then !
         (load ! (from ! (stop !)) (look ! 11 refl)) (and-then ! (load ! (from ! (stop !)) (look ! 28 refl)) (no-more !)))) (λ w₂.
-        use1 W (later (some (λ (r : TestAnswer). ((‵ (flft (α ∷ []) fullShare) ⊛ ‵ ftrue) ⊛ ‵ (T.the-row .own r (w₂ ∷ []))) ⊛ raw (ensured 𝓤 H A
+        use1 W (later (some (λ (r : FlagAnswer). ((‵ (flft (α ∷ []) fullShare) ⊛ ‵ ftrue) ⊛ ‵ (T.the-row .own r (w₂ ∷ []))) ⊛ raw (ensured 𝓤 H A
         primary′.ended (primary′.clauses 𝓤 H A mem run) (α ∷ [], tt) (args α l₄ γ) tt r)))) (id⊢ 𝓤 _) $ await ! tt $ pick ! (λ r₂. split ! $ move !
         (1 ∷ []) $ drop ! $ split ! $ move ! (1 ∷ []) $
         facts ! T.the-row (Is T.the-row) (shows 𝓤 H A T.the-row) r₂ (w₂ ∷ []) (λ is₂.

@@ -58,8 +58,7 @@ use Rattle.hot_lent.proofs.update_with.Met as with-thm
 use Rattle.replay.specs.declared.entries.Updated.{Updated}
 use Rattle.replay.proofs.entries.Updated as U
 use Rattle.replay.proofs.entries.Updated.Laws as U′
-use Rattle.replay.proofs.Lends.{Entries, entries-type, entries-vals, entries-mach, entries-tells, entries-makes, entries-lawful}
-use Rattle.replay.proofs.Lends.{LentMut, lends-mut, back-mut}
+use Rattle.replay.proofs.Lends.{Entries, entries-type, entries-vals, entries-mach, entries-tells, entries-makes, entries-lawful, LentMut, lends-mut, back-mut}
 use Rattle.replay.proofs.entries.left_by as left′
 use Rattle.replay.proofs.entries.left_by.Symbol as left-def
 use Rattle.replay.proofs.entries.left_by.Symbol.{name as #left-by}

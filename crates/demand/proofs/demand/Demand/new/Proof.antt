@@ -1,5 +1,5 @@
 -- `Demand::new` meets its contract.
-use Rattle.demand.proofs.Literals.{zero-is}
+use Rattle.demand.proofs.Estimating.Literals.{zero-is}
 use Rattle.demand.proofs.demand.Demand.new.Statement.{statement}
 use Rattle.demand.proofs.demand.Demand.new.Tie as tie
 

@@ -1,7 +1,7 @@
 -- `Demand::rate` meets its contract.
 use mathlib.Core.Path.{refl}
-use Rattle.gcra.proofs.Cases.{told-no, told-yes}
-use Rattle.gcra.proofs.Answers.{no, yes, value}
+use Rattle.questions.proofs.Tests.{told-no, told-yes}
+use Rattle.questions.proofs.Answers.{no, yes, value}
 use borrow.Author.Needs.{needs}
 use Rattle.demand.proofs.demand.Demand.rate.Statement.{statement}
 use Rattle.demand.proofs.demand.Demand.rate.Tie as tie

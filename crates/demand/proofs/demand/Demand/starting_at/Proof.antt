@@ -1,5 +1,5 @@
 -- `Demand::starting_at` meets its contract.
-use Rattle.demand.proofs.Literals.{zero-is}
+use Rattle.demand.proofs.Estimating.Literals.{zero-is}
 use Rattle.demand.proofs.demand.Demand.starting_at.Statement.{statement}
 use Rattle.demand.proofs.demand.Demand.starting_at.Tie as tie
 

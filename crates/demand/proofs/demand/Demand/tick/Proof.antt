@@ -1,6 +1,6 @@
 -- `Demand::tick` meets its contract.
-use Rattle.gcra.proofs.Cases.{told-no, told-yes}
-use Rattle.gcra.proofs.Answers.{no, yes, value}
+use Rattle.questions.proofs.Tests.{told-no, told-yes}
+use Rattle.questions.proofs.Answers.{no, yes, value}
 use borrow.Author.Needs.{needs}
 use Rattle.demand.proofs.demand.Demand.tick.Statement.{statement}
 use Rattle.demand.proofs.demand.Demand.tick.Tie as tie

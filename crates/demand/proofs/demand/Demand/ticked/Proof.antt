@@ -1,5 +1,5 @@
 -- `Demand::ticked` meets its contract.
-use Rattle.demand.proofs.Averages.{first-tick, idle-tick, later-tick}
+use Rattle.demand.proofs.Estimating.Averages.{first-tick, idle-tick, later-tick}
 use borrow.Author.Needs.{needs}
 use Rattle.demand.proofs.demand.Demand.ticked.Statement.{statement}
 use Rattle.demand.proofs.demand.Demand.ticked.Tie as tie

@@ -1,6 +1,6 @@
 -- `Demand::unbiased` meets its contract.
-use Rattle.demand.proofs.Literals.{zero-is}
-use Rattle.demand.proofs.Averages.{unmeasured, measured}
+use Rattle.demand.proofs.Estimating.Literals.{zero-is}
+use Rattle.demand.proofs.Estimating.Averages.{unmeasured, measured}
 use borrow.Author.Needs.{needs}
 use Rattle.demand.proofs.demand.Demand.unbiased.Statement.{statement}
 use Rattle.demand.proofs.demand.Demand.unbiased.Tie as tie

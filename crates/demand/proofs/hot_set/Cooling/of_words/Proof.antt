@@ -1,9 +1,9 @@
 -- `Cooling::of_words` meets its contract.
 use mathlib.Core.Path.{sym, ap}
 use Prim.Native.Nat.{ℕ}
-use Rattle.demand.specs.Words.{timeOf}
-use Rattle.demand.specs.HotSet.{cooling}
-use Rattle.demand.proofs.HotSetWords.{cools-since}
+use Rattle.records.specs.Fields.{timeOf}
+use Rattle.demand.specs.HotSet.Set.{cooling}
+use Rattle.demand.proofs.HotSet.Words.{cools-since}
 use Rattle.demand.proofs.hot_set.Cooling.of_words.Statement.{statement}
 use Rattle.demand.proofs.hot_set.Cooling.of_words.Tie as tie
 

@@ -1,8 +1,8 @@
 -- `HotEntry::are_words` meets its contract.
 use mathlib.Core.Path.{_∙_}
 use borrow.Author.Needs.{needs}
-use Rattle.gcra.proofs.Cases.{told-no, told-yes}
-use Rattle.demand.proofs.HotSetWords.{no-number, no-primary, by-time}
+use Rattle.questions.proofs.Tests.{told-no, told-yes}
+use Rattle.demand.proofs.HotSet.Words.{no-number, no-primary, by-time}
 use Rattle.demand.proofs.hot_set.HotEntry.are_words.Statement.{statement}
 use Rattle.demand.proofs.hot_set.HotEntry.are_words.Tie as tie
 

@@ -2,7 +2,7 @@
 use mathlib.Core.Path.{_∙_}
 use borrow.Author.Tests.{le-leb, lt-leb, not-true, not-false}
 use borrow.Author.Needs.{needs}
-use Rattle.demand.proofs.HotSetTests.{cooled-secondary, cooled-expired, cooled-waiting, cooled-first}
+use Rattle.demand.proofs.HotSet.Tests.{cooled-secondary, cooled-expired, cooled-waiting, cooled-first}
 use Rattle.demand.proofs.hot_set.HotEntry.cool.Statement.{statement}
 use Rattle.demand.proofs.hot_set.HotEntry.cool.Tie as tie
 

@@ -1,7 +1,7 @@
 -- `HotEntry::of_words` meets its contract.
 use borrow.Author.Needs.{needs}
-use Rattle.demand.proofs.WordLaws.{flag-is}
-use Rattle.demand.proofs.HotSetWords.{entry-at}
+use Rattle.records.proofs.FieldLaws.{flag-is}
+use Rattle.demand.proofs.HotSet.Words.{entry-at}
 use Rattle.demand.proofs.hot_set.HotEntry.of_words.Statement.{statement}
 use Rattle.demand.proofs.hot_set.HotEntry.of_words.Tie as tie
 

@@ -1,6 +1,6 @@
 -- `HotEntry::words` meets its contract.
 use borrow.Author.Needs.{needs}
-use Rattle.demand.specs.HotSet.{words}
+use Rattle.demand.specs.HotSet.Set.{words}
 use Rattle.demand.proofs.hot_set.HotEntry.words.Statement.{statement}
 use Rattle.demand.proofs.hot_set.HotEntry.words.Tie as tie
 

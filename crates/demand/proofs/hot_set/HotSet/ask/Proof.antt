@@ -1,8 +1,8 @@
 -- `HotSet::ask` meets its contract.
 use borrow.Author.Tests.{leb-true}
 use borrow.Author.Needs.{needs}
-use Rattle.gcra.proofs.Cases.{told-no, told-yes}
-use Rattle.gcra.proofs.Answers.{first-no, first-yes, first-none}
+use Rattle.questions.proofs.Tests.{told-no, told-yes}
+use Rattle.questions.proofs.Answers.{first-no, first-yes, first-none}
 use Rattle.demand.proofs.hot_set.HotSet.ask.Statement.{statement}
 use Rattle.demand.proofs.hot_set.HotSet.ask.Tie as tie
 

@@ -1,7 +1,7 @@
 -- `HotSet::ask_each` meets its contract.
 use borrow.Author.Needs.{needs}
-use Rattle.gcra.proofs.Cases.{told-no, told-yes}
-use Rattle.demand.proofs.HotSetEachLaws.{set-no, demands-no, places-no, places-yes}
+use Rattle.questions.proofs.Tests.{told-no, told-yes}
+use Rattle.demand.proofs.HotSet.EachLaws.{set-no, demands-no, places-no, places-yes}
 use Rattle.demand.proofs.hot_set.HotSet.ask_each.Statement.{statement}
 use Rattle.demand.proofs.hot_set.HotSet.ask_each.Tie as tie
 

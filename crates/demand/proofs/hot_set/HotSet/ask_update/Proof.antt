@@ -2,11 +2,11 @@
 use mathlib.Core.Path.{_≡_, _∙_}
 use mathlib.Core.Bool.{true}
 use borrow.Author.Needs.{needs}
-use Rattle.gcra.specs.Questions.{passes}
-use Rattle.gcra.proofs.Cases.{told-no, told-yes}
-use Rattle.gcra.proofs.Answers.{passed-none, first-no, first-yes, first-none, first-more, first-rest}
-use Rattle.demand.specs.HotSetCalls.{askSet}
-use Rattle.demand.proofs.HotSetAnswers.{numbered-set, asks-demand}
+use Rattle.questions.specs.Questions.{passes}
+use Rattle.questions.proofs.Tests.{told-no, told-yes}
+use Rattle.questions.proofs.Answers.{passed-none, first-no, first-yes, first-none, first-more, first-rest}
+use Rattle.demand.specs.HotSet.Calls.{askSet}
+use Rattle.demand.proofs.HotSet.Answers.{numbered-set, asks-demand}
 use Rattle.demand.proofs.hot_set.HotSet.ask_update.Statement.{statement}
 use Rattle.demand.proofs.hot_set.HotSet.ask_update.Tie as tie
 

@@ -5,18 +5,18 @@ use mathlib.Core.Path.{_≡_, refl, sym, ap, _∙_}
 use native.Mathlib.Omega.{arith}
 use borrow.Author.Needs.{needs}
 use Rattle.demand.specs.declared.hot_set.HotEntry.{HotEntry}
-use Rattle.demand.specs.HotSetCalls.{held}
-use Rattle.demand.specs.Steps.HotSetSteps.{slot}
-use Rattle.demand.specs.HotSet.{get}
-use Rattle.demand.proofs.HotSetTests.{cooled-key}
-use Rattle.demand.proofs.HotSetActs.{held-now, kept-room, gone-count, cooled-stays, cooled-leaves, absent-elsewhere, absent-stays, either, neither}
+use Rattle.demand.specs.HotSet.Calls.{entriesOf}
+use Rattle.demand.specs.HotSet.Steps.{slot}
+use Rattle.demand.specs.HotSet.Set.{get}
+use Rattle.demand.proofs.HotSet.Tests.{cooled-key}
+use Rattle.demand.proofs.HotSet.Acts.{ready-now, kept-room, gone-count, cooled-stays, cooled-leaves, absent-elsewhere, absent-stays, either, neither}
 use Rattle.demand.proofs.hot_set.HotSet.below_threshold.Statement.{statement}
 use Rattle.demand.proofs.hot_set.HotSet.below_threshold.Tie as tie
 
 abbrev there : tie.After-known-told → tie.Start
 there c = c .before .before .before .before .before .before
 
-found : (c : tie.After-known-told) → get (there c .args .key) (held (there c .args .self) (there c .args .hot .now)) ≡ some (c .before .entry .given .0 .0)
+found : (c : tie.After-known-told) → get (there c .args .key) (entriesOf (there c .args .self) (there c .args .hot .now)) ≡ some (c .before .entry .given .0 .0)
 found c = sym (c .before .before .before .get .ensures) ∙ ap slot (c .before .entry .given .1)
 
 same-key : (c : tie.After-cool) → c .cool .result .key ≡ c .before .before .entry .given .0 .0 .key
@@ -25,17 +25,17 @@ same-key c = ap (λ (e : HotEntry). e .key) (c .cool .ensures) ∙ cooled-key _ 
 abbrev away : tie.After-enum-told → tie.Start
 away c = c .before .before .before .before .before
 
-free : (c : tie.After-enum-told) → get (away c .args .key) (held (away c .args .self) (away c .args .hot .now)) ≡ none
+free : (c : tie.After-enum-told) → get (away c .args .key) (entriesOf (away c .args .self) (away c .args .hot .now)) ≡ none
 free c = sym (c .before .before .get .ensures) ∙ ap slot (c .enum-told .given .1)
 
 get-requires : tie.Need-get-requires
-get-requires c κs = held-now _ _ (c .before .before .pre)
+get-requires c κs = ready-now _ _ (c .before .before .pre)
 
 put-requires : tie.Need-put-requires
 put-requires c κs =
     let f = c .before .before in
     let s = there (f .before) in
-    (held-now _ _ (s .pre), kept-room (s .args .self) (s .args .hot .now) (s .pre) (s .args .key) _ _ (found (f .before)) (same-key f))
+    (ready-now _ _ (s .pre), kept-room (s .args .self) (s .args .hot .now) (s .pre) (s .args .key) _ _ (found (f .before)) (same-key f))
 
 returns : tie.Need-returns
 returns c =
@@ -46,7 +46,7 @@ returns c =
     cooled-stays (s .args .self) (s .args .hot .now) (s .pre) (s .args .margin) (s .args .key) (s .args .demand-rate) (s .args .now) (s .args .hot-elsewhere) _ _ _ _ (found (f .before)) (f .cool .ensures) (either (f .cool .result .primary) (s .args .hot-elsewhere) (⊎-elim (λ w. inl (w .taken)) (λ w. inr (w .1 .taken)) (j .if1 .came))) (c .counted .ensures) (p .put .ensures)
 
 remove-requires : tie.Need-remove-requires
-remove-requires c κs = held-now _ _ (c .before .before .before .before .before .before .before .before .before .before .pre)
+remove-requires c κs = ready-now _ _ (c .before .before .before .before .before .before .before .before .before .before .pre)
 
 sub-counted : tie.Need-sub-counted
 sub-counted c =

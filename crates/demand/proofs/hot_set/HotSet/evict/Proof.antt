@@ -3,23 +3,23 @@ use mathlib.Core.Path.{refl}
 use Prim.Native.Nat.{_<_}
 use native.Mathlib.Omega.{arith}
 use borrow.Author.Needs.{needs}
-use Rattle.demand.proofs.HotSetAnswers.{passed-set}
-use Rattle.demand.proofs.HotSetActs.{held-now, evict-held, evict-room, evicted, not-evicted}
+use Rattle.demand.proofs.HotSet.Answers.{passed-set}
+use Rattle.demand.proofs.HotSet.Acts.{ready-now, evict-ready, evict-room, evicted, not-evicted}
 use Rattle.demand.proofs.hot_set.HotSet.evict.Statement.{statement}
 use Rattle.demand.proofs.hot_set.HotSet.evict.Tie as tie
 
 -- a full set has an entry
-some-held : (s : tie.Start) → 0 < s .args .self .len
-some-held s = let p = passed-set (s .args .self) (s .args .hot .now) (s .pre .0) in let f = s .pre .1 .0 in omega (arith, p .some-size)
+some-entry : (s : tie.Start) → 0 < s .args .self .len
+some-entry s = let p = passed-set (s .args .self) (s .args .hot .now) (s .pre .0) in let f = s .pre .1 .0 in omega (arith, p .some-size)
 
 weakest-requires : tie.Need-weakest-requires
-weakest-requires c κs = let s = c .before .before in (held-now _ _ (s .pre .0), some-held s)
+weakest-requires c κs = let s = c .before .before in (ready-now _ _ (s .pre .0), some-entry s)
 
 remove-requires : tie.Need-remove-requires
-remove-requires c κs = held-now _ _ (c .before .before .before .before .before .before .before .pre .0)
+remove-requires c κs = ready-now _ _ (c .before .before .before .before .before .before .before .pre .0)
 
 sub-put : tie.Need-sub-put
-sub-put c = let s = c .before .before .before .before .before .before .before .before .before .before .before in omega (arith, some-held s)
+sub-put c = let s = c .before .before .before .before .before .before .before .before .before .before .before in omega (arith, some-entry s)
 
 put-requires : tie.Need-put-requires
 put-requires c κs =
@@ -27,7 +27,7 @@ put-requires c κs =
     let t = r .before .before in
     let w = t .before .before .before in
     let s = w .before .before .before in
-    (evict-held (s .args .self) (s .args .hot .now) (s .pre .0) (s .args .entry) (w .weakest .result) (s .pre .1 .0) (s .pre .1 .1) (w .weakest .ensures) _ (r .remove .ensures), evict-room (s .args .self) (s .args .hot .now) (s .pre .0) (s .args .entry) (w .weakest .result) (s .pre .1 .0) (s .pre .1 .1) (w .weakest .ensures) _ (r .remove .ensures))
+    (evict-ready (s .args .self) (s .args .hot .now) (s .pre .0) (s .args .entry) (w .weakest .result) (s .pre .1 .0) (s .pre .1 .1) (w .weakest .ensures) _ (r .remove .ensures), evict-room (s .args .self) (s .args .hot .now) (s .pre .0) (s .args .entry) (w .weakest .result) (s .pre .1 .0) (s .pre .1 .1) (w .weakest .ensures) _ (r .remove .ensures))
 
 returns : tie.Need-returns
 returns c =

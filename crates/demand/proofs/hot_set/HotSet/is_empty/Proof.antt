@@ -1,8 +1,8 @@
 -- `HotSet::is_empty` meets its contract.
 use borrow.Author.Needs.{needs}
 use lib.Ieee.{nan}
-use Rattle.gcra.proofs.Answers.{answer-no, answer-passed, passed-none}
-use Rattle.demand.proofs.HotSetAnswers.{numbered-set}
+use Rattle.questions.proofs.Answers.{answer-no, answer-passed, passed-none}
+use Rattle.demand.proofs.HotSet.Answers.{numbered-set}
 use Rattle.demand.proofs.hot_set.HotSet.is_empty.Statement.{statement}
 use Rattle.demand.proofs.hot_set.HotSet.is_empty.Tie as tie
 

@@ -3,12 +3,12 @@ use mathlib.Core.Bool.{true}
 use mathlib.Core.Path.{_≡_, ap}
 use borrow.Author.Needs.{needs}
 use lib.Ieee.{nan}
-use Rattle.gcra.specs.Questions.{passes}
-use Rattle.demand.specs.HotSet.{there}
-use Rattle.demand.specs.HotSetCalls.{askSet}
-use Rattle.demand.specs.Steps.HotSetSteps.{slot}
-use Rattle.gcra.proofs.Answers.{answer-no, passed-none}
-use Rattle.demand.proofs.HotSetAnswers.{answer-slot, numbered-set, passed-set}
+use Rattle.questions.specs.Questions.{passes}
+use Rattle.demand.specs.HotSet.Set.{there}
+use Rattle.demand.specs.HotSet.Calls.{askSet}
+use Rattle.demand.specs.HotSet.Steps.{slot}
+use Rattle.questions.proofs.Answers.{answer-no, passed-none}
+use Rattle.demand.proofs.HotSet.Answers.{answer-slot, numbered-set, passed-set}
 use Rattle.demand.proofs.hot_set.HotSet.is_hot.Statement.{statement}
 use Rattle.demand.proofs.hot_set.HotSet.is_hot.Tie as tie
 
@@ -19,7 +19,7 @@ returns : tie.Need-returns
 returns c = answer-no _ _ _ (c .before .ask .ensures) (c .if1 .taken)
 
 get-requires : tie.Need-get-requires
-get-requires c κs = passed-set _ _ (asked c) .held
+get-requires c κs = passed-set _ _ (asked c) .ready
 
 returns-2 : tie.Need-returns-2
 returns-2 c = let g = c .before .before in answer-slot there _ (g .get .result) _ _ (asked (g .before)) (g .get .ensures) (ap slot (c .enum-told .given .1))

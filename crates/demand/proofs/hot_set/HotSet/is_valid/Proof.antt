@@ -2,7 +2,7 @@
 use mathlib.Core.Path.{sym, _∙_}
 use borrow.Author.Tests.{not-true, not-false}
 use borrow.Author.Needs.{needs}
-use Rattle.demand.proofs.HotSetAnswers.{bad-size, bad-count, by-entries}
+use Rattle.demand.proofs.HotSet.Answers.{bad-size, bad-count, by-entries}
 use Rattle.demand.proofs.hot_set.HotSet.is_valid.Statement.{statement}
 use Rattle.demand.proofs.hot_set.HotSet.is_valid.Tie as tie
 

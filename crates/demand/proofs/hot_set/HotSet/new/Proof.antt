@@ -2,7 +2,7 @@
 use mathlib.Core.Path.{sym, _∙_}
 use borrow.Author.Tests.{not-true, not-false}
 use borrow.Author.Needs.{needs}
-use Rattle.gcra.specs.Questions.{answer}
+use Rattle.questions.specs.Questions.{answer}
 use Rattle.demand.proofs.hot_set.HotSet.new.Statement.{statement}
 use Rattle.demand.proofs.hot_set.HotSet.new.Tie as tie
 

@@ -5,24 +5,24 @@ use Prim.Native.Nat.{_≤_}
 use native.Mathlib.Omega.{arith}
 use borrow.Author.Needs.{needs}
 use Rattle.demand.specs.declared.hot_set.HotEntry.{HotEntry}
-use Rattle.demand.specs.HotSetCalls.{held}
-use Rattle.demand.specs.Steps.HotSetSteps.{slot}
-use Rattle.demand.specs.HotSet.{get}
-use Rattle.demand.proofs.HotSetAnswers.{passed-set}
-use Rattle.demand.proofs.HotSetActs.{held-now, kept-room, more-room, promoted-there, promoted-new, promoted-full}
+use Rattle.demand.specs.HotSet.Calls.{entriesOf}
+use Rattle.demand.specs.HotSet.Steps.{slot}
+use Rattle.demand.specs.HotSet.Set.{get}
+use Rattle.demand.proofs.HotSet.Answers.{passed-set}
+use Rattle.demand.proofs.HotSet.Acts.{ready-now, kept-room, more-room, promoted-there, promoted-new, promoted-full}
 use Rattle.demand.proofs.hot_set.HotSet.promote.Statement.{statement}
 use Rattle.demand.proofs.hot_set.HotSet.promote.Tie as tie
 
 abbrev there : tie.After-known-told → tie.Start
 there c = c .before .before .before .before .before .before
 
-found : (c : tie.After-known-told) → get (there c .args .key) (held (there c .args .self) (there c .args .hot .now)) ≡ some (c .before .entry .given .0 .0)
+found : (c : tie.After-known-told) → get (there c .args .key) (entriesOf (there c .args .self) (there c .args .hot .now)) ≡ some (c .before .entry .given .0 .0)
 found c = sym (c .before .before .before .get .ensures) ∙ ap slot (c .before .entry .given .1)
 
 abbrev away : tie.After-enum-told → tie.Start
 away c = c .before .before .before .before .before
 
-free : (c : tie.After-enum-told) → get (away c .args .key) (held (away c .args .self) (away c .args .hot .now)) ≡ none
+free : (c : tie.After-enum-told) → get (away c .args .key) (entriesOf (away c .args .self) (away c .args .hot .now)) ≡ none
 free c = sym (c .before .before .get .ensures) ∙ ap slot (c .enum-told .given .1)
 
 -- a set that is not below its size is at it
@@ -30,19 +30,19 @@ passed-full : (s : tie.Start) → s .args .self .«max_size» ≤ s .args .self 
 passed-full s l = let p = passed-set (s .args .self) (s .args .hot .now) (s .pre) in omega (arith, p .count)
 
 get-requires : tie.Need-get-requires
-get-requires c κs = let s = c .before .before in held-now _ _ (s .pre)
+get-requires c κs = let s = c .before .before in ready-now _ _ (s .pre)
 
 put-requires : tie.Need-put-requires
 put-requires c κs =
     let k = c .before .before in
     let s = there k in
-    (held-now _ _ (s .pre), kept-room (s .args .self) (s .args .hot .now) (s .pre) (s .args .key) _ _ (found k) (ap (λ (e : HotEntry). e .key) (c .renewed .ensures)))
+    (ready-now _ _ (s .pre), kept-room (s .args .self) (s .args .hot .now) (s .pre) (s .args .key) _ _ (found k) (ap (λ (e : HotEntry). e .key) (c .renewed .ensures)))
 
 put-requires-2 : tie.Need-put-requires-2
 put-requires-2 c κs =
     let k = c .before .before .before .before in
     let s = k .before .before .before .before .before in
-    (held-now _ _ (s .pre), more-room (s .args .self) (s .args .hot .now) (s .pre) (s .args .key) _ (free k) (ap (λ (e : HotEntry). e .key) (c .before .before .before .new .ensures)) (c .before .if1 .taken))
+    (ready-now _ _ (s .pre), more-room (s .args .self) (s .args .hot .now) (s .pre) (s .args .key) _ (free k) (ap (λ (e : HotEntry). e .key) (c .before .before .before .new .ensures)) (c .before .if1 .taken))
 
 returns : tie.Need-returns
 returns c =
@@ -57,7 +57,7 @@ evict-requires c κs =
     let e = c .before in
     let n = e .before .before in
     let s = n .before .before .before .before .before .before in
-    (s .pre, (passed-full s (e .if1 .left), ap (λ (x : HotEntry). get (x .key) (held (s .args .self) (s .args .hot .now))) (n .new .ensures) ∙ free (n .before)))
+    (s .pre, (passed-full s (e .if1 .left), ap (λ (x : HotEntry). get (x .key) (entriesOf (s .args .self) (s .args .hot .now))) (n .new .ensures) ∙ free (n .before)))
 
 returns-2 : tie.Need-returns-2
 returns-2 c =

@@ -1,14 +1,16 @@
 -- `HotSet::update_all` meets its contract.
-use Prim.Native.Nat.{ℕ, _-_, _*_, _<_}
+use Prim.Native.Nat.{ℕ, _-_, _*_, _^_, _<_}
 use mathlib.Core.Path.{_≡_, subst}
 use mathlib.Core.List.{List}
 use native.Mathlib.Omega.{arith}
-use lib.ListN.{length}
+use borrow.Author.Tests.{lt-ltb}
+use lib.Ieee.Bits.{is-true}
+use lib.ListN.{length, getD}
 use Rattle.records.proofs.RecordLaws.{row, fits-pos, fits-le}
-use Rattle.demand.specs.HotSet.{Update}
-use Rattle.demand.specs.HotSetCalls.{evictionMargin, lentUpdates}
-use Rattle.demand.specs.Steps.HotSetSteps.{UpdatesEach}
-use Rattle.demand.proofs.HotSetEachLaws.{EachPassed, each-passed, lent-next, lent-length, Updating, updating-start, updating-next, updating-done}
+use Rattle.demand.specs.HotSet.Set.{Update}
+use Rattle.demand.specs.HotSet.Calls.{evictionMargin, lentUpdates}
+use Rattle.demand.specs.HotSet.Steps.{UpdatesEach}
+use Rattle.demand.proofs.HotSet.EachLaws.{EachPassed, each-passed, lent-next, lent-length, Updating, updating-start, updating-next, updating-done}
 use Rattle.demand.proofs.hot_set.HotSet.update_all.Statement.{statement}
 use Rattle.demand.proofs.hot_set.HotSet.update_all.Tie as tie
 
@@ -100,13 +102,19 @@ loop-again c =
     let l = e .before .loop in
     let h = e .loop-test .taken in
     let p = passed s in
+    let key : getD (s .args .keys .now) (l .i * s .args .w) 0 < 2 ^ 64 = omega (arith, a .before .before .before .before .shared-slice-known5 .given (l .i * s .args .w)) in
+    let reading : s .args .now < 2 ^ 64 = omega (arith, s .fits .now) in
     updating-next evictionMargin (s .args .self) (s .args .now) (updates s) (s .args .hot .now) (s .args .out .now) (l .i) (l .set) (l .hot) (l .out) (l .inv)
     (omega (arith, h, count s))
     (omega (arith, p .room, count s))
     _
     (lent-next (s .args .keys .now) (s .args .w) (s .args .n) (s .args .demands .now) (s .args .thresholds .now) (s .args .elsewhere .now) (p .fit) _ _ _ (l .i) h)
-    (a .before .before .before .shared-slice-known6 .given (l .i))
-    (p .numbers _ (l .i) h)
+    (record {
+      key-word = lt-ltb (getD (s .args .keys .now) (l .i * s .args .w) 0) (2 ^ 64) key;
+      demand-f64 = is-true _ (a .before .before .before .shared-slice-known6 .given (l .i));
+      finite = p .numbers _ (l .i) h;
+      now-word = lt-ltb (s .args .now) (2 ^ 64) reading;
+    })
     (a .update-with-margin .result)
     _
     (a .update-with-margin .ensures)

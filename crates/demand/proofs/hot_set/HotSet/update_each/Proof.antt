@@ -4,10 +4,10 @@ use mathlib.Core.Path.{_≡_}
 use native.Mathlib.Omega.{arith}
 use borrow.Author.Needs.{needs}
 use lib.ListN.{length}
-use Rattle.gcra.specs.Questions.{firstNo}
-use Rattle.gcra.proofs.Cases.{told-no, told-yes}
-use Rattle.demand.specs.HotSetCalls.{updatesFit, askEach}
-use Rattle.demand.proofs.HotSetEachLaws.{fit-updates, each-unfit, each-fit, each-asked, each-refused, each-done}
+use Rattle.questions.specs.Questions.{firstNo}
+use Rattle.questions.proofs.Tests.{told-no, told-yes}
+use Rattle.demand.specs.HotSet.Calls.{updatesFit, askEach}
+use Rattle.demand.proofs.HotSet.EachLaws.{fit-updates, each-unfit, each-fit, each-asked, each-refused, each-done}
 use Rattle.demand.proofs.hot_set.HotSet.update_each.Statement.{statement}
 use Rattle.demand.proofs.hot_set.HotSet.update_each.Tie as tie
 

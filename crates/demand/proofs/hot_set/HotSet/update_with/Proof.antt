@@ -2,10 +2,10 @@
 use mathlib.Core.Bool.{true}
 use mathlib.Core.Path.{_≡_, ap, _∙_}
 use borrow.Author.Needs.{needs}
-use Rattle.gcra.specs.Questions.{passes, given}
-use Rattle.demand.specs.HotSetCalls.{askUpdate}
-use Rattle.gcra.proofs.Answers.{answer-no, answer-passed, kept-no, changed-passed, passed-none}
-use Rattle.demand.proofs.HotSetAnswers.{numbered-update, update-passed-set}
+use Rattle.questions.specs.Questions.{passes, given}
+use Rattle.demand.specs.HotSet.Calls.{askUpdate}
+use Rattle.questions.proofs.Answers.{answer-no, answer-passed, kept-no, changed-passed, passed-none}
+use Rattle.demand.proofs.HotSet.Answers.{numbered-update, update-passed-set}
 use Rattle.demand.proofs.hot_set.HotSet.update_with.Statement.{statement}
 use Rattle.demand.proofs.hot_set.HotSet.update_with.Tie as tie
 

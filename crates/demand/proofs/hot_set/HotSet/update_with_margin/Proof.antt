@@ -1,6 +1,6 @@
 -- `HotSet::update_with_margin` meets its contract.
 use borrow.Author.Needs.{needs}
-use Rattle.demand.proofs.HotSetActs.{above-acted, below-acted}
+use Rattle.demand.proofs.HotSet.Acts.{above-acted, below-acted}
 use Rattle.demand.proofs.hot_set.HotSet.update_with_margin.Statement.{statement}
 use Rattle.demand.proofs.hot_set.HotSet.update_with_margin.Tie as tie
 

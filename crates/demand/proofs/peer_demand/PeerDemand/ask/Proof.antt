@@ -4,7 +4,7 @@ use Rattle.demand.proofs.peer_demand.PeerDemand.ask.Statement.{statemen
 use Rattle.demand.proofs.peer_demand.PeerDemand.ask.Tie as tie
 
 returns : tie.Need-returns
-returns c = c .before .before .ask-for-starts .ensures .0 .first
+returns c = c .ask-for-starts .ensures .first
 
 pub ask-spec : {M : Type 1} → statement M
-ask-spec = tie.close (tie.spec (λ c. search needs) (λ c. search needs) (λ c κs. search needs) returns)
+ask-spec = tie.close (tie.spec (λ c κs. search needs) returns)

@@ -6,11 +6,11 @@ use mathlib.Core.Path.{_≡_, refl}
 use native.Mathlib.Omega.{arith}
 use lib.ListN.{length, drop, getD}
 use Rattle.records.specs.Records.{records}
-use Rattle.demand.specs.PeerLists.{only}
-use Rattle.demand.specs.PeerState.{tables}
-use Rattle.demand.specs.PeerRecords.{snapshotKeyOf}
-use Rattle.demand.specs.Steps.PeerHeard.{isListed}
-use Rattle.demand.proofs.PeerReaderLaws.{alone, at-most-one, len-starts, len-goes, len-ends}
+use Rattle.questions.specs.Lists.{only}
+use Rattle.demand.specs.Peers.State.{tables}
+use Rattle.demand.specs.Peers.Records.{snapshotKeyOf}
+use Rattle.demand.specs.Peers.Steps.Heard.{isListed}
+use Rattle.demand.proofs.Peers.Readers.ReaderLaws.{alone, at-most-one, len-starts, len-goes, len-ends}
 use Rattle.demand.proofs.peer_demand.PeerDemand.count_keys.Statement.{statement}
 use Rattle.demand.proofs.peer_demand.PeerDemand.count_keys.Tie as tie
 

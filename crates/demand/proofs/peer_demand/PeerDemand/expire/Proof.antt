@@ -1,6 +1,6 @@
 -- `expire` meets its contract.
 use borrow.Author.Needs.{needs}
-use Rattle.demand.proofs.PeerCallLaws.{changes-not, asked-all, peers-changed}
+use Rattle.demand.proofs.Peers.CallLaws.{changes-not, asked-all, peers-changed}
 use Rattle.demand.proofs.peer_demand.PeerDemand.expire.Statement.{statement}
 use Rattle.demand.proofs.peer_demand.PeerDemand.expire.Tie as tie
 

@@ -1,9 +1,9 @@
 -- `expire_all` meets its contract: contested keys, then peers, then snapshot keys.
 use native.Mathlib.Omega.{arith}
 use borrow.Author.Needs.{needs}
-use Rattle.demand.specs.PeerState.{PeerTables, tables}
-use Rattle.demand.proofs.PeerStoreLaws.{Tables, tables-of}
-use Rattle.demand.proofs.PeerExpireLaws.{contested-order, peers-order, expired}
+use Rattle.demand.specs.Peers.State.{PeerTables, tables}
+use Rattle.demand.proofs.Peers.Tables.StoreLaws.{Tables, tables-of}
+use Rattle.demand.proofs.Peers.Departures.ExpireLaws.{contested-order, peers-order, expired}
 use Rattle.demand.proofs.peer_demand.PeerDemand.expire_all.Statement.{statement}
 use Rattle.demand.proofs.peer_demand.PeerDemand.expire_all.Tie as tie
 

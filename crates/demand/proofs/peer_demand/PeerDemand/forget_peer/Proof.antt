@@ -1,9 +1,9 @@
 -- `forget_peer` meets its contract: its records are taken out of each table.
 use native.Mathlib.Omega.{arith}
 use borrow.Author.Needs.{needs}
-use Rattle.demand.specs.PeerState.{tables}
-use Rattle.demand.proofs.PeerTableLaws.{InOrder, in-order-says, in-order-run, run-out}
-use Rattle.demand.proofs.PeerStoreLaws.{Tables, tables-of, forgotten}
+use Rattle.demand.specs.Peers.State.{tables}
+use Rattle.records.proofs.TabledLaws.{InOrder, in-order-says, in-order-run, run-out}
+use Rattle.demand.proofs.Peers.Tables.StoreLaws.{Tables, tables-of, forgotten}
 use Rattle.demand.proofs.peer_demand.PeerDemand.forget_peer.Statement.{statement}
 use Rattle.demand.proofs.peer_demand.PeerDemand.forget_peer.Tie as tie
 

@@ -1,8 +1,8 @@
 -- `get` meets its contract.
 use mathlib.Core.Path.{sym, ap, _∙_}
-use Rattle.gcra.proofs.Answers.{answer-no}
-use Rattle.demand.specs.Steps.PeerHeard.{saidOf}
-use Rattle.demand.proofs.PeerReaderLaws.{answer-yes, asked-ready}
+use Rattle.questions.proofs.Answers.{answer-no}
+use Rattle.demand.specs.Peers.Steps.Heard.{saidOf}
+use Rattle.demand.proofs.Peers.Readers.ReaderLaws.{answer-yes, asked-ready}
 use borrow.Author.Needs.{needs}
 use Rattle.demand.proofs.peer_demand.PeerDemand.get.Statement.{statement}
 use Rattle.demand.proofs.peer_demand.PeerDemand.get.Tie as tie

@@ -3,10 +3,10 @@ use Prim.Native.Nat.{ℕ, _*_, _<_}
 use mathlib.Core.Path.{_≡_, ap, _∙_}
 use native.Mathlib.Omega.{arith}
 use lib.ListN.{getD}
-use Rattle.demand.specs.PeerState.{tables, stateOf}
-use Rattle.demand.specs.PeerReaders.{heard}
-use Rattle.demand.proofs.PeerRowLaws.{find-says, never-unfit}
-use Rattle.demand.proofs.PeerReaderLaws.{id-at, heard-missing}
+use Rattle.demand.specs.Peers.State.{tables, stateOf}
+use Rattle.demand.specs.Peers.Readers.{heard}
+use Rattle.records.proofs.RowLaws.{find-says, never-unfit}
+use Rattle.demand.proofs.Peers.Readers.ReaderLaws.{id-at, heard-missing}
 use borrow.Author.Needs.{needs}
 use Rattle.demand.proofs.peer_demand.PeerDemand.heard_by.Statement.{statement}
 use Rattle.demand.proofs.peer_demand.PeerDemand.heard_by.Tie as tie
@@ -35,11 +35,11 @@ returns c =
 
 returns-2 : tie.Need-returns-2
 returns-2 c =
-    let a = c .before .before in
+    let a = c .before in
     let b = a .before .before in
     let st = b .before .before .before .before in
     let s = st .args in
-    c .heard-contested .ensures ∙ heard-missing (s .self) (tables (s .peers .now) (s .snapshot-keys .now) (s .contested .now)) (st .pre) (s .key) (s .id) (a .i2 .given .0 .0) (find-says 12 1 (s .self .peers) (s .id) 0 (s .peers .now) (omega arith) (omega arith) (omega arith) (st .pre .peers .fit) (b .find .result) (b .find .ensures) ∙ a .i2 .given .1)
+    heard-missing (s .self) (tables (s .peers .now) (s .snapshot-keys .now) (s .contested .now)) (st .pre) (s .key) (s .id) (a .i2 .given .0 .0) (find-says 12 1 (s .self .peers) (s .id) 0 (s .peers .now) (omega arith) (omega arith) (omega arith) (st .pre .peers .fit) (b .find .result) (b .find .ensures) ∙ a .i2 .given .1)
 
 returns-3 : tie.Need-returns-3
 returns-3 c =
@@ -56,7 +56,6 @@ heard-by-spec =
     (λ c. search needs)
     heard-from-requires
     (λ c. search needs)
-    (λ c κs. search needs)
     (λ c. search needs)
     returns
     returns-2

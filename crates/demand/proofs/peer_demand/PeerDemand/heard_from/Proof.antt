@@ -1,8 +1,8 @@
 -- `heard_from` meets its contract.
 use mathlib.Core.Path.{_∙_}
-use Rattle.demand.specs.PeerState.{tables}
-use Rattle.demand.specs.PeerReaders.{join}
-use Rattle.demand.proofs.PeerReaderLaws.{peer-round, heard-at}
+use Rattle.demand.specs.Peers.State.{tables}
+use Rattle.demand.specs.Peers.Readers.{join}
+use Rattle.demand.proofs.Peers.Readers.ReaderLaws.{peer-round, heard-at}
 use borrow.Author.Needs.{needs}
 use Rattle.demand.proofs.peer_demand.PeerDemand.heard_from.Statement.{statement}
 use Rattle.demand.proofs.peer_demand.PeerDemand.heard_from.Tie as tie

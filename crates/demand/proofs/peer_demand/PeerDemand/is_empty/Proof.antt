@@ -1,30 +1,22 @@
 -- `is_empty` meets its contract.
 use Prim.Native.Nat.{ℕ}
-use lib.Dec.{eqb}
-use mathlib.Core.Path.{ap, _∙_}
-use Rattle.gcra.proofs.Answers.{answer-no}
-use Rattle.demand.specs.PeerState.{tables}
-use Rattle.demand.proofs.PeerLenLaws.{asked-counted}
-use Rattle.demand.proofs.PeerReaderLaws.{answer-yes, asked-ready}
+use mathlib.Core.Path.{sym, ap, _∙_}
 use borrow.Author.Needs.{needs}
+use lib.Dec.{eqb}
+use Rattle.demand.specs.Answers.{lenAnswer}
+use Rattle.demand.proofs.Peers.CallLaws.{refused-any, given-by}
 use Rattle.demand.proofs.peer_demand.PeerDemand.is_empty.Statement.{statement}
 use Rattle.demand.proofs.peer_demand.PeerDemand.is_empty.Tie as tie
 
 returns : tie.Need-returns
-returns c = answer-no _ _ (c .before .ask .result) (c .before .ask .ensures) (c .if1 .taken)
-
-count-keys-requires : tie.Need-count-keys-requires
-count-keys-requires c κs =
-    let k = c .before .before in
-    asked-ready _ _ _ (c .before .ask .ensures) (c .if1 .left) (λ i. k .before .before .shared-slice-known .given i .fits)
-    (λ i. k .before .shared-slice-known2 .given i .fits) (λ i. k .shared-slice-known3 .given i .fits)
+returns c =
+    let m = c .before in
+    refused-any _ _ _ _ (sym (ap lenAnswer (m .no .given .1)) ∙ m .before .before .len .ensures)
 
 returns-2 : tie.Need-returns-2
 returns-2 c =
-    let e = c .before in
-    let s = e .before .before .before .before .before .args in
-    let all-keys = c .count-keys .ensures ∙ asked-counted (s .self) (tables (s .peers .now) (s .snapshot-keys .now) (s .contested .now)) (e .before .ask .result) (e .before .ask .ensures) (e .if1 .left) in
-    answer-yes _ _ (e .before .ask .result) _ _ (e .before .ask .ensures) (e .if1 .left) (ap (λ (m : ℕ). eqb m 0) all-keys)
+    let m = c .before in
+    given-by (λ (n : ℕ). eqb n 0) _ _ _ (sym (ap lenAnswer (m .n .given .1)) ∙ m .before .before .len .ensures)
 
 pub is-empty-spec : {M : Type 1} → statement M
-is-empty-spec = tie.close (tie.spec (λ c κs. search needs) returns count-keys-requires returns-2)
+is-empty-spec = tie.close (tie.spec (λ c κs. search needs) (λ c. search needs) (λ c. search needs) returns returns-2)

@@ -5,11 +5,11 @@ use native.Mathlib.Omega.{arith}
 use borrow.Author.Tests.{not-true, not-false}
 use borrow.Author.Needs.{needs}
 use Rattle.records.specs.Records.{records}
-use Rattle.records.proofs.TestLaws.{contradiction}
-use Rattle.demand.specs.PeerState.{tables, isValid}
-use Rattle.demand.specs.Steps.PeerScan.{arePeers, isScanned, PeersReady}
-use Rattle.demand.proofs.PeerScanLaws.{stop, goes}
-use Rattle.demand.proofs.PeerValidLaws.{all-words, scanned-is-valid, room-says, Roomy, peers-ready}
+use Rattle.questions.proofs.Tests.{contradiction}
+use Rattle.demand.specs.Peers.State.{tables, isValid}
+use Rattle.demand.specs.Peers.Steps.Scan.{arePeers, isScanned, PeersReady}
+use Rattle.demand.proofs.Peers.Validity.ScanLaws.{stop, goes}
+use Rattle.demand.proofs.Peers.Validity.ValidLaws.{all-words, scanned-is-valid, room-says, Roomy, peers-ready}
 use Rattle.demand.proofs.peer_demand.PeerDemand.is_valid.Statement.{statement}
 use Rattle.demand.proofs.peer_demand.PeerDemand.is_valid.Tie as tie
 

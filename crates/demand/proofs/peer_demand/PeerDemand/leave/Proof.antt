@@ -1,9 +1,9 @@
 -- `leave` meets its contract: with no time to hold a peer it is `forget`.
 use mathlib.Core.Path.{sym}
 use borrow.Author.Needs.{needs}
-use Rattle.demand.specs.PeerState.{tables}
-use Rattle.demand.proofs.PeerCallLaws.{changes-not, changes-as, asked-all, peers-changed}
-use Rattle.demand.proofs.PeerStoreLaws.{Tables, tables-of, leaves-now, leave-stores}
+use Rattle.demand.specs.Peers.State.{tables}
+use Rattle.demand.proofs.Peers.CallLaws.{changes-not, changes-as, asked-all, peers-changed}
+use Rattle.demand.proofs.Peers.Tables.StoreLaws.{Tables, tables-of, leaves-now, leave-stores}
 use Rattle.demand.proofs.peer_demand.PeerDemand.leave.Statement.{statement}
 use Rattle.demand.proofs.peer_demand.PeerDemand.leave.Tie as tie
 

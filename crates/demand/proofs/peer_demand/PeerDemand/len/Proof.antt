@@ -1,9 +1,9 @@
 -- `len` meets its contract.
 use mathlib.Core.Path.{_∙_}
-use Rattle.gcra.proofs.Answers.{answer-no}
-use Rattle.demand.specs.PeerState.{tables}
-use Rattle.demand.proofs.PeerLenLaws.{asked-counted}
-use Rattle.demand.proofs.PeerReaderLaws.{answer-yes, asked-ready}
+use Rattle.questions.proofs.Answers.{answer-no}
+use Rattle.demand.specs.Peers.State.{tables}
+use Rattle.demand.proofs.Peers.Readers.LenLaws.{asked-counted}
+use Rattle.demand.proofs.Peers.Readers.ReaderLaws.{answer-yes, asked-ready}
 use borrow.Author.Needs.{needs}
 use Rattle.demand.proofs.peer_demand.PeerDemand.len.Statement.{statement}
 use Rattle.demand.proofs.peer_demand.PeerDemand.len.Tie as tie

@@ -1,6 +1,6 @@
 -- `PeerDemand::new` meets its contract: question 1 alone.
 use mathlib.Core.Path.{sym, _∙_}
-use Rattle.demand.proofs.PeerRoomLaws.{no-room, some-room}
+use Rattle.demand.proofs.Peers.Validity.RoomLaws.{no-room, some-room}
 use borrow.Author.Needs.{needs}
 use borrow.Author.Tests.{not-true, not-false}
 use Rattle.demand.proofs.peer_demand.PeerDemand.new.Statement.{statement}

@@ -1,26 +1,17 @@
 -- `total` meets its contract.
-use Rattle.gcra.proofs.Answers.{answer-no}
-use Rattle.demand.proofs.PeerReaderLaws.{answer-yes}
 use borrow.Author.Needs.{needs}
+use Rattle.demand.specs.Peers.Readers.{total}
+use Rattle.demand.proofs.Peers.Readers.EachLaws.{one-refused, one-given}
 use Rattle.demand.proofs.peer_demand.PeerDemand.total.Statement.{statement}
 use Rattle.demand.proofs.peer_demand.PeerDemand.total.Tie as tie
 
 returns : tie.Need-returns
 returns c =
-    let a = c .before .before .before in
-    answer-no _ _ (a .ask-for-starts .result) (a .ask-for-starts .ensures .0 .first) (c .if1 .taken)
-
-sum-heard-requires : tie.Need-sum-heard-requires
-sum-heard-requires c κs =
-    let e = c .before .before in
-    let a = e .before .before .before in
-    (a .ask-for-starts .ensures .0 .ready (e .if1 .left), a .ask-for-starts .ensures .1 (e .if1 .left))
+    let m = c .before in
+    one-refused total _ _ _ _ _ _ (m .before .before .before .total-of-each .ensures) _ (m .no .given .1)
 
 returns-2 : tie.Need-returns-2
-returns-2 c =
-    let e = c .before .before .before in
-    let a = e .before .before .before in
-    answer-yes _ _ (a .ask-for-starts .result) _ _ (a .ask-for-starts .ensures .0 .first) (e .if1 .left) (c .sum-heard .ensures)
+returns-2 c = one-given total _ _ _ _ _ _ (c .before .before .before .total-of-each .ensures) _ (c .enum-told .given .1)
 
 pub total-spec : {M : Type 1} → statement M
 total-spec =
@@ -29,8 +20,8 @@ total-spec =
     (λ c. search needs)
     (λ c. search needs)
     (λ c κs. search needs)
+    (λ c. search needs)
+    (λ c. search needs)
+    (λ c. search needs)
     returns
-    (λ c. search needs)
-    (λ c. search needs)
-    sum-heard-requires
     returns-2)

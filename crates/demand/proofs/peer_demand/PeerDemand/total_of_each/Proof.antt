@@ -1,39 +1,28 @@
 -- `total_of_each` meets its contract.
 use borrow.Author.Needs.{needs}
-use Rattle.demand.specs.PeerReaders.{total}
-use Rattle.demand.proofs.PeerEachLaws.{each-refused, each-done, each-fits}
+use Rattle.demand.specs.Peers.Readers.{total}
+use Rattle.demand.proofs.Peers.Readers.EachLaws.{each-refused, each-done, each-fits}
 use Rattle.demand.proofs.peer_demand.PeerDemand.total_of_each.Statement.{statement}
 use Rattle.demand.proofs.peer_demand.PeerDemand.total_of_each.Tie as tie
 
 returns : tie.Need-returns
 returns c =
-    let a = c .before .before .before in
-    each-refused total _ _ _ _ _ _ (a .ask-for-each .result) (a .ask-for-each .ensures .0) (c .if1 .taken)
+    let q = c .before in
+    each-refused total _ _ _ _ _ _ (q .ask-for-each .result) (q .ask-for-each .ensures .first _ _ (q .before .ask-for-starts .ensures .first)) (c .if1 .taken)
 
 sum-each-requires : tie.Need-sum-each-requires
 sum-each-requires c κs =
-    let e = c .before .before .before in
-    let a = e .before .before .before in
-    let ready = a .ask-for-each .ensures .1 (e .if1 .left) in
-    (ready .0, (ready .1, each-fits _ _ _ _ _ _ (a .ask-for-each .result) (a .ask-for-each .ensures .0) (e .if1 .left)))
+    let e = c .before .before in
+    let q = e .before in
+    let a = q .before in
+    (a .ask-for-starts .ensures .ready (q .ask-for-each .ensures .state (e .if1 .left)), each-fits _ _ _ _ _ _ (q .ask-for-each .result) (q .ask-for-each .ensures .first _ _ (a .ask-for-starts .ensures .first)) (e .if1 .left))
 
 returns-2 : tie.Need-returns-2
 returns-2 c =
     let done = c .before .before in
-    let e = done .before .before .before .before in
-    let a = e .before .before .before in
-    each-done total _ _ _ _ _ _ (a .ask-for-each .result) (a .ask-for-each .ensures .0) (e .if1 .left) _ (done .sum-each .ensures)
+    let e = done .before .before .before in
+    let q = e .before in
+    each-done total _ _ _ _ _ _ (q .ask-for-each .result) (q .ask-for-each .ensures .first _ _ (q .before .ask-for-starts .ensures .first)) (e .if1 .left) _ (done .sum-each .ensures)
 
 pub total-of-each-spec : {M : Type 1} → statement M
-total-of-each-spec =
-    tie.close
-    (tie.spec
-    (λ c. search needs)
-    (λ c. search needs)
-    (λ c κs. search needs)
-    returns
-    (λ c. search needs)
-    (λ c. search needs)
-    sum-each-requires
-    (λ c. search needs)
-    returns-2)
+total-of-each-spec = tie.close (tie.spec (λ c κs. search needs) (λ c κs. search needs) returns sum-each-requires (λ c. search needs) returns-2)

@@ -1,5 +1,5 @@
 -- `KeyState::has_room` meets its contract.
-use Rattle.gcra.proofs.Cases.{told-no, told-yes}
+use Rattle.questions.proofs.Tests.{told-no, told-yes}
 use Rattle.limiter.specs.Steps.KeySteps.{keyRecord}
 use Rattle.limiter.proofs.Checking.CheckLaws.{no-demand, no-requests, no-denials, by-shadow}
 use borrow.Author.Needs.{needs}
