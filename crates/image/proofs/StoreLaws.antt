@@ -29,7 +29,7 @@ module _ {A : Type 0} (words : A → List ℕ) (back : List ℕ → A) (good : A
   table-exact : exact words back (records w (length xs) (table (map words xs) ys)) ≡ true
   table-exact = ap (exact words back) (records-written words w long xs ys) ∙ all-exact words back good undone xs a
 
--- (`PeerTheorems` of the demand crate has these three of the peers, not as `pub`.)
+-- the peers' three tables
 module _ (s : PeersState) (e : peer-state.valid s ≡ true) (t : PeerTables) where
   -- the tables after they were written
   abbrev storedPeers : PeerTables
