@@ -8,7 +8,7 @@ use Rattle.gcra.specs.declared.Encoded.{Encoded}
 use Rattle.gcra.specs.declared.Pace.{Pace}
 use Rattle.gcra.specs.declared.Quota.{Quota}
 
--- a table of three widths in nanoseconds that is accepted: 'the first is 1, they rise strictly, and the last is at most 1,000,000'
+-- a table of three widths in nanoseconds that is accepted: the first is 1, they rise strictly, and the last is at most 1,000,000
 unfoldable pub accepted : Units → Bool
 accepted u = eqb (u .first) 1 && (ltb (u .first) (u .second) && (ltb (u .second) (u .third) && leb (u .third) 1000000))
 

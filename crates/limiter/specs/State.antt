@@ -42,9 +42,9 @@ pub record Settings : Type 0 where
   pub cap : Option Float
   pub lastTick : Option ℕ
 
--- ---- numbers that may become settings
+-- ---- numbers that the definitions take as parameters; whatever the settings, they are 01's
 
--- 000's `SILENT_DEMAND` (1e-3) and `DENIAL_TIME_CONSTANT`, 003's 'least × 1.1', 002's `IMPLAUSIBLE_JUMP`
+-- 000's `SILENT_DEMAND` (1e-3) and `DENIAL_TIME_CONSTANT`, 003's `EVICTION_MARGIN`, 002's `IMPLAUSIBLE_JUMP`
 abbrev pub parametersOf : Settings → Parameters
 parametersOf s =
     record {

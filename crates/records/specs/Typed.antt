@@ -42,7 +42,7 @@ standsFor w words of valid r = eqb (length r) w && (same (words (of r)) r && val
 unfoldable pub inOrder : ℕ → ℕ → ℕ → List ℕ → Bool
 inOrder w d n xs = keyed (length xs) w d n && ascending d (records w n xs)
 
--- where a search ended; n, where it found no record
+-- the place of the record that a search found; n, where it found none
 unfoldable pub foundOr : ℕ → Found → ℕ
 foundOr n (At i) = i
 foundOr n (Gap i) = n
@@ -64,7 +64,7 @@ pub record Front (w n : ℕ) (rs : List (List ℕ)) (xs : List ℕ) : Type 0 whe
 abbrev pub replacedRun : ℕ → ℕ → ℕ → List ℕ → List ℕ → List (List ℕ)
 replacedRun w n a new xs = replaced (word 0) a (records w (length new / w) new) (records w n xs)
 
--- they ascend by their first word, or by more of them, and there is room for the new ones
+-- the n records fit and ascend by their first word, or by more of them; the new ones are whole, and there is room for them
 pub record Replaceable (w n a : ℕ) (new xs : List ℕ) : Type 0 where
   pub fit : fits (length xs) w n ≡ true
   pub depth : ℕ

@@ -155,7 +155,7 @@ taken jump epoch round old past =
 abbrev pub notTaken : ℕ → ℕ → Snapshot → Bool → Verdict
 notTaken epoch round old alike = cond (eqb (old .epoch) epoch && (eqb (old .round) round && alike)) duplicates contests
 
--- on a report of the given epoch and round; `alike`: it has the keys of the snapshot
+-- the verdict on a report of the given epoch and round; `alike`: it has the keys of the snapshot
 abbrev pub verdictOn : ℕ → ℕ → ℕ → Option Snapshot → List ℕ → Bool → Verdict
 verdictOn jump epoch round none past alike = takes [] false
 verdictOn jump epoch round (some old) past alike =
@@ -169,7 +169,7 @@ abbrev pub pastIn : Option PeerRecord → List ℕ
 pastIn none = []
 pastIn (some p) = p .pastEpochs
 
--- and on one of the peer id with the keys ks
+-- the verdict on a report of the peer id that lists the keys ks
 unfoldable pub verdict : ℕ → ℕ → ℕ → ℕ → List SnapshotKey → PeersState → Verdict
 verdict jump id epoch round ks s =
     verdictOn jump epoch round
@@ -230,7 +230,7 @@ applyVerdict id epoch round at ks (takes past keep) s = takeReport id epoch roun
 applyVerdict id epoch round at ks contests s = contestReport id round at ks s
 applyVerdict id epoch round at ks duplicates s = s
 
--- what a report of its sender does
+-- what a report does whose origin is its sender
 abbrev pub settle : ℕ → ℕ → ℕ → ℕ → ℕ → List SnapshotKey → PeersState → PeersState
 settle jump id epoch round at ks s = applyVerdict id epoch round at ks (verdict jump id epoch round ks s) s
 
@@ -264,7 +264,9 @@ holdPeer id until s =
 unfoldable pub leave : ℕ → ℕ → ℕ → PeersState → PeersState
 leave id at time s = cond (eqb time 0) (forget id s) (holdPeer id (later at time) s)
 
--- ---- expiry (`PeerDemand::expire`): holds, whatever the age
+-- ---- expiry (`PeerDemand::expire`)
+
+-- a hold ends, whatever the age
 
 abbrev pub holdEnded : ℕ → Option ℕ → Bool
 holdEnded at none = false
@@ -282,9 +284,9 @@ expireHolds at s =
       contested = only (λ (c : ContestedKey). isKnown (notEnded at (s .peers)) (c .peer)) (s .contested);
     }
 
--- ---- age, whatever the hold; `exempt` says which peers it does not touch
+-- ---- age; `exempt` says which peers it leaves alone
 
--- last heard less than maxAge ago
+-- last heard less than maxAge ago, the sum of times held at 2^64 - 1
 abbrev pub isFresh : ℕ → ℕ → ℕ → Bool
 isFresh at maxAge heardAt = ltb at (later heardAt maxAge)
 
@@ -318,7 +320,7 @@ expireAge exempt at maxAge s =
       contested = freshContested exempt at maxAge s;
     }
 
--- ---- both
+-- ---- empty peers, and all together
 
 -- a peer stays: it is exempt, has a snapshot, or has one of the contested keys cs
 abbrev pub stays : (PeerRecord → Bool) → List ContestedKey → PeerRecord → Bool

@@ -62,7 +62,7 @@ heardIn key s (some p) = peerHeard key s p
 unfoldable pub heard : ℕ → ℕ → PeersState → Option Heard
 heard id key s = heardIn key s (peerWith id (s .peers))
 
--- adds what was heard; an f32 is the f64 of its value
+-- adds what was heard; an f64 holds every f32 exactly
 abbrev pub addHeard : Float → Option Heard → Float
 addHeard sum none = sum
 addHeard sum (some h) = add binary64 sum (h .demand)
@@ -79,6 +79,7 @@ abbrev pub isPrimary : Option Heard → Bool
 isPrimary none = false
 isPrimary (some h) = h .primary
 
+-- `PeerDemand::hot_elsewhere`: a peer has the key as primary
 unfoldable pub hotElsewhere : ℕ → PeersState → Bool
 hotElsewhere key s = any (λ (p : PeerRecord). isPrimary (peerHeard key s p)) (s .peers)
 

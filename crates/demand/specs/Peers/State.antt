@@ -19,7 +19,7 @@ pub record PeersState : Type 0 where
   pub snapshotKeys : List SnapshotKey
   pub contested : List ContestedKey
 
--- 32 peers at most, each with at most 64 snapshot keys (`MAX_DEMAND_KEYS`) and 256 contested ones (`MAX_CONTESTED`)
+-- question 12: 32 peers at most, each with at most 64 snapshot keys (`MAX_DEMAND_KEYS`) and 256 contested ones (`MAX_CONTESTED`)
 abbrev pub maxPeers : ℕ
 maxPeers = 32
 
@@ -171,7 +171,7 @@ isValid p t = areExact p t && valid (stateOf p t)
 abbrev pub newPeers : PeerDemand
 newPeers = record { peers = 0; «snapshot_keys» = 0; contested = 0 }
 
--- the value p with the counts of a state: how many records it has of each kind (a value is its counts alone)
+-- the value p with the counts of a state: how many records it has of each kind (a value is its counts alone, so p is not looked at)
 abbrev pub withCounts : PeerDemand → PeersState → PeerDemand
 withCounts p s = record { peers = length (s .peers); «snapshot_keys» = length (s .snapshotKeys); contested = length (s .contested) }
 

@@ -34,7 +34,7 @@ contestedIn n xs = map contestedOf (records 6 n xs)
 abbrev pub peersIn : ℕ → List ℕ → List PeerRecord
 peersIn n xs = map peerOf (records 12 n xs)
 
--- ---- records that share a first word
+-- ---- what a change leaves
 
 -- the value p′ and the tables t′ hold the state s, where they were p and t
 pub record Stores (s : PeersState) (p : PeerDemand) (t : PeerTables) (p′ : PeerDemand) (t′ : PeerTables) : Type 0 where

@@ -39,6 +39,7 @@ arePeerWords r =
 unfoldable pub areKeyWords : ℕ → List ℕ → Bool
 areKeyWords w r = isDemand (getD r 2 0) && (leb (getD r 3 0) 1 && (leb w 4 || ltb (getD r 4 0) (2 ^ 16)))
 
+-- a peer of the given id has a snapshot flag of `least` or more
 unfoldable pub isNamed : ℕ → List (List ℕ) → ℕ → Bool
 isNamed least ps id = any (λ (p : List ℕ). eqb (firstWord p) id && leb least (getD p 3 0)) ps
 
