@@ -1,5 +1,3 @@
 -- The laws, in folders by what they are about.
 pub mod Weight
 pub mod Estimating
-pub mod HotSet
-pub mod Peers

@@ -2,5 +2,3 @@ pub mod Answers
 pub mod Decay
 pub mod Estimators
 pub mod Allocation
-pub mod HotSet
-pub mod Peers

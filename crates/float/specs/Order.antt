@@ -38,7 +38,7 @@ unfoldable pub place : ℕ → ℕ
 place b = cond (ltb b (2 ^ 63)) (2 ^ 63 + b) (2 ^ 64 - 1 - b)
 
 -- a comes strictly before b in totalOrder
-unfoldable pub totalLess : ℕ → ℕ → Bool
+unfoldable pub totalLess : (a b : ℕ) → Bool
 unfolding place
 totalLess a b = ltb (place a) (place b)
 
@@ -49,6 +49,6 @@ ordering false true = Greater
 ordering false false = Equal
 
 -- Rust's `total_cmp`, on bit patterns
-unfoldable pub totalCmp : ℕ → ℕ → Ordering
+unfoldable pub totalCmp : (a b : ℕ) → Ordering
 unfolding totalLess
 totalCmp a b = ordering (totalLess a b) (totalLess b a)

@@ -170,7 +170,7 @@ pub fn max(a: f64, b: f64) -> f64
 
 // A bit pattern's place in totalOrder: the patterns with the sign bit set come first, the greatest
 // magnitude in front.
-fn total_place(b: u64) -> u64
+pub fn total_place(b: u64) -> u64
     ensures { λ r. ⌜ r ≡ Order.place b ⌝ }
 {
     if b < 0x8000_0000_0000_0000 {

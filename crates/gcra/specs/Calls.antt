@@ -72,7 +72,7 @@ abbrev pub askQuota : Quota → List Question
 askQuota q = (2 asks validQuota unitNanos q) ∷ []
 
 -- questions 3 and 4: is the rate above 0, and the burst 1 to 4,194,303?
-unfoldable pub quotaNew : ℕ → ℕ → Answer Quota
+unfoldable pub quotaNew : (rate burst : ℕ) → Answer Quota
 quotaNew rate burst =
     answer ((3 asks ltb 0 rate) ∷ (4 asks validBurst burst) ∷ []) (withInterval unitNanos (roundUp 1000000000 rate) burst)
 

@@ -38,7 +38,7 @@ abbrev pub maxBurst : ℕ
 maxBurst = 2 ^ burstBits - 1
 
 -- n / d, rounded up
-abbrev pub roundUp : ℕ → ℕ → ℕ
+abbrev pub roundUp : (n d : ℕ) → ℕ
 roundUp n d = (n + (d - 1)) / d
 
 -- the width of a unit code, as `decode` reads it: the unused code 3 as the third
@@ -103,7 +103,7 @@ unfoldable pub validWord : Units → ℕ → Bool
 validWord u w = unpacks w && eqb (pack u (unpack u w)) w
 
 -- T * (burst - 1), at most `MAX_TAU`; a burst of 0 counts as no slots
-unfoldable pub tau : ℕ → ℕ → ℕ
+unfoldable pub tau : (interval burst : ℕ) → ℕ
 tau interval burst = min (interval * (burst - 1)) (2 ^ 63 - 1)
 
 -- the pace, T and tau, of every word, as `step` reads it

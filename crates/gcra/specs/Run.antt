@@ -17,7 +17,7 @@ allowed g [] = []
 allowed g (now ∷ later) = cond (isAllow (decision g now)) (now ∷ allowed (check g now) later) (allowed (check g now) later)
 
 -- how many readings of a list lie from s to s + w, both ends counted
-unfoldable pub countIn : ℕ → ℕ → List ℕ → ℕ
+unfoldable pub countIn : (s w : ℕ) → List ℕ → ℕ
 countIn s w [] = 0
 countIn s w (t ∷ later) = cond (leb s t && leb t (s + w)) (suc (countIn s w later)) (countIn s w later)
 

@@ -16,10 +16,10 @@ abbrev pub nonconforming : ℕ → Cell
 nonconforming tat = record { conforms = false; tat = tat }
 
 -- TAT < ta: TAT becomes ta, and then ta + I. TAT > ta + L: the cell does not conform, and TAT stays. Otherwise TAT becomes TAT + I.
-unfoldable pub arrives : ℕ → ℕ → ℕ → ℕ → Cell
+unfoldable pub arrives : (I L tat ta : ℕ) → Cell
 arrives I L tat ta = cond (ltb tat ta) (conforming (ta + I)) (cond (ltb (ta + L) tat) (nonconforming tat) (conforming (tat + I)))
 
 -- at the first cell TAT is its arrival time
-unfoldable pub virtualScheduling : ℕ → ℕ → Option ℕ → ℕ → Cell
+unfoldable pub virtualScheduling : (I L : ℕ) → Option ℕ → ℕ → Cell
 virtualScheduling I L none ta = arrives I L ta ta
 virtualScheduling I L (some tat) ta = arrives I L tat ta

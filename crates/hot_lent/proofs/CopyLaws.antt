@@ -12,25 +12,25 @@ use borrow.Author.Tests.{le-leb, leb-true, leb-false}
 use lib.Dec.{T, leb}
 use lib.Ieee.{Float, binary64, ofBits, fits}
 use lib.Ieee.Bits.{is-true}
-use Rattle.demand.specs.declared.hot_set.Cooling.the-variants.{Unset}
+use Rattle.hot.specs.declared.hot_set.Cooling.the-variants.{Unset}
 use Rattle.records.specs.Records.{records, flat, table, insertAt, splice, insertable, inserted}
 use Rattle.questions.proofs.Tests.{and-intro, split, both}
-use Rattle.records.proofs.RecordLaws.{fits-intro, length-records, flat-append, flat-records, records-split}
-use Rattle.records.proofs.TableLaws.{records-inserted}
-use Rattle.demand.specs.HotSet.Set.{words, entry, entries, Outcome, updateWith}
-use Rattle.demand.specs.HotSet.Calls.{askUpdate, evictionMargin, entriesOf, updated, rewritten, updateAnswer, UpdatedWith}
-use Rattle.demand.specs.declared.hot_set.HotSet.{HotSet}
-use Rattle.demand.specs.declared.hot_set.Updated.{Updated}
-use Rattle.demand.specs.declared.hot_set.UpdateAnswer.{UpdateAnswer}
-use Rattle.demand.specs.declared.hot_set.UpdateAnswer.the-variants.{No, Is}
-use Rattle.demand.specs.declared.hot_set.HotEntry.{HotEntry}
-use Rattle.demand.proofs.HotSet.Words.{entry-at, entry-take, length-entries, length-flat, demandFits, Fits, fits-entries, entries-table}
-use Rattle.demand.proofs.HotSet.ValidLaws.{updated-fits}
-use Rattle.demand.proofs.Peers.Validity.ValidLaws.{all-take}
-use Rattle.demand.proofs.HotSet.Answers.{passed-set, update-passed-set}
-use Rattle.demand.proofs.HotSet.Theorems.{Kept, kept}
+use Rattle.records.proofs.Words.RecordLaws.{fits-intro, length-records, flat-append, flat-records, records-split}
+use Rattle.records.proofs.Tables.TableLaws.{records-inserted}
+use Rattle.hot.specs.HotSet.Set.{words, entry, entries, Outcome, updateWith}
+use Rattle.hot.specs.HotSet.Calls.{askUpdate, evictionMargin, entriesOf, updated, rewritten, updateAnswer, UpdatedWith}
+use Rattle.hot.specs.declared.hot_set.HotSet.{HotSet}
+use Rattle.hot.specs.declared.hot_set.Updated.{Updated}
+use Rattle.hot.specs.declared.hot_set.UpdateAnswer.{UpdateAnswer}
+use Rattle.hot.specs.declared.hot_set.UpdateAnswer.the-variants.{No, Is}
+use Rattle.hot.specs.declared.hot_set.HotEntry.{HotEntry}
+use Rattle.hot.proofs.HotSet.Words.{entry-at, entry-take, length-entries, length-flat, demandFits, Fits, fits-entries, entries-table}
+use Rattle.hot.proofs.HotSet.ValidLaws.{updated-fits}
+use Rattle.questions.proofs.ListLaws.{all-take}
+use Rattle.hot.proofs.HotSet.Answers.{passed-set, update-passed-set}
+use Rattle.hot.proofs.HotSet.Theorems.{Kept, kept}
 use Rattle.questions.proofs.Answers.{given-passed}
-use Rattle.questions.specs.Questions.{Question, Answer, refused, given, answer, passes, changed}
+use Rattle.questions.specs.Questions.{Question, refused, answer, passes, changed}
 use Rattle.hot_lent.specs.declared.Copied.{Copied}
 use Rattle.hot_lent.specs.declared.Turn.{Turn}
 use Rattle.hot_lent.specs.Entries.{lentWords, outcome, UpdatedEntries}

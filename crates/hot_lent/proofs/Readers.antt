@@ -45,9 +45,9 @@ use denote.Triple.Clauses.{Ended, Clauses, closing, ensured, lasts}
 use denote.Triple.Table.{entered, cited}
 use denote.Triple.Walked.{says, Stays, stay-none-slice, stay-none, walkOf, goes-none-slice, goes-none, Walks, ends-at, walked, walk-meets}
 use denote.Exit.{yes}
-use Rattle.demand.specs.declared.hot_set.HotEntry.{HotEntry}
-use Rattle.demand.specs.declared.hot_set.HotSet.{HotSet}
-use Rattle.demand.proofs.hot_set.HotSet as S
+use Rattle.hot.specs.declared.hot_set.HotEntry.{HotEntry}
+use Rattle.hot.specs.declared.hot_set.HotSet.{HotSet}
+use Rattle.hot.proofs.hot_set.HotSet as S
 use Rattle.hot_lent.specs.declared.Copied.{Copied}
 use Rattle.hot_lent.specs.Entries.{lentWords}
 use Rattle.hot_lent.specs.Steps.{wordsIn, Copies}

@@ -25,13 +25,13 @@ use denote.Struct.Declared.{Declared, fields, row}
 use denote.Struct.Struct.{Plains}
 use denote.Struct.Laws as LL
 use denote.Enum.Laws as EL
-use Rattle.demand.specs.declared.hot_set.UpdateAnswer.{UpdateAnswer}
-use Rattle.demand.proofs.hot_set.UpdateAnswer as X
-use Rattle.demand.proofs.hot_set.UpdateAnswer.Laws as X′
-use Rattle.demand.proofs.hot_set.HotEntry as T
-use Rattle.demand.proofs.hot_set.HotEntry.Laws as T′
-use Rattle.demand.proofs.hot_set.HotSet as S
-use Rattle.demand.proofs.hot_set.HotSet.Laws as S′
+use Rattle.hot.specs.declared.hot_set.UpdateAnswer.{UpdateAnswer}
+use Rattle.hot.proofs.hot_set.UpdateAnswer as X
+use Rattle.hot.proofs.hot_set.UpdateAnswer.Laws as X′
+use Rattle.hot.proofs.hot_set.HotEntry as T
+use Rattle.hot.proofs.hot_set.HotEntry.Laws as T′
+use Rattle.hot.proofs.hot_set.HotSet as S
+use Rattle.hot.proofs.hot_set.HotSet.Laws as S′
 use Rattle.hot_lent.specs.declared.Copied.{Copied}
 use Rattle.hot_lent.proofs.Copied as C
 use Rattle.hot_lent.proofs.Copied.Laws as C′

@@ -6,12 +6,12 @@ use mathlib.Core.List.{List, _++_, map}
 use lib.Ieee.{Float}
 use lib.ListN.{length, take, drop}
 use Rattle.records.specs.Records.{flat}
-use Rattle.questions.specs.Questions.{Question, answer, changed}
-use Rattle.demand.specs.HotSet.Set.{words, Outcome, updateWith}
-use Rattle.demand.specs.HotSet.Calls.{askUpdate, evictionMargin, entriesOf, updated, updateAnswer}
-use Rattle.demand.specs.declared.hot_set.HotEntry.{HotEntry}
-use Rattle.demand.specs.declared.hot_set.HotSet.{HotSet}
-use Rattle.demand.specs.declared.hot_set.UpdateAnswer.{UpdateAnswer}
+use Rattle.questions.specs.Questions.{answer, changed}
+use Rattle.hot.specs.HotSet.Set.{words, Outcome, updateWith}
+use Rattle.hot.specs.HotSet.Calls.{askUpdate, evictionMargin, entriesOf, updated, updateAnswer}
+use Rattle.hot.specs.declared.hot_set.HotEntry.{HotEntry}
+use Rattle.hot.specs.declared.hot_set.HotSet.{HotSet}
+use Rattle.hot.specs.declared.hot_set.UpdateAnswer.{UpdateAnswer}
 
 -- the words of lent entries, of which at most 64 count: what the promises over words are asked of
 unfoldable pub lentWords : List HotEntry → List ℕ

@@ -7,12 +7,12 @@ use lib.Ieee.{Float}
 use lib.ListN.{length, take, drop}
 use Rattle.records.specs.Records.{flat}
 use Rattle.questions.specs.Questions.{answer, changed}
-use Rattle.demand.specs.HotSet.Set.{words, entry, entries, Outcome, updateWith}
-use Rattle.demand.specs.HotSet.Calls.{askUpdate, evictionMargin, entriesOf, updated, updateAnswer}
-use Rattle.demand.specs.declared.hot_set.HotEntry.{HotEntry}
-use Rattle.demand.specs.declared.hot_set.HotSet.{HotSet}
-use Rattle.demand.specs.declared.hot_set.UpdateAnswer.{UpdateAnswer}
-use Rattle.demand.specs.declared.hot_set.UpdateAnswer.the-variants.{No, Is}
+use Rattle.hot.specs.HotSet.Set.{words, entry, entries, updateWith}
+use Rattle.hot.specs.HotSet.Calls.{askUpdate, evictionMargin, entriesOf, updated, updateAnswer}
+use Rattle.hot.specs.declared.hot_set.HotEntry.{HotEntry}
+use Rattle.hot.specs.declared.hot_set.HotSet.{HotSet}
+use Rattle.hot.specs.declared.hot_set.UpdateAnswer.{UpdateAnswer}
+use Rattle.hot.specs.declared.hot_set.UpdateAnswer.the-variants.{No, Is}
 use Rattle.hot_lent.specs.declared.Copied.{Copied}
 use Rattle.hot_lent.specs.declared.Turn.{Turn}
 

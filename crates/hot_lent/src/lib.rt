@@ -2,16 +2,16 @@
 // functions over words act on these, and the entries that an update leaves are copied back.
 use demand::answers::FlagAnswer;
 use demand::answers::LenAnswer;
-use demand::hot_set::HotEntry;
-use demand::hot_set::HotSet;
-use demand::hot_set::SinceAnswer;
-use demand::hot_set::UpdateAnswer;
+use hot::hot_set::HotEntry;
+use hot::hot_set::HotSet;
+use hot::hot_set::SinceAnswer;
+use hot::hot_set::UpdateAnswer;
 ghost use mathlib.Core.Path.{_≡_};
 ghost use mathlib.Core.Bool.{false};
 ghost use Prim.Native.Nat.{_+_, _-_, _*_, _≤_, _<_, min};
-ghost use lib.ListN.{length, take, drop};
-ghost use Rattle.demand.specs.HotSet.Set as Set;
-ghost use Rattle.demand.specs.HotSet.Calls as Calls;
+ghost use lib.ListN.{length, take};
+ghost use Rattle.hot.specs.HotSet.Set as Set;
+ghost use Rattle.hot.specs.HotSet.Calls as Calls;
 ghost use Rattle.hot_lent.specs.Entries.{lentWords, UpdatedEntries};
 ghost use Rattle.hot_lent.specs.Steps.{wordsIn, entryIn, lengthLeft, Copies, Appends, Turns, Stored};
 

@@ -6,10 +6,10 @@ use mathlib.Core.List.{List, [], _∷_, _++_}
 use lib.Dec.{leb}
 use lib.ListN.{length, drop}
 use Rattle.questions.specs.Questions.{Question, _asks_, Answer, refused, given, answer, changed}
-use Rattle.demand.specs.declared.peer_demand.PeerDemand.{PeerDemand}
+use Rattle.peers.specs.declared.peer_demand.PeerDemand.{PeerDemand}
 use Rattle.demand.specs.declared.answers.LenAnswer.{LenAnswer}
-use Rattle.demand.specs.Peers.State as peer-state
-use Rattle.demand.specs.Peers.State.{PeerTables}
+use Rattle.peers.specs.Peers.State as peer-state
+use Rattle.peers.specs.Peers.State.{PeerTables}
 use Rattle.demand.specs.Answers.{lenAnswer}
 use Rattle.limiter.specs.declared.Limiter.{Limiter}
 use Rattle.limiter.specs.State as limiter-state

@@ -6,11 +6,11 @@ use mathlib.Core.List.{List, [], _∷_, map}
 use lib.Dec.{ltb, leb, eqb}
 use lib.ListN.{getD}
 use Rattle.questions.specs.Questions.{Question, _asks_, answer}
-use Rattle.demand.specs.declared.peer_demand.PeerDemand.{PeerDemand}
-use Rattle.demand.specs.HotSet.Set as hot-set
+use Rattle.peers.specs.declared.peer_demand.PeerDemand.{PeerDemand}
+use Rattle.hot.specs.HotSet.Set as hot-set
 use Rattle.records.specs.Fields.{timeOf}
-use Rattle.demand.specs.Peers.Records.{peerWords, snapshotKeyWords, contestedWords, peerOf, snapshotKeyOf, contestedOf}
-use Rattle.demand.specs.Peers.State as peer-state
+use Rattle.peers.specs.Peers.Records.{peerWords, snapshotKeyWords, contestedWords, peerOf, snapshotKeyOf, contestedOf}
+use Rattle.peers.specs.Peers.State as peer-state
 use Rattle.records.specs.Typed.{exact}
 use Rattle.limiter.specs.declared.Config.{Config}
 use Rattle.limiter.specs.declared.Limiter.{Limiter}

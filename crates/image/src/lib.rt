@@ -8,9 +8,9 @@ pub mod words;
 pub mod writer;
 
 use demand::answers::LenAnswer;
-use demand::peer_demand::PeerDemand;
 use limiter::Limiter;
-ghost use Rattle.demand.specs.Peers.State as peer-state;
+use peers::peer_demand::PeerDemand;
+ghost use Rattle.peers.specs.Peers.State as peer-state;
 ghost use Rattle.limiter.specs.State.{atEntry, atExit};
 ghost use Rattle.image.specs.Calls as Calls;
 

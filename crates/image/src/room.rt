@@ -1,7 +1,7 @@
 // Question 1 of a load: the sizes are those of the image's kind 1, where it can be read.
 use crate::rows::begins;
 use crate::words::word_at;
-use demand::peer_demand;
+use peers::peer_demand;
 ghost use mathlib.Core.Path.{_≡_};
 ghost use Rattle.image.specs.LoadSteps.{peersFit, roomFor};
 

@@ -3,7 +3,7 @@ pub mod ListLaws
 pub mod KeyWordLaws
 pub mod MeasureLaws
 pub mod CopyLaws
-pub mod HeldLaws
+pub mod LentKeyLaws
 pub mod RewriteLaws
 pub mod UpdateLaws
 pub mod EachLaws

@@ -17,16 +17,16 @@ use Rattle.gcra.specs.declared.RateAnswer.{RateAnswer}
 use Rattle.questions.specs.Questions.{Question, _asks_, Answer, refused, given, answer, passes, firstNo, changed}
 use Rattle.gcra.specs.Packed.{validBurst}
 use Rattle.gcra.specs.Calls.{checkAnswer, quotaAnswer, rateAnswer}
-use Rattle.demand.specs.declared.hot_set.SinceAnswer.{SinceAnswer}
-use Rattle.demand.specs.declared.peer_demand.PeerDemand.{PeerDemand}
+use Rattle.hot.specs.declared.hot_set.SinceAnswer.{SinceAnswer}
+use Rattle.peers.specs.declared.peer_demand.PeerDemand.{PeerDemand}
 use Rattle.demand.specs.declared.answers.FlagAnswer.{FlagAnswer}
 use Rattle.demand.specs.declared.answers.LenAnswer.{LenAnswer}
 use Rattle.demand.specs.Allocation.{isRate, isFloorFactor}
-use Rattle.demand.specs.HotSet.Set.{get, isHot, sinceOf}
-use Rattle.demand.specs.HotSet.Calls.{sinceAnswer}
-use Rattle.demand.specs.Peers.State as peer-state
-use Rattle.demand.specs.Peers.State.{PeerTables}
-use Rattle.demand.specs.Peers.Calls.{changeAnswer}
+use Rattle.hot.specs.HotSet.Set.{get, isHot, sinceOf}
+use Rattle.hot.specs.HotSet.Calls.{sinceAnswer}
+use Rattle.peers.specs.Peers.State as peer-state
+use Rattle.peers.specs.Peers.State.{PeerTables}
+use Rattle.peers.specs.Peers.Calls.{changeAnswer}
 use Rattle.demand.specs.Answers.{flagAnswer, lenAnswer}
 use Rattle.limiter.specs.declared.Limit.{Limit}
 use Rattle.limiter.specs.declared.Config.{Config}

@@ -5,9 +5,9 @@ use mathlib.Core.List.{List, [], _∷_, map}
 use mathlib.Core.Option.{Option, none, some}
 use lib.Ieee.{Float, le}
 use lib.ListN.{take}
-use Rattle.demand.specs.declared.hot_set.HotEntry.{HotEntry}
+use Rattle.hot.specs.declared.hot_set.HotEntry.{HotEntry}
 use Rattle.records.specs.Fields.{flagWord}
-use Rattle.demand.specs.HotSet.Set.{get, isHot, primaryOf}
+use Rattle.hot.specs.HotSet.Set.{get, isHot, primaryOf}
 use Rattle.questions.specs.Lists.{only}
 use Rattle.limiter.specs.declared.Parameters.{Parameters}
 use Rattle.limiter.specs.declared.KeyRates.{KeyRates}

@@ -16,13 +16,13 @@ use Rattle.gcra.specs.declared.Tat.{Tat}
 use Rattle.gcra.specs.declared.Tat.the-variants as tat
 use Rattle.gcra.specs.declared.Gcra.{Gcra}
 use Rattle.gcra.specs.Packed.{unitNanos, validBurst, validQuota, pack, unpack}
-use Rattle.demand.specs.declared.hot_set.HotEntry.{HotEntry}
+use Rattle.hot.specs.declared.hot_set.HotEntry.{HotEntry}
 use Rattle.demand.specs.Estimators.Estimator.{whole}
 use Rattle.demand.specs.Allocation.{isRate, isFloorFactor}
 use Rattle.records.specs.Fields.{timeWords, timeOf}
-use Rattle.demand.specs.HotSet.Set as hot-set
-use Rattle.demand.specs.HotSet.Calls.{evictionMargin}
-use Rattle.demand.specs.Peers.Changes.{implausibleJump}
+use Rattle.hot.specs.HotSet.Set as hot-set
+use Rattle.hot.specs.HotSet.Calls.{evictionMargin}
+use Rattle.peers.specs.Peers.Changes.{implausibleJump}
 use Rattle.questions.specs.Lists.{all, any, first, those, replaced}
 use Rattle.records.specs.Typed.{isWord, exact}
 use Rattle.limiter.specs.declared.Limit.{Limit}
@@ -45,8 +45,8 @@ pub record Settings : Type 0 where
 -- ---- numbers that the definitions take as parameters; whatever the settings, they are 01's
 
 -- 000's `SILENT_DEMAND` (1e-3) and `DENIAL_TIME_CONSTANT`, 003's `EVICTION_MARGIN`, 002's `IMPLAUSIBLE_JUMP`
-abbrev pub parametersOf : Settings → Parameters
-parametersOf s =
+unfoldable pub parametersFor : Config → Parameters
+parametersFor c =
     record {
       «silent_level» = ofBits binary64 0x3f50624dd2f1a9fc;
       «denial_time_constant» = 10_000_000_000;
@@ -54,9 +54,15 @@ parametersOf s =
       «implausible_jump» = implausibleJump;
     }
 
+abbrev pub parametersOf : Settings → Parameters
+parametersOf s = parametersFor (s .config)
+
 -- 'unit code (1, 1,000, 1,000,000 ns)'
+unfoldable pub unitsFor : Config → Units
+unitsFor c = unitNanos
+
 abbrev pub unitsOf : Settings → Units
-unitsOf s = unitNanos
+unitsOf s = unitsFor (s .config)
 
 -- ---- records
 
@@ -328,6 +334,10 @@ lastTickFrom (some t) = last-tick.At t
 
 abbrev pub settingsOf : Limiter → Settings
 settingsOf l = record { config = l .config; cap = capOf (l .cap); lastTick = lastTickOf (l .«last_tick») }
+
+-- the units of a limiter's value
+abbrev pub unitsIn : Limiter → Units
+unitsIn l = unitsOf (settingsOf l)
 
 -- the state that a value and the records in use stand for
 unfoldable pub stateOf : Units → Limiter → LimiterTables → LimiterState

@@ -15,14 +15,14 @@ use Rattle.demand.specs.declared.demand.Times.{Times}
 use Rattle.demand.specs.declared.demand.Times.the-variants.{Unset, At}
 use Rattle.demand.specs.declared.demand.Demand.{Demand}
 use Rattle.demand.specs.declared.allocation.View.{View}
-use Rattle.demand.specs.declared.hot_set.HotEntry.{HotEntry}
-use Rattle.demand.specs.declared.hot_set.HotSet.{HotSet}
+use Rattle.hot.specs.declared.hot_set.HotEntry.{HotEntry}
+use Rattle.hot.specs.declared.hot_set.HotSet.{HotSet}
 use Rattle.demand.specs.Estimators.Estimator.{whole, ticked, unbiased}
 use Rattle.demand.specs.Allocation.{shared}
-use Rattle.demand.specs.HotSet.Set.{Outcome, updateWith, isHot}
+use Rattle.hot.specs.HotSet.Set.{Outcome, updateWith, isHot}
 use Rattle.questions.specs.Lists.{only}
-use Rattle.demand.specs.Peers.State.{PeersState}
-use Rattle.demand.specs.Peers.Readers.{total, hotElsewhere}
+use Rattle.peers.specs.Peers.State.{PeersState}
+use Rattle.peers.specs.Peers.Readers.{total, hotElsewhere}
 use Rattle.limiter.specs.declared.Limit.{Limit}
 use Rattle.limiter.specs.declared.Parameters.{Parameters}
 use Rattle.limiter.specs.State.{Settings, Estimate, KeyRecord, ShadowRecord, LimiterState, floatWord, isTracked}

@@ -13,13 +13,13 @@ use crate::key_record::Estimator;
 use crate::key_record::KeyState;
 use demand::allocation::is_cluster_size;
 use demand::allocation::is_rate;
-use demand::peer_demand::ChangeAnswer;
 use gcra::CheckAnswer;
 use gcra::Decision;
 use gcra::Gcra;
 use gcra::Quota;
 use gcra::QuotaAnswer;
 use gcra::Tat;
+use peers::peer_demand::ChangeAnswer;
 ghost use mathlib.Core.Path.{_≡_};
 ghost use mathlib.Core.Bool.{true, _&&_, _||_};
 ghost use mathlib.Core.List.{_++_};
@@ -31,7 +31,7 @@ ghost use Rattle.gcra.specs.Rate.{perSecond};
 ghost use Rattle.gcra.specs.Calls.{checkAnswer};
 ghost use Rattle.questions.specs.Questions.{firstNo};
 ghost use Rattle.demand.specs.Allocation.{isRate};
-ghost use Rattle.demand.specs.Peers.Calls.{changeAnswer};
+ghost use Rattle.peers.specs.Peers.Calls.{changeAnswer};
 ghost use Rattle.limiter.specs.State as State;
 ghost use Rattle.limiter.specs.Checks as Checks;
 ghost use Rattle.limiter.specs.Calls as Calls;
@@ -154,7 +154,7 @@ pub(crate) fn quota_for(rate: f64, burst: u32) -> Quota
 
 // A new key's quota: the cold one.
 pub(crate) fn cold_quota(limiter: Limiter, limit: Limit, cluster_size: usize) -> Quota
-    ensures { λ r. ⌜ r ≡ Checks.coldQuota (State.unitsOf (State.settingsOf limiter)) (State.settingsOf limiter) limit «cluster_size» ⌝ }
+    ensures { λ r. ⌜ r ≡ Checks.coldQuota (State.unitsIn limiter) (State.settingsOf limiter) limit «cluster_size» ⌝ }
 {
     let factor = new_key_factor(limiter, cluster_size);
     quota_for(limit.rate * factor, limit.burst)
@@ -174,7 +174,7 @@ fn start_of(last_tick: LastTick, reading: u64) -> u64
 
 // A key not seen before.
 fn new_key(limiter: Limiter, key: u64, limit: Limit, reading: u64, cluster_size: usize) -> KeyState
-    ensures { λ r. ⌜ keyRecord r ≡ Checks.newKey (State.unitsOf (State.settingsOf limiter)) (State.settingsOf limiter) key limit reading «cluster_size» ⌝ }
+    ensures { λ r. ⌜ keyRecord r ≡ Checks.newKey (State.unitsIn limiter) (State.settingsOf limiter) key limit reading «cluster_size» ⌝ }
 {
     let last_tick = limiter.last_tick;
     let started = Estimator::starting_at(start_of(last_tick, reading));
@@ -283,7 +283,7 @@ pub(crate) fn put(limiter: Limiter, keys: &mut [u64], entry: KeyEntry) -> Limite
     requires { ⌜ Ready limiter (now keys) ⌝ }
     requires { ⌜ Placed limiter (now keys) (entry .state .key) (entry .tracked) (entry .place) ⌝ }
     requires { ⌜ (entry .tracked || ltb (limiter .keys) (limiter .config .«table_size»)) ≡ true ⌝ }
-    requires { ⌜ validQuota units (entry .state .gcra .quota) ≡ true ⌝ }
+    requires { ⌜ validQuota (State.unitsIn limiter) (entry .state .gcra .quota) ≡ true ⌝ }
     ensures { λ r. ⌜ Puts limiter (now (keys .entry)) (keyRecord (entry .state)) r (now (keys .exit)) ⌝ }
 {
     let n = limiter.keys;
@@ -311,7 +311,7 @@ pub(crate) fn raise(
 ) -> Raised
     requires { ⌜ Ready limiter (now keys) ⌝ }
     requires { ⌜ Placed limiter (now keys) (entry .state .key) (entry .tracked) (entry .place) ⌝ }
-    requires { ⌜ validQuota units (gcra .quota) ≡ true ⌝ }
+    requires { ⌜ validQuota (State.unitsIn limiter) (gcra .quota) ≡ true ⌝ }
     ensures { λ r. ⌜
         Raises (Checks.raised attempts denials «shadow_denials» gcra (keyRecord (entry .state)))
         limiter (now (keys .entry)) r (now (keys .exit))

@@ -14,11 +14,11 @@ mod traces;
 
 use demand::allocation::is_floor_factor;
 use demand::allocation::is_rate;
-use demand::peer_demand::ChangeAnswer;
-use demand::peer_demand::IMPLAUSIBLE_JUMP;
 use gcra::CheckAnswer;
 use gcra::Decision;
 use gcra::Quota;
+use peers::peer_demand::ChangeAnswer;
+use peers::peer_demand::IMPLAUSIBLE_JUMP;
 ghost use mathlib.Core.Path.{_≡_};
 ghost use mathlib.Core.Bool.{true, _&&_};
 ghost use Prim.Native.Nat.{min};

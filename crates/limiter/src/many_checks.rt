@@ -3,9 +3,9 @@
 use crate::Changed;
 use crate::Limiter;
 use crate::checks;
-use demand::peer_demand::ChangeAnswer;
 use gcra::CheckAnswer;
 use gcra::Decision;
+use peers::peer_demand::ChangeAnswer;
 ghost use mathlib.Core.Path.{_≡_};
 ghost use Prim.Native.Nat.{_+_, _≤_};
 ghost use lib.ListN.{length};

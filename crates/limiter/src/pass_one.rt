@@ -5,20 +5,21 @@ use crate::Limiter;
 use crate::key_record;
 use crate::parameters_of;
 use crate::ticks;
-use demand::hot_set::EachAnswer;
-use demand::hot_set::HotSet;
 use gcra::DebtAnswer;
 use gcra::Gcra;
+use hot::hot_set::EachAnswer;
+use hot::hot_set::HotSet;
 ghost use mathlib.Core.Path.{_≡_};
 ghost use mathlib.Core.Bool.{true, _&&_};
 ghost use Prim.Native.Nat.{_*_, _≤_};
 ghost use lib.ListN.{length, take};
-ghost use Rattle.gcra.specs.Packed.{unitNanos, validQuota};
+ghost use Rattle.gcra.specs.Packed.{validQuota};
 ghost use Rattle.gcra.specs.Meter.{hasDebt};
-ghost use Rattle.limiter.specs.State.{parametersOf, settingsOf};
-ghost use Rattle.limiter.specs.Steps.TickSteps.{flagged, keyRecord, HeldKeys, HeldKey};
-ghost use Rattle.limiter.specs.Steps.PassOneSteps.{isDemand, staysIf, Measured, HeldHot, HotUpdated};
+ghost use Rattle.limiter.specs.State.{parametersOf, settingsOf, unitsIn, keyOf};
+ghost use Rattle.limiter.specs.Steps.TickSteps.{flagged, LentKeys, LentKey};
+ghost use Rattle.limiter.specs.Steps.PassOneSteps.{isDemand, staysIf, Measured, LentHot, HotUpdated};
 ghost use Rattle.limiter.specs.Steps.PassOneSteps.{stayingKeys, IdleDropped, Passable, PassesOne};
+ghost use Rattle.limiter.specs.Steps.KeySteps.{units};
 
 // How many keys and hot entries are left.
 pub(crate) struct Passed {
@@ -59,7 +60,7 @@ fn measure_keys(
     requires { ⌜ (n * 22 ≤ length (now keys)) × (n ≤ length (now elsewhere)) ⌝ }
     requires { ⌜ (n ≤ length (now demands)) × (n ≤ length (now thresholds)) × (n ≤ length (now flags)) ⌝ }
     ensures { λ _. ⌜
-        Measured silent n (now (keys .entry)) alpha «cluster_size» (now (elsewhere .entry)) (now (demands .exit))
+        Measured units silent n (now (keys .entry)) alpha «cluster_size» (now (elsewhere .entry)) (now (demands .exit))
         (now (thresholds .exit)) (now (flags .exit))
         ⌝ }
 {
@@ -87,14 +88,15 @@ fn update_hot(
     flags: &mut [bool],
     hots: &mut [bool],
 ) -> usize
-    requires { ⌜ HeldKeys (limiter .keys) (now keys) × HeldHot limiter (now hot) × (limiter .keys ≤ 4096) ⌝ }
+    requires { ⌜ LentKeys (unitsIn limiter) (limiter .keys) (now keys) × LentHot limiter (now hot) × (limiter .keys ≤ 4096) ⌝ }
     requires { ⌜
         (limiter .keys ≤ length (now elsewhere)) × (limiter .keys ≤ length (now flags)) ×
         (limiter .keys ≤ length (now hots))
         ⌝ }
     ensures { λ r. ⌜
-        HotUpdated silent limiter reading «cluster_size» (now (keys .entry)) (now (hot .entry)) (now (elsewhere .entry)) r
-        (now (hot .exit)) (now (flags .exit)) (now (hots .exit))
+        HotUpdated (parametersOf (settingsOf limiter) .«eviction_margin») silent limiter reading «cluster_size»
+        (now (keys .entry)) (now (hot .entry)) (now (elsewhere .entry)) r (now (hot .exit)) (now (flags .exit))
+        (now (hots .exit))
         ⌝ }
 {
     let config = limiter.config;
@@ -136,7 +138,7 @@ fn update_hot(
 
 // Whether the meter's TAT is ahead of the reading.
 fn has_debt(meter: Gcra, reading: u64) -> bool
-    requires { ⌜ validQuota unitNanos (meter .quota) ≡ true ⌝ }
+    requires { ⌜ validQuota units (meter .quota) ≡ true ⌝ }
     ensures { λ r. ⌜ r ≡ hasDebt meter reading ⌝ }
 {
     match meter.has_debt(reading) {
@@ -148,8 +150,8 @@ fn has_debt(meter: Gcra, reading: u64) -> bool
 // Whether the key in these words stays: it is hot, or has debt, demand or attempts not folded in
 // yet.
 fn key_stays(r: &[u64], silent: f64, reading: u64, hot: bool) -> bool
-    requires { ⌜ HeldKey (now r) ⌝ }
-    ensures { λ b. ⌜ b ≡ staysIf silent reading (keyRecord (now (r .entry))) hot ⌝ }
+    requires { ⌜ LentKey units (now r) ⌝ }
+    ensures { λ b. ⌜ b ≡ staysIf silent reading (keyOf units (now (r .entry))) hot ⌝ }
 {
     if hot {
         return true;
@@ -165,9 +167,9 @@ fn key_stays(r: &[u64], silent: f64, reading: u64, hot: bool) -> bool
 
 // Sets the flag of each key that stays.
 fn mark_busy(keys: &[u64], n: usize, silent: f64, reading: u64, hots: &[bool], stays: &mut [bool])
-    requires { ⌜ HeldKeys n (now keys) × (n ≤ length (now hots)) × (n ≤ length (now stays)) ⌝ }
+    requires { ⌜ LentKeys units n (now keys) × (n ≤ length (now hots)) × (n ≤ length (now stays)) ⌝ }
     ensures { λ _. ⌜
-        take n (now (stays .exit)) ≡ stayingKeys silent reading n (now (keys .entry)) (now (hots .entry))
+        take n (now (stays .exit)) ≡ stayingKeys units silent reading n (now (keys .entry)) (now (hots .entry))
         ⌝ }
 {
     let mut i = 0;
@@ -208,10 +210,10 @@ fn drop_idle(
     flags: &[bool],
     elsewhere: &mut [bool],
 ) -> usize
-    requires { ⌜ HeldKeys n (now keys) × (n ≤ 4096) × (n ≤ length (now hots)) ⌝ }
+    requires { ⌜ LentKeys units n (now keys) × (n ≤ 4096) × (n ≤ length (now hots)) ⌝ }
     requires { ⌜ (n ≤ length (now flags)) × (n ≤ length (now elsewhere)) ⌝ }
     ensures { λ r. ⌜
-        IdleDropped silent reading n (now (keys .entry)) (now (hots .entry)) (now (flags .entry)) r (now (keys .exit))
+        IdleDropped units silent reading n (now (keys .entry)) (now (hots .entry)) (now (flags .entry)) r (now (keys .exit))
         (now (elsewhere .exit))
         ⌝ }
 {

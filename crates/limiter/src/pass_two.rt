@@ -13,15 +13,16 @@ ghost use mathlib.Core.List.{map};
 ghost use Prim.Native.Nat.{_≤_};
 ghost use lib.ListN.{length};
 ghost use Rattle.records.specs.Records.{table};
-ghost use Rattle.gcra.specs.Packed.{unitNanos, validQuota};
+ghost use Rattle.gcra.specs.Packed.{validQuota};
 ghost use Rattle.gcra.specs.Rate.{setQuota};
 ghost use Rattle.demand.specs.Allocation.{isRate};
-ghost use Rattle.demand.specs.HotSet.Set.{entries};
-ghost use Rattle.demand.specs.HotSet.Steps.{EntriesReady};
-ghost use Rattle.limiter.specs.State.{keyWords};
-ghost use Rattle.limiter.specs.Steps.TickSteps.{keyRecord, keyRecords, HeldKeys, HeldKey};
+ghost use Rattle.hot.specs.HotSet.Set.{entries};
+ghost use Rattle.hot.specs.HotSet.Steps.{EntriesReady};
+ghost use Rattle.limiter.specs.State.{keyWords, keyOf};
+ghost use Rattle.limiter.specs.Steps.TickSteps.{keyRecords, LentKeys, LentKey};
 ghost use Rattle.limiter.specs.Steps.PassTwoSteps.{GoodTerms, shareBy, hotRate, coldRate, rateBy};
 ghost use Rattle.limiter.specs.Steps.PassTwoSteps.{quotaRow, requoted};
+ghost use Rattle.limiter.specs.Steps.KeySteps.{units};
 
 // What the rates of a tick are worked out from: whether hot keys share evenly, there being no peers;
 // the settings' parts of a limit; and the cluster's size.
@@ -86,9 +87,9 @@ fn key_rate(
     totals: &[f64],
     terms: RateTerms,
 ) -> f64
-    requires { ⌜ HeldKey (now r) × EntriesReady h (now hot) × (h ≤ length (now totals)) × GoodTerms terms ⌝ }
+    requires { ⌜ LentKey units (now r) × EntriesReady h (now hot) × (h ≤ length (now totals)) × GoodTerms terms ⌝ }
     ensures { λ x. ⌜
-        x ≡ rateBy terms (entries h (now (hot .entry))) (now (totals .entry)) elsewhere (keyRecord (now (r .entry)))
+        x ≡ rateBy terms (entries h (now (hot .entry))) (now (totals .entry)) elsewhere (keyOf units (now (r .entry)))
         ⌝ }
 {
     let limit = float::from_bits(r[1]);
@@ -104,7 +105,7 @@ fn key_rate(
 
 // The meter with another quota.
 fn changed(meter: Gcra, quota: Quota, reading: u64) -> Gcra
-    requires { ⌜ (validQuota unitNanos (meter .quota) ≡ true) × (validQuota unitNanos quota ≡ true) ⌝ }
+    requires { ⌜ (validQuota units (meter .quota) ≡ true) × (validQuota units quota ≡ true) ⌝ }
     ensures { λ r. ⌜ r ≡ setQuota meter quota reading ⌝ }
 {
     let set = meter.set_quota(quota, reading);
@@ -113,8 +114,8 @@ fn changed(meter: Gcra, quota: Quota, reading: u64) -> Gcra
 
 // Gives the key in these words the quota of a rate.
 fn set_quota(r: &mut [u64], rate: f64, reading: u64)
-    requires { ⌜ HeldKey (now r) ⌝ }
-    ensures { λ _. ⌜ now (r .exit) ≡ quotaRow reading rate (now (r .entry)) ⌝ }
+    requires { ⌜ LentKey units (now r) ⌝ }
+    ensures { λ _. ⌜ now (r .exit) ≡ quotaRow units reading rate (now (r .entry)) ⌝ }
 {
     let quota = checks::quota_for(rate, r[2] as u32);
     let meter = key_record::meter_of_words(r, 19);
@@ -134,11 +135,11 @@ fn set_key_quota(
     terms: RateTerms,
     reading: u64,
 )
-    requires { ⌜ HeldKey (now r) × EntriesReady h (now hot) × (h ≤ length (now totals)) × GoodTerms terms ⌝ }
+    requires { ⌜ LentKey units (now r) × EntriesReady h (now hot) × (h ≤ length (now totals)) × GoodTerms terms ⌝ }
     ensures { λ _. ⌜
         now (r .exit) ≡
-        quotaRow reading
-        (rateBy terms (entries h (now (hot .entry))) (now (totals .entry)) elsewhere (keyRecord (now (r .entry))))
+        quotaRow units reading
+        (rateBy terms (entries h (now (hot .entry))) (now (totals .entry)) elsewhere (keyOf units (now (r .entry))))
         (now (r .entry))
         ⌝ }
 {
@@ -158,15 +159,15 @@ pub(crate) fn set_quotas(
     reading: u64,
 )
     requires { ⌜
-        HeldKeys n (now keys) × EntriesReady h (now hot) × (n ≤ length (now elsewhere)) × (h ≤ length (now totals)) ×
+        LentKeys units n (now keys) × EntriesReady h (now hot) × (n ≤ length (now elsewhere)) × (h ≤ length (now totals)) ×
         GoodTerms terms
         ⌝ }
     ensures { λ _. ⌜
         now (keys .exit) ≡
         table
-        (map (keyWords unitNanos)
-        (requoted terms (entries h (now (hot .entry))) (now (totals .entry)) reading (now (elsewhere .entry))
-        (keyRecords n (now (keys .entry))))) (now (keys .entry))
+        (map (keyWords units)
+        (requoted units terms (entries h (now (hot .entry))) (now (totals .entry)) reading (now (elsewhere .entry))
+        (keyRecords units n (now (keys .entry))))) (now (keys .entry))
         ⌝ }
 {
     let mut i = 0;

@@ -3,20 +3,22 @@
 use crate::HOT_WORDS;
 use crate::KEY_WORDS;
 use crate::SHADOW_WORDS;
-use demand::hot_set;
 use gcra::Quota;
+use hot::hot_set;
 use records::fields::is_time;
 ghost use mathlib.Core.Path.{_≡_};
 ghost use Prim.Native.Nat.{_+_, _*_, _≤_, _<_};
 ghost use lib.ListN.{length, drop};
 ghost use Rattle.records.specs.Records.{records};
-ghost use Rattle.gcra.specs.Packed.{unitNanos, validBurst};
+ghost use Rattle.records.specs.Typed.{follows, areRecords};
+ghost use Rattle.gcra.specs.Packed.{validBurst};
 ghost use Rattle.demand.specs.Allocation.{isRate};
-ghost use Rattle.demand.specs.HotSet.Steps.{areEntryWords};
+ghost use Rattle.hot.specs.HotSet.Steps.{areEntryWords};
 ghost use Rattle.limiter.specs.State.{floatOf};
 ghost use Rattle.limiter.specs.Steps.Scan.{isLimit, areRates, isMeter, areKeyWords, areWords, IsWidth};
-ghost use Rattle.limiter.specs.Steps.Scan.{follows, areRecords, keysBelow, merges, areKeys, areOf};
+ghost use Rattle.limiter.specs.Steps.Scan.{keysBelow, merges, areKeys, areOf};
 ghost use Rattle.limiter.specs.Steps.Scan.{KeysReady};
+ghost use Rattle.limiter.specs.Steps.KeySteps.{units};
 
 // Whether the word is that of a rate: finite and above 0.
 fn is_rate(word: u64) -> bool
@@ -66,7 +68,7 @@ fn are_rates(demand: u64, requests: u64, denials: u64, shadow_denials: u64) -> b
 
 // Whether the words are those of a meter.
 fn is_meter(packed: u64, flag: u64, tat: u64) -> bool
-    ensures { λ r. ⌜ r ≡ isMeter unitNanos packed flag tat ⌝ }
+    ensures { λ r. ⌜ r ≡ isMeter units packed flag tat ⌝ }
 {
     if !Quota::is_packed(packed) {
         return false;
@@ -77,7 +79,7 @@ fn is_meter(packed: u64, flag: u64, tat: u64) -> bool
 // Whether the words are those of a valid key.
 fn is_key(words: &[u64]) -> bool
     requires { ⌜ length (now words) ≡ 22 ⌝ }
-    ensures { λ r. ⌜ r ≡ areKeyWords unitNanos (now (words .entry)) ⌝ }
+    ensures { λ r. ⌜ r ≡ areKeyWords units (now (words .entry)) ⌝ }
 {
     if !is_limit(words[1], words[2]) {
         return false;
@@ -91,7 +93,7 @@ fn is_key(words: &[u64]) -> bool
 // Whether the words are those of a valid key or, where they are four, of a valid shadow.
 fn is_record(words: &[u64]) -> bool
     requires { ⌜ IsWidth (length (now words)) ⌝ }
-    ensures { λ r. ⌜ r ≡ areWords unitNanos (now (words .entry)) ⌝ }
+    ensures { λ r. ⌜ r ≡ areWords units (now (words .entry)) ⌝ }
 {
     if words.len() == SHADOW_WORDS {
         return is_meter(words[1], words[2], words[3]);
@@ -113,7 +115,7 @@ fn follows(t: &[u64], w: usize, at: usize) -> bool
 // Whether the first n records are valid keys or shadows, and ascend.
 fn are_records(t: &[u64], w: usize, n: usize) -> bool
     requires { ⌜ IsWidth w × (n * w ≤ length (now t)) ⌝ }
-    ensures { λ r. ⌜ r ≡ areRecords (areWords unitNanos) (records w n (now (t .entry))) ⌝ }
+    ensures { λ r. ⌜ r ≡ areRecords (areWords units) (records w n (now (t .entry))) ⌝ }
 {
     let mut i = 0;
     while i < n {
@@ -169,7 +171,7 @@ fn are_among(t: &[u64], w: usize, n: usize, keys: &[u64], m: usize) -> bool
 // Whether the first n records are those of `size` valid keys at most, in their order.
 pub(crate) fn are_keys(t: &[u64], n: usize, size: usize) -> bool
     requires { ⌜ size * 22 ≤ length (now t) ⌝ }
-    ensures { λ r. ⌜ r ≡ areKeys unitNanos size (records 22 n (now (t .entry))) ⌝ }
+    ensures { λ r. ⌜ r ≡ areKeys units size (records 22 n (now (t .entry))) ⌝ }
 {
     if size < n {
         return false;
@@ -196,7 +198,7 @@ pub(crate) fn are_hot(t: &[u64], n: usize, size: usize, keys: &[u64], m: usize) 
 pub(crate) fn are_shadows(t: &[u64], n: usize, size: usize, keys: &[u64], m: usize) -> bool
     requires { ⌜ KeysReady m (now keys) × (size * 4 ≤ length (now t)) ⌝ }
     ensures { λ r. ⌜
-        r ≡ areOf (areWords unitNanos) size (records 22 m (now (keys .entry))) (records 4 n (now (t .entry)))
+        r ≡ areOf (areWords units) size (records 22 m (now (keys .entry))) (records 4 n (now (t .entry)))
         ⌝ }
 {
     if size < n {

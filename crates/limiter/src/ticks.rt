@@ -12,9 +12,9 @@ use crate::pass_two::RateTerms;
 use demand::demand::Demand;
 use demand::demand::RateAnswer;
 use demand::demand::Times;
-use demand::peer_demand::ChangeAnswer;
-use demand::peer_demand::PeerDemand;
 use float::whole;
+use peers::peer_demand::ChangeAnswer;
+use peers::peer_demand::PeerDemand;
 ghost use mathlib.Core.Path.{_≡_};
 ghost use mathlib.Core.Bool.{true, cond, _&&_, _||_};
 ghost use mathlib.Core.List.{[], _++_, map};
@@ -23,26 +23,26 @@ ghost use lib.Dec.{ltb, eqb};
 ghost use lib.Ieee.{binary64, ofBits, toBits};
 ghost use lib.ListN.{length, take, drop, getD};
 ghost use Rattle.float.specs.Magnitude.{magnitude};
-ghost use Rattle.float.specs.Order.{place};
 ghost use Rattle.records.specs.Words.{paste};
 ghost use Rattle.records.specs.Records.{records, table};
 ghost use Rattle.demand.specs.Estimators.Estimator.{foldedBy};
-ghost use Rattle.demand.specs.HotSet.Set.{isHot, entries};
+ghost use Rattle.hot.specs.HotSet.Set.{isHot, entries};
 ghost use Rattle.questions.specs.Lists.{only};
 ghost use Rattle.questions.specs.Questions.{firstNo, passes};
-ghost use Rattle.demand.specs.Peers.State as PeerState;
-ghost use Rattle.demand.specs.HotSet.Steps.{EntriesReady};
+ghost use Rattle.peers.specs.Peers.State as PeerState;
+ghost use Rattle.hot.specs.HotSet.Steps.{EntriesReady};
 ghost use Rattle.records.specs.Typed.{Tabled};
 ghost use Rattle.limiter.specs.State as State;
-ghost use Rattle.limiter.specs.State.{isTracked, estimateWords, estimateOf};
+ghost use Rattle.limiter.specs.State.{isTracked, estimateWords, estimateOf, unitsIn, keyOf};
 ghost use Rattle.limiter.specs.Checks as Checks;
 ghost use Rattle.limiter.specs.Calls as Calls;
 ghost use Rattle.limiter.specs.Ticks.{folded, tickWithShares};
 ghost use Rattle.limiter.specs.Steps.TickSteps.{flagged, below, Cut, staying, top, ratePlaceOf};
-ghost use Rattle.limiter.specs.Steps.TickSteps.{keyRecord, keyRecords, keyRank, staysUnder, HeldKeys};
-ghost use Rattle.limiter.specs.Steps.TickSteps.{alphaOf, IsAlpha, AreAlphas, foldedRow, HeldKey};
+ghost use Rattle.limiter.specs.Steps.TickSteps.{keyRecords, keyRank, staysUnder, LentKeys};
+ghost use Rattle.limiter.specs.Steps.TickSteps.{alphaOf, IsAlpha, AreAlphas, foldedRow, LentKey};
 ghost use Rattle.limiter.specs.Steps.TickSteps.{shadowKey};
 ghost use Rattle.limiter.specs.Steps.PassTwoSteps.{termsOf, requoted, Finishing, Finished, Ticked};
+ghost use Rattle.limiter.specs.Steps.KeySteps.{units};
 
 // Keeps the records whose flag is set, in their order, at the front of their table; tells how many.
 pub(crate) fn keep_flagged(t: &mut [u64], w: usize, n: usize, stays: &[bool]) -> usize
@@ -152,17 +152,6 @@ pub(crate) fn is_hot(hot: &[u64], h: usize, key: u64) -> bool
     }
 }
 
-// A bit pattern's place in totalOrder.
-fn total_place(b: u64) -> u64
-    ensures { λ r. ⌜ r ≡ place b ⌝ }
-{
-    if b < 0x8000_0000_0000_0000 {
-        0x8000_0000_0000_0000 + b
-    } else {
-        u64::MAX - b
-    }
-}
-
 // The place of an estimator's unbiased rate in totalOrder.
 fn rate_place(rate: u64, last_tick: u64, since: u64, time_constant: u64) -> u64
     requires { ⌜ magnitude (ofBits binary64 rate) ≡ true ⌝ }
@@ -175,16 +164,16 @@ fn rate_place(rate: u64, last_tick: u64, since: u64, time_constant: u64) -> u64
         time_constant,
     };
     match demand.unbiased_rate() {
-        RateAnswer::Is(unbiased) => total_place(float::to_bits(unbiased)),
+        RateAnswer::Is(unbiased) => float::total_place(float::to_bits(unbiased)),
         RateAnswer::No(_) => 0,
     }
 }
 
 // The rank of key i in the order in which keys go: a hot one has none.
 fn key_rank(keys: &[u64], n: usize, i: usize, hot: &[u64], h: usize, time_constant: u64) -> u64
-    requires { ⌜ HeldKeys n (now keys) × EntriesReady h (now hot) × (i < n) ⌝ }
+    requires { ⌜ LentKeys units n (now keys) × EntriesReady h (now hot) × (i < n) ⌝ }
     ensures { λ r. ⌜
-        r ≡ keyRank «time_constant» (entries h (now (hot .entry))) (keyRecord (getD (records 22 n (now (keys .entry))) i []))
+        r ≡ keyRank «time_constant» (entries h (now (hot .entry))) (keyOf units (getD (records 22 n (now (keys .entry))) i []))
         ⌝ }
 {
     let at = i * KEY_WORDS;
@@ -196,10 +185,10 @@ fn key_rank(keys: &[u64], n: usize, i: usize, hot: &[u64], h: usize, time_consta
 
 // Works out the rank of each key once.
 fn rank_keys(keys: &[u64], n: usize, hot: &[u64], h: usize, time_constant: u64, ranks: &mut [u64])
-    requires { ⌜ HeldKeys n (now keys) × EntriesReady h (now hot) × (n ≤ length (now ranks)) ⌝ }
+    requires { ⌜ LentKeys units n (now keys) × EntriesReady h (now hot) × (n ≤ length (now ranks)) ⌝ }
     ensures { λ _. ⌜
         take n (now (ranks .exit)) ≡
-        map (λ x. keyRank «time_constant» (entries h (now (hot .entry))) (keyRecord x))
+        map (λ x. keyRank «time_constant» (entries h (now (hot .entry))) (keyOf units x))
         (records 22 n (now (keys .entry)))
         ⌝ }
 {
@@ -220,12 +209,12 @@ pub(crate) fn enforce_cap(
     most: usize,
     time_constant: u64,
 ) -> usize
-    requires { ⌜ HeldKeys n (now keys) × EntriesReady h (now hot) × (n ≤ 4096) ⌝ }
+    requires { ⌜ LentKeys units n (now keys) × EntriesReady h (now hot) × (n ≤ 4096) ⌝ }
     ensures { λ r. ⌜
         Tabled r
         (only
         (λ x. staysUnder «time_constant» most (entries h (now (hot .entry)))
-        (keyRecords n (now (keys .entry))) (keyRecord x)) (records 22 n (now (keys .entry))))
+        (keyRecords units n (now (keys .entry))) (keyOf units x)) (records 22 n (now (keys .entry))))
         (now (keys .entry)) (now (keys .exit))
         ⌝ }
 {
@@ -322,9 +311,9 @@ fn fold_key(
     time_constant: u64,
     denial_time_constant: u64,
 ) -> Alphas
-    requires { ⌜ HeldKey (now r) × AreAlphas «time_constant» «denial_time_constant» known ⌝ }
+    requires { ⌜ LentKey units (now r) × AreAlphas «time_constant» «denial_time_constant» known ⌝ }
     ensures { λ a. ⌜ AreAlphas «time_constant» «denial_time_constant» a ⌝ }
-    ensures { λ _. ⌜ now (r .exit) ≡ foldedRow «time_constant» «denial_time_constant» reading (now (r .entry)) ⌝ }
+    ensures { λ _. ⌜ now (r .exit) ≡ foldedRow units «time_constant» «denial_time_constant» reading (now (r .entry)) ⌝ }
 {
     let known_demand = known.demand;
     let known_denials = known.denials;
@@ -347,10 +336,10 @@ pub(crate) fn fold_keys(
     time_constant: u64,
     denial_time_constant: u64,
 )
-    requires { ⌜ HeldKeys n (now keys) ⌝ }
+    requires { ⌜ LentKeys units n (now keys) ⌝ }
     ensures { λ _. ⌜
         now (keys .exit) ≡
-        table (map (foldedRow «time_constant» «denial_time_constant» reading) (records 22 n (now (keys .entry))))
+        table (map (foldedRow units «time_constant» «denial_time_constant» reading) (records 22 n (now (keys .entry))))
         (now (keys .entry))
         ⌝ }
 {
@@ -374,8 +363,8 @@ pub(crate) fn fold_keys(
 
 // Whether the key has state here.
 pub(crate) fn is_tracked(keys: &[u64], n: usize, key: u64) -> bool
-    requires { ⌜ HeldKeys n (now keys) ⌝ }
-    ensures { λ r. ⌜ r ≡ isTracked (keyRecords n (now (keys .entry))) key ⌝ }
+    requires { ⌜ LentKeys units n (now keys) ⌝ }
+    ensures { λ r. ⌜ r ≡ isTracked (keyRecords units n (now (keys .entry))) key ⌝ }
 {
     let found = records::find(keys, KEY_WORDS, 1, n, key, 0);
     match found {
@@ -387,10 +376,10 @@ pub(crate) fn is_tracked(keys: &[u64], n: usize, key: u64) -> bool
 
 // Sets the flag of each shadow whose key has state.
 fn mark_tracked(shadows: &[u64], m: usize, keys: &[u64], n: usize, stays: &mut [bool])
-    requires { ⌜ (m * 4 ≤ length (now shadows)) × HeldKeys n (now keys) × (m ≤ length (now stays)) ⌝ }
+    requires { ⌜ (m * 4 ≤ length (now shadows)) × LentKeys units n (now keys) × (m ≤ length (now stays)) ⌝ }
     ensures { λ _. ⌜
         take m (now (stays .exit)) ≡
-        map (λ x. isTracked (keyRecords n (now (keys .entry))) (shadowKey x)) (records 4 m (now (shadows .entry)))
+        map (λ x. isTracked (keyRecords units n (now (keys .entry))) (shadowKey units x)) (records 4 m (now (shadows .entry)))
         ⌝ }
 {
     let mut i = 0;
@@ -402,10 +391,10 @@ fn mark_tracked(shadows: &[u64], m: usize, keys: &[u64], n: usize, stays: &mut [
 
 // Keeps the shadows of keys that have state; tells how many.
 pub(crate) fn keep_tracked(shadows: &mut [u64], m: usize, keys: &[u64], n: usize) -> usize
-    requires { ⌜ (m * 4 ≤ length (now shadows)) × HeldKeys n (now keys) × (m ≤ 4096) ⌝ }
+    requires { ⌜ (m * 4 ≤ length (now shadows)) × LentKeys units n (now keys) × (m ≤ 4096) ⌝ }
     ensures { λ r. ⌜
         Tabled r
-        (only (λ x. isTracked (keyRecords n (now (keys .entry))) (shadowKey x)) (records 4 m (now (shadows .entry))))
+        (only (λ x. isTracked (keyRecords units n (now (keys .entry))) (shadowKey units x)) (records 4 m (now (shadows .entry))))
         (now (shadows .entry)) (now (shadows .exit))
         ⌝ }
 {
@@ -434,8 +423,8 @@ fn finish_tick(
         ⌝ }
     ensures { λ r. ⌜
         Finished limiter (now (keys .entry)) (entries h (now (hot .entry))) h (now (shadows .entry))
-        (requoted (termsOf limiter even «cluster_size») (entries h (now (hot .entry))) (now (totals .entry)) reading
-        (now (elsewhere .entry)) (keyRecords n (now (keys .entry)))) reading r (now (keys .exit)) (now (shadows .exit))
+        (requoted (unitsIn limiter) (termsOf limiter even «cluster_size») (entries h (now (hot .entry))) (now (totals .entry)) reading
+        (now (elsewhere .entry)) (keyRecords (unitsIn limiter) n (now (keys .entry)))) reading r (now (keys .exit)) (now (shadows .exit))
         ⌝ }
 {
     let config = limiter.config;

@@ -76,9 +76,9 @@ pub(crate) fn shadow_entry(
     wanted: Quota,
     reading: u64,
 ) -> ShadowEntry
-    requires { ⌜ ShadowsReady n (shadows .now) ⌝ }
+    requires { ⌜ ShadowsReady units n (shadows .now) ⌝ }
     requires { ⌜ validQuota units wanted ≡ true ⌝ }
-    ensures { λ r. ⌜ EntersShadow n (shadows .entry .now) key wanted reading r ⌝ }
+    ensures { λ r. ⌜ EntersShadow units n (shadows .entry .now) key wanted reading r ⌝ }
 {
     match records::find(shadows, SHADOW_WORDS, 1, n, key, 0) {
         records::Found::At(place) => {
@@ -110,12 +110,12 @@ pub(crate) fn shadow_entry(
 
 // Writes a shadow's record at its place; how many there are then.
 pub(crate) fn put_shadow(shadows: &mut [u64], n: usize, key: u64, entry: ShadowEntry) -> usize
-    requires { ⌜ ShadowsReady n (now shadows) ⌝ }
+    requires { ⌜ ShadowsReady units n (now shadows) ⌝ }
     requires { ⌜ ShadowPlaced n (now shadows) key (entry .tracked) (entry .place) ⌝ }
     requires { ⌜ validQuota units (entry .gcra .quota) ≡ true ⌝ }
-    requires { ⌜ length (withShadow n (now shadows) key (entry .gcra)) * 4 ≤ length (now shadows) ⌝ }
+    requires { ⌜ length (withShadow units n (now shadows) key (entry .gcra)) * 4 ≤ length (now shadows) ⌝ }
     ensures { λ r. ⌜
-        HoldsShadows (withShadow n (now (shadows .entry)) key (entry .gcra)) (now (shadows .entry)) r
+        HoldsShadows units (withShadow units n (now (shadows .entry)) key (entry .gcra)) (now (shadows .entry)) r
         (now (shadows .exit))
         ⌝ }
 {
@@ -133,9 +133,9 @@ pub(crate) fn put_shadow(shadows: &mut [u64], n: usize, key: u64, entry: ShadowE
 
 // Takes a key's shadow out, if it has one; how many there are then.
 pub(crate) fn drop_shadow(shadows: &mut [u64], n: usize, key: u64) -> usize
-    requires { ⌜ ShadowsReady n (now shadows) ⌝ }
+    requires { ⌜ ShadowsReady units n (now shadows) ⌝ }
     ensures { λ r. ⌜
-        HoldsShadows (withoutShadow n (now (shadows .entry)) key) (now (shadows .entry)) r (now (shadows .exit))
+        HoldsShadows units (withoutShadow units n (now (shadows .entry)) key) (now (shadows .entry)) r (now (shadows .exit))
         ⌝ }
 {
     match records::find(shadows, SHADOW_WORDS, 1, n, key, 0) {
@@ -150,9 +150,9 @@ pub(crate) fn drop_shadow(shadows: &mut [u64], n: usize, key: u64) -> usize
 
 // Asks the meter of a key's shadow.
 fn try_shadow(shadows: &[u64], n: usize, key: u64, wanted: Quota, reading: u64) -> Tried
-    requires { ⌜ ShadowsReady n (shadows .now) ⌝ }
+    requires { ⌜ ShadowsReady units n (shadows .now) ⌝ }
     requires { ⌜ validQuota units wanted ≡ true ⌝ }
-    ensures { λ r. ⌜ Tries n (shadows .entry .now) key wanted reading r ⌝ }
+    ensures { λ r. ⌜ Tries units n (shadows .entry .now) key wanted reading r ⌝ }
 {
     let found = shadow_entry(shadows, n, key, wanted, reading);
     let asked = checks::ask_meter(found.gcra, reading);
@@ -196,7 +196,7 @@ pub(crate) fn trace_none(
     cluster_size: usize,
 ) -> TracedCheck
     requires { ⌜ Ready limiter (keys .now) ⌝ }
-    requires { ⌜ ShadowsReady (limiter .shadows) (shadows .now) ⌝ }
+    requires { ⌜ ShadowsReady (State.unitsIn limiter) (limiter .shadows) (shadows .now) ⌝ }
     requires { ⌜ validBurst (limit .burst) ≡ true ⌝ }
     ensures { λ r. ⌜
         Traces limiter (keys .entry .now) (shadows .entry .now) key limit none reading «cluster_size» r
@@ -237,7 +237,7 @@ pub(crate) fn trace_with(
     cluster_size: usize,
 ) -> TracedCheck
     requires { ⌜ Ready limiter (keys .now) ⌝ }
-    requires { ⌜ ShadowsReady (limiter .shadows) (shadows .now) ⌝ }
+    requires { ⌜ ShadowsReady (State.unitsIn limiter) (limiter .shadows) (shadows .now) ⌝ }
     requires { ⌜ (validBurst (limit .burst) ≡ true) × (validBurst (shadow .burst) ≡ true) ⌝ }
     requires { ⌜ Roomy limiter (keys .now) (shadows .now) key limit shadow reading «cluster_size» ⌝ }
     ensures { λ r. ⌜

@@ -7,7 +7,7 @@ use lib.Dec.{leb}
 use lib.ListN.{length}
 use Rattle.demand.specs.declared.answers.LenAnswer.{LenAnswer}
 use Rattle.demand.specs.Answers.{lenAnswer}
-use Rattle.demand.specs.Peers.State.{PeerTables}
+use Rattle.peers.specs.Peers.State.{PeerTables}
 use Rattle.questions.specs.Questions.{Answer}
 use Rattle.limiter.specs.State.{LimiterTables}
 use Rattle.image.specs.declared.Loaded.{Loaded}

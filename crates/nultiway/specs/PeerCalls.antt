@@ -8,22 +8,22 @@ use lib.Dec.{leb, ltb}
 use lib.Ieee.{Float, binary32, toBits, ofBits}
 use lib.ListN.{length, getD, replicate}
 use Rattle.records.specs.Records.{records}
-use Rattle.demand.specs.declared.peer_demand.PeerDemand.{PeerDemand}
-use Rattle.demand.specs.declared.peer_demand.KeyDemand.{KeyDemand}
-use Rattle.demand.specs.declared.peer_demand.DemandReport.{DemandReport}
-use Rattle.demand.specs.declared.peer_demand.PeersAnswer.{PeersAnswer}
-use Rattle.demand.specs.declared.peer_demand.PeersChanged.{PeersChanged}
-use Rattle.demand.specs.declared.peer_demand.ChangeAnswer.{ChangeAnswer}
-use Rattle.demand.specs.declared.peer_demand.Heard.{Heard}
-use Rattle.demand.specs.declared.peer_demand.HeardAnswer.{HeardAnswer}
-use Rattle.demand.specs.declared.peer_demand.TotalAnswer.{TotalAnswer}
+use Rattle.peers.specs.declared.peer_demand.PeerDemand.{PeerDemand}
+use Rattle.peers.specs.declared.peer_demand.KeyDemand.{KeyDemand}
+use Rattle.peers.specs.declared.peer_demand.DemandReport.{DemandReport}
+use Rattle.peers.specs.declared.peer_demand.PeersAnswer.{PeersAnswer}
+use Rattle.peers.specs.declared.peer_demand.PeersChanged.{PeersChanged}
+use Rattle.peers.specs.declared.peer_demand.ChangeAnswer.{ChangeAnswer}
+use Rattle.peers.specs.declared.peer_demand.Heard.{Heard}
+use Rattle.peers.specs.declared.peer_demand.HeardAnswer.{HeardAnswer}
+use Rattle.peers.specs.declared.peer_demand.TotalAnswer.{TotalAnswer}
 use Rattle.demand.specs.declared.answers.FlagAnswer.{FlagAnswer}
 use Rattle.demand.specs.declared.answers.LenAnswer.{LenAnswer}
 use Rattle.records.specs.Fields.{flagWord, flagOf}
 use Rattle.questions.specs.Lists.{all}
-use Rattle.demand.specs.Peers.State.{PeerTables}
+use Rattle.peers.specs.Peers.State.{PeerTables}
 use Rattle.demand.specs.Answers.{flagAnswer, lenAnswer}
-use Rattle.demand.specs.Peers.Calls as demand
+use Rattle.peers.specs.Peers.Calls as demand
 use Rattle.questions.specs.Questions.{Question, _asks_, Answer}
 use Rattle.nultiway.specs.Values.{peersWords, peersOf, roomAsked}
 use Rattle.nultiway.specs.Calls.{Called, Changes, Tells, numberOf, oneWord, floatWords, flagWords}

@@ -6,7 +6,7 @@ use lib.Dec.{leb}
 use lib.ListN.{length, take, getD}
 use Rattle.records.specs.Records.{same}
 use Rattle.questions.specs.Questions.{Question, _asks_}
-use Rattle.demand.specs.declared.peer_demand.PeerDemand.{PeerDemand}
+use Rattle.peers.specs.declared.peer_demand.PeerDemand.{PeerDemand}
 use Rattle.records.specs.Fields.{timeOf}
 use Rattle.limiter.specs.declared.Limiter.{Limiter}
 use Rattle.limiter.specs.State.{settingsWords, settingsOf, capFrom, lastTickFrom}

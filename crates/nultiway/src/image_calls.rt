@@ -11,7 +11,7 @@ use crate::values::put_peers;
 use image::LoadAnswer;
 ghost use Prim.Native.Nat.{_≤_};
 ghost use lib.ListN.{length};
-ghost use Rattle.demand.specs.Peers.State as peer-state;
+ghost use Rattle.peers.specs.Peers.State as peer-state;
 ghost use Rattle.limiter.specs.State.{atEntry, atExit};
 ghost use Rattle.image.specs.Calls.{loadAnswer};
 ghost use Rattle.nultiway.specs.ImageCalls.{PutLoaded};

@@ -13,7 +13,7 @@ use limiter::Limit;
 use limiter::Limiter;
 use limiter::Tally;
 ghost use mathlib.Core.Path.{_≡_};
-ghost use Rattle.demand.specs.Peers.State as peer-state;
+ghost use Rattle.peers.specs.Peers.State as peer-state;
 ghost use Rattle.limiter.specs.State.{atEntry, atExit, capOf};
 ghost use Rattle.nultiway.specs.LimiterCalls as Calls;
 

@@ -2,16 +2,16 @@
 // function answers the number of a 'no', and then writes nothing, or 0.
 use crate::values::put;
 use crate::values::put_peers;
-use demand::peer_demand::Heard;
-use demand::peer_demand::HeardAnswer;
-use demand::peer_demand::PeersAnswer;
-use demand::peer_demand::TotalAnswer;
+use peers::peer_demand::Heard;
+use peers::peer_demand::HeardAnswer;
+use peers::peer_demand::PeersAnswer;
+use peers::peer_demand::TotalAnswer;
 use records::fields::flag_word;
 ghost use mathlib.Core.Path.{_≡_};
 ghost use mathlib.Core.Option.{some};
 ghost use Prim.Native.Nat.{_≤_};
 ghost use lib.ListN.{length};
-ghost use Rattle.demand.specs.Peers.Calls.{peersAnswer, heardAnswer, totalAnswer};
+ghost use Rattle.peers.specs.Peers.Calls.{peersAnswer, heardAnswer, totalAnswer};
 ghost use Rattle.nultiway.specs.Values.{peersWords};
 ghost use Rattle.nultiway.specs.Calls.{numberOf, answerPut, floatWords};
 ghost use Rattle.nultiway.specs.PeerCalls.{heardWords};

@@ -7,8 +7,8 @@ use crate::peer_answers::put_total;
 use crate::values::PEERS_WORDS;
 use crate::values::are_long;
 use crate::values::peers_of;
-use demand::boundary::PeerId;
-ghost use Rattle.demand.specs.Peers.State.{atEntry};
+use peers::boundary::PeerId;
+ghost use Rattle.peers.specs.Peers.State.{atEntry};
 ghost use Rattle.nultiway.specs.PeerCalls as Calls;
 
 // Asks questions 1 and 2 of the peers and their tables.

@@ -6,9 +6,9 @@ use crate::report::report_of;
 use crate::values::PEERS_WORDS;
 use crate::values::peers_of;
 use crate::values::put_peers;
-use demand::boundary::PeerId;
-use demand::peer_demand::PeerDemand;
-ghost use Rattle.demand.specs.Peers.State.{atEntry, atExit};
+use peers::boundary::PeerId;
+use peers::peer_demand::PeerDemand;
+ghost use Rattle.peers.specs.Peers.State.{atEntry, atExit};
 ghost use Rattle.nultiway.specs.PeerCalls as Calls;
 
 // Makes the state of peers of which none is known.

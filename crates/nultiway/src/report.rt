@@ -2,9 +2,9 @@
 // of an f32 in the low half, and whether the sender has it as primary.
 use crate::values::PEERS_WORDS;
 use crate::values::are_long;
-use demand::peer_demand::DemandReport;
-use demand::peer_demand::KeyDemand;
 use float::whole;
+use peers::peer_demand::DemandReport;
+use peers::peer_demand::KeyDemand;
 ghost use mathlib.Core.Path.{_≡_};
 ghost use Prim.Native.Nat.{_*_, _≤_, min};
 ghost use lib.ListN.{length};

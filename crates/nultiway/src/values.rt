@@ -1,10 +1,10 @@
 // Values in lent words: how each is written and read back, and which words are no value.
-use demand::peer_demand::PeerDemand;
 use image::judge::cap_of;
 use image::judge::config_of;
 use image::judge::last_tick_of;
 use image::writer::settings_words;
 use limiter::Limiter;
+use peers::peer_demand::PeerDemand;
 use records::are_same;
 ghost use mathlib.Core.Path.{_≡_};
 ghost use mathlib.Core.Bool.{_&&_};

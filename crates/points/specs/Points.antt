@@ -14,9 +14,9 @@ use Rattle.demand.specs.declared.allocation.View.{View}
 use Rattle.demand.specs.Decay.Weight.{S, weight}
 use Rattle.demand.specs.Estimators.Estimator.{whole}
 use Rattle.demand.specs.Allocation.{share}
-use Rattle.demand.specs.HotSet.Set.{newEntry, updateWith}
-use Rattle.demand.specs.HotSet.Calls.{evictionMargin}
-use Rattle.demand.specs.Peers.Changes.{newer}
+use Rattle.hot.specs.HotSet.Set.{newEntry, updateWith}
+use Rattle.hot.specs.HotSet.Calls.{evictionMargin}
+use Rattle.peers.specs.Peers.Changes.{newer}
 
 pub record Point : Type 0 where
   pub computed : ℕ
@@ -40,7 +40,7 @@ abbrev pub interval : Answer Quota → ℕ
 interval (refused n) = 0
 interval (given q) = q .interval
 
-abbrev pub quota : ℕ → ℕ → Quota
+abbrev pub quota : (T b : ℕ) → Quota
 quota T b = record { interval = T; burst = b }
 
 -- a whole number as an f64 and back
@@ -53,7 +53,7 @@ bits (refused n) = 0
 bits (given x) = toBits binary64 x
 
 -- what a node with half of the limit as its floor knows, in a cluster of 4 with a limit of 100
-abbrev pub view : ℕ → ℕ → View
+abbrev pub view : (own others : ℕ) → View
 view own others =
     record { limit = whole 100; «cluster_size» = 4; «floor_factor» = div binary64 (whole 1) (whole 2); own = whole own; others = whole others }
 

@@ -2,12 +2,12 @@
 use demand::allocation::ShareAnswer;
 use demand::allocation::View;
 use demand::decay::decay_weight;
-use demand::peer_demand::RoundsAnswer;
 use gcra::Gcra;
 use gcra::NumberAnswer;
 use gcra::Quota;
 use gcra::QuotaAnswer;
 use gcra::Tat;
+use peers::peer_demand::RoundsAnswer;
 
 // A line: a name, a number and a line feed.
 fn line(out: &mut [u8], at: usize, name: &[u8], n: u64) -> usize {
@@ -180,7 +180,7 @@ fn weights(out: &mut [u8], at: usize) -> usize {
 }
 
 fn rounds_of(n: usize) -> u64 {
-    let answer = demand::peer_demand::stale_after_rounds(n);
+    let answer = peers::peer_demand::stale_after_rounds(n);
     match answer {
         RoundsAnswer::No(_) => 0,
         RoundsAnswer::Is(rounds) => rounds,
@@ -188,7 +188,7 @@ fn rounds_of(n: usize) -> u64 {
 }
 
 fn newer(a: u16, b: u16) -> u64 {
-    if demand::peer_demand::round_is_newer(a, b) {
+    if peers::peer_demand::round_is_newer(a, b) {
         1
     } else {
         0

@@ -6,9 +6,10 @@ use mathlib.Core.List.{List, [], _∷_, map}
 use mathlib.Core.Option.{Option, none, some}
 use native.Mathlib.Nat.{le-of-suc-le-suc, not-suc-le-zero}
 use lib.Dec.{eqb}
-use lib.ListN.{length, drop, getD, length-map, drop-of-length-le}
+use lib.ListN.{length, take, drop, getD, length-map, drop-of-length-le}
 use lib.Seq.{drop-cons}
 use Rattle.questions.specs.Lists.{only, all, any, first, present, those}
+use Rattle.questions.proofs.Tests.{both, and-first, and-second}
 
 pub map-map : {A B C : Type 0} (f : B → C) (g : A → B) (xs : List A) → map f (map g xs) ≡ map (λ x. f (g x)) xs
 map-map f g [] = refl
@@ -51,6 +52,20 @@ module _ {A B : Type 0} (f : A → B) where
 
   pub length-those : (number : B → ℕ) (n : ℕ) (xs : List A) → length (those number n (map f xs)) ≡ length (those (λ (x : A). number (f x)) n xs)
   length-those number n xs = ap length (those-map number n xs) ∙ length-map (those (λ (x : A). number (f x)) n xs) f
+
+-- ---- of a part
+module _ {A : Type 0} (p : A → Bool) where
+  pub all-take : (n : ℕ) (xs : List A) → all p xs ≡ true → all p (take n xs) ≡ true
+  unfolding all
+  all-take zero xs e = refl
+  all-take (suc n) [] e = refl
+  all-take (suc n) (x ∷ xs) e = let b = both (p x) (all p xs) e in (λ k. b .0 k && all-take n xs (b .1) k)
+
+  pub all-drop : (n : ℕ) (xs : List A) → all p xs ≡ true → all p (drop n xs) ≡ true
+  unfolding all
+  all-drop zero xs e = e
+  all-drop (suc n) [] e = refl
+  all-drop (suc n) (x ∷ xs) e = all-drop n xs (both (p x) (all p xs) e .1)
 
 -- ---- tests that agree
 module _ {A : Type 0} (p q : A → Bool) (d : A) where
@@ -99,22 +114,19 @@ module _ {A : Type 0} (p : A → Bool) (d : A) where
   pub all-index : (xs : List A) → all p xs ≡ true → (i : ℕ) → i < length xs → p (getD xs i d) ≡ true
   unfolding all
   all-index [] e i h = absurd (not-suc-le-zero h)
-  all-index (x ∷ xs) e zero h = first-of (p x) (all p xs) e
-    where
-      first-of : (a b : Bool) → (a && b) ≡ true → a ≡ true
-      first-of true b e = refl
-      first-of false b e = e
-  all-index (x ∷ xs) e (suc i) h = all-index xs (second-of (p x) (all p xs) e) i (le-of-suc-le-suc h)
-    where
-      second-of : (a b : Bool) → (a && b) ≡ true → b ≡ true
-      second-of true b e = e
-      second-of false true e = refl
-      second-of false false e = e
+  all-index (x ∷ xs) e zero h = both (p x) (all p xs) e .0
+  all-index (x ∷ xs) e (suc i) h = all-index xs (both (p x) (all p xs) e .1) i (le-of-suc-le-suc h)
 
   pub all-pass : (xs : List A) → ((i : ℕ) → i < length xs → p (getD xs i d) ≡ true) → all p xs ≡ true
   unfolding all
   all-pass [] h = refl
   all-pass (x ∷ xs) h = (λ k. h 0 (suc-le-suc zero-le) k && all-pass xs (λ i l. h (suc i) (suc-le-suc l)) k)
+
+  pub all-fail : (xs : List A) (i : ℕ) → i < length xs → p (getD xs i d) ≡ false → all p xs ≡ false
+  unfolding all
+  all-fail [] i h e = absurd (not-suc-le-zero h)
+  all-fail (x ∷ xs) zero h e = and-first (p x) (all p xs) e
+  all-fail (x ∷ xs) (suc i) h e = and-second (p x) (all p xs) (all-fail xs i (le-of-suc-le-suc h) e)
 
   -- none passes; the first to pass is at i; those from lo up to hi pass
   pub none-pass : (xs : List A) → ((i : ℕ) → i < length xs → p (getD xs i d) ≡ false) → only p xs ≡ []

@@ -1,14 +1,16 @@
--- Lists by a test: those that pass, put together, through a map and by a number, and how many they are.
-use mathlib.Core.Path.{_≡_, refl, sym, ap, _∙_}
+-- Lists by a test: those that pass, put together, through a map and by a number, those replaced by others, and how many they are.
+use mathlib.Core.Path.{_≡_, refl, sym, ap, _∙_, subst}
 use mathlib.Core.Bool.{Bool, true, false, cond, not, _&&_, _||_}
-use mathlib.Core.List.{List, [], _∷_, _++_, map}
+use mathlib.Core.List.{List, [], _∷_, _++_, map, append-nil}
+use mathlib.Core.Logic.{_⊎_, inl, inr, ⊎-elim}
+use mathlib.Core.Option.{some}
 use Prim.Native.Nat.{ℕ, suc, _+_, _≤_, _<_, zero-le, suc-le-suc, _-_}
 use native.Mathlib.Omega.{arith}
 use borrow.Author.Tests.{ltb-true, ltb-false, lt-ltb, le-ltb, eq-eqb, ne-eqb, eqb-true, eqb-false}
 use lib.Dec.{ltb, eqb}
 use lib.ListN.{length, length-append}
-use Rattle.questions.proofs.Tests.{split, both, and-intro}
-use Rattle.questions.specs.Lists.{only, all, any, those, replaced}
+use Rattle.questions.proofs.Tests.{contradiction, split, both, and-intro, or-right, or-false, eqb-self}
+use Rattle.questions.specs.Lists.{only, all, any, first, those, replaced}
 use Rattle.questions.proofs.ListLaws.{only-map}
 
 -- ---- those that pass
@@ -126,6 +128,20 @@ pub any-number : {A : Type 0} (number : A → ℕ) (a : ℕ) (xs : List A) → a
 unfolding those
 any-number number a xs = any-counted (λ x. eqb (number x) a) xs
 
+-- one of either part
+module _ {A : Type 0} where
+  pub any-left : (p : A → Bool) (xs ys : List A) → any p xs ≡ true → any p (xs ++ ys) ≡ true
+  unfolding any
+  any-left p [] ys e = contradiction (sym e)
+  any-left p (x ∷ xs) ys e = split (p x)
+      (λ h. ap (λ (b : Bool). b || any p (xs ++ ys)) h)
+      (λ h. ap (λ (b : Bool). b || any p (xs ++ ys)) h ∙ any-left p xs ys (sym (ap (λ (b : Bool). b || any p xs) h) ∙ e))
+
+  pub any-right : (p : A → Bool) (xs ys : List A) → any p ys ≡ true → any p (xs ++ ys) ≡ true
+  unfolding any
+  any-right p [] ys e = e
+  any-right p (x ∷ xs) ys e = or-right (p x) (any p (xs ++ ys)) (any-right p xs ys e)
+
 -- ---- all of them
 
 module _ {A : Type 0} (p : A → Bool) where
@@ -165,6 +181,143 @@ unfolding all
 all-two p q r [] f a b = refl
 all-two p q r (x ∷ xs) f a b = and-intro (r x) (all r xs) (f x (both (p x) (all p xs) a .0) (both (q x) (all q xs) b .0)) (all-two p q r xs f (both (p x) (all p xs) a .1) (both (q x) (all q xs) b .1))
 
+-- the first of them
+pub first-passes : {A : Type 0} (p : A → Bool) (xs : List A) → all p xs ≡ true → (x : A) → first xs ≡ some x → p x ≡ true
+unfolding all
+first-passes p [] a x e = let z : _≡_ {A = ℕ} 0 1 = cc in absurd (omega arith)
+first-passes p (y ∷ ys) a x e = let q : y ≡ x = cc in subst (λ z. p z ≡ true) q (both (p y) (all p ys) a .0)
+
+-- each one's number is there
+pub all-number : {A : Type 0} (number : A → ℕ) (xs : List A) → all (λ x. any (λ y. eqb (number y) (number x)) xs) xs ≡ true
+unfolding all any
+all-number number [] = refl
+all-number number (x ∷ xs) =
+    and-intro (eqb (number x) (number x) || any (λ y. eqb (number y) (number x)) xs) _ (ap (λ (b : Bool). b || any (λ y. eqb (number y) (number x)) xs) (eqb-self (number x)))
+    (all-imply (λ z. any (λ y. eqb (number y) (number z)) xs) (λ z. eqb (number x) (number z) || any (λ y. eqb (number y) (number z)) xs) xs (λ z h. or-right (eqb (number x) (number z)) _ h) (all-number number xs))
+
+-- ---- all of them pass, or none does
+
+module _ {A : Type 0} where
+  pub only-all : (p : A → Bool) (xs : List A) → all p xs ≡ true → only p xs ≡ xs
+  unfolding only all
+  only-all p [] a = refl
+  only-all p (x ∷ xs) a = only-yes p x xs (both (p x) (all p xs) a .0) ∙ ap (λ l. x ∷ l) (only-all p xs (both (p x) (all p xs) a .1))
+
+  pub only-nothing : (p : A → Bool) (xs : List A) → all (λ x. not (p x)) xs ≡ true → only p xs ≡ []
+  unfolding only all
+  only-nothing p [] a = refl
+  only-nothing p (x ∷ xs) a = only-no p x xs (turned (p x) (both (not (p x)) (all (λ y. not (p y)) xs) a .0)) ∙ only-nothing p xs (both (not (p x)) (all (λ y. not (p y)) xs) a .1)
+    where
+      turned : (b : Bool) → not b ≡ true → b ≡ false
+      turned true e = sym e
+      turned false e = refl
+
+  -- a test that fails wherever another does
+  pub only-within : (p q : A → Bool) → ((x : A) → q x ≡ true → p x ≡ true) → (xs : List A) → only q (only p xs) ≡ only q xs
+  unfolding only
+  only-within p q f [] = refl
+  only-within p q f (x ∷ xs) = split (q x)
+      (λ e. ap (only q) (only-yes p x xs (f x e)) ∙ only-yes q x (only p xs) e ∙ ap (λ l. x ∷ l) (only-within p q f xs) ∙ sym (only-yes q x xs e))
+      (λ e. split (p x)
+      (λ g. ap (only q) (only-yes p x xs g) ∙ only-no q x (only p xs) e ∙ only-within p q f xs ∙ sym (only-no q x xs e))
+      (λ g. ap (only q) (only-no p x xs g) ∙ only-within p q f xs ∙ sym (only-no q x xs e)))
+
+  -- tests that exclude each other
+  pub only-apart : (p q : A → Bool) → ((x : A) → p x ≡ true → q x ≡ false) → (xs : List A) → only q (only p xs) ≡ []
+  only-apart p q f xs = only-nothing q (only p xs) (all-imply p (λ x. not (q x)) (only p xs) (λ x e. ap not (f x e)) (only-passes p xs))
+
+  -- where none passes, each fails
+  pub any-misses : (p : A → Bool) (xs : List A) → any p xs ≡ false → all (λ x. not (p x)) xs ≡ true
+  unfolding any all
+  any-misses p [] e = refl
+  any-misses p (x ∷ xs) e = let b = or-false (p x) (any p xs) e in and-intro (not (p x)) _ (ap not (b .0)) (any-misses p xs (b .1))
+
+-- ---- those with a number, after those with a number were replaced
+
+module _ {A : Type 0} where
+  any-more : (p q : A → Bool) (x : A) (xs : List A) → any p (only q xs) ≡ true → any p (only q (x ∷ xs)) ≡ true
+  unfolding any
+  any-more p q x xs e = split (q x)
+      (λ h. ap (any p) (only-yes q x xs h) ∙ or-right (p x) (any p (only q xs)) e)
+      (λ h. ap (any p) (only-no q x xs h) ∙ e)
+
+  any-here : (p q : A → Bool) (x : A) (xs : List A) → p x ≡ true → q x ≡ true → any p (only q (x ∷ xs)) ≡ true
+  unfolding any
+  any-here p q x xs e h = ap (any p) (only-yes q x xs h) ∙ ap (λ (b : Bool). b || any p (only q xs)) e
+
+  any-split : (p : A → Bool) (number : A → ℕ) (a : ℕ) (xs : List A) → ((x : A) → p x ≡ true → number x ≡ a → ⊥) → any p xs ≡ true → (any p (only (λ x. ltb (number x) a) xs) ≡ true) ⊎ (any p (only (λ x. ltb a (number x)) xs) ≡ true)
+  unfolding any
+  any-split p number a [] f e = contradiction (sym e)
+  any-split p number a (x ∷ xs) f e = split (p x)
+      (λ h. split (ltb (number x) a)
+      (λ l. inl (any-here p (λ y. ltb (number y) a) x xs h l))
+      (λ l. split (ltb a (number x))
+      (λ g. inr (any-here p (λ y. ltb a (number y)) x xs h g))
+      (λ g. let z : number x ≡ a = omega (arith, ltb-false (number x) a l, ltb-false a (number x) g) in absurd (f x h z))))
+      (λ h. ⊎-elim
+      (λ l. inl (any-more p (λ y. ltb (number y) a) x xs l))
+      (λ g. inr (any-more p (λ y. ltb a (number y)) x xs g))
+      (any-split p number a xs f (sym (ap (λ (b : Bool). b || any p xs) h) ∙ e)))
+
+  -- what holds for some, holds still
+  pub any-kept : (p : A → Bool) (number : A → ℕ) (a : ℕ) (new xs : List A) → ((x : A) → p x ≡ true → number x ≡ a → ⊥) → any p xs ≡ true → any p (replaced number a new xs) ≡ true
+  unfolding replaced
+  any-kept p number a new xs f e = ⊎-elim
+      (λ l. any-left p (only (λ x. ltb (number x) a) xs) (new ++ only (λ x. ltb a (number x)) xs) l)
+      (λ h. any-right p (only (λ x. ltb (number x) a) xs) (new ++ only (λ x. ltb a (number x)) xs) (any-right p new (only (λ x. ltb a (number x)) xs) h))
+      (any-split p number a xs f e)
+
+module _ {A : Type 0} (number : A → ℕ) (a : ℕ) (new xs : List A) (en : all (λ x. eqb (number x) a) new ≡ true) where
+  pub those-same : those number a (replaced number a new xs) ≡ new
+  unfolding those replaced
+  those-same =
+      only-append (λ x. eqb (number x) a) (only (λ x. ltb (number x) a) xs) (new ++ only (λ x. ltb a (number x)) xs)
+      ∙ (λ i. low i ++ (only-append (λ x. eqb (number x) a) new (only (λ x. ltb a (number x)) xs) ∙ (λ j. only-all (λ x. eqb (number x) a) new en j ++ high j)) i)
+      ∙ append-nil new
+    where
+      low : only (λ x. eqb (number x) a) (only (λ x. ltb (number x) a) xs) ≡ []
+      low = only-apart (λ x. ltb (number x) a) (λ x. eqb (number x) a) (λ x e. ne-eqb (number x) a (λ q. omega (arith, ltb-true (number x) a e))) xs
+
+      high : only (λ x. eqb (number x) a) (only (λ x. ltb a (number x)) xs) ≡ []
+      high = only-apart (λ x. ltb a (number x)) (λ x. eqb (number x) a) (λ x e. ne-eqb (number x) a (λ q. omega (arith, ltb-true a (number x) e))) xs
+
+  -- those with another number are as they were
+  pub those-other : (m : ℕ) → (m ≡ a → ⊥) → those number m (replaced number a new xs) ≡ those number m xs
+  unfolding those replaced
+  those-other m h =
+      let at : A → Bool = λ x. eqb (number x) m in
+      let low : A → Bool = λ x. ltb (number x) a in
+      let high : A → Bool = λ x. ltb a (number x) in
+      let none : only at new ≡ [] = only-nothing at new (all-imply (λ x. eqb (number x) a) (λ x. not (at x)) new (λ x e. ap not (ne-eqb (number x) m (λ q. h (sym q ∙ eqb-true (number x) a e)))) en) in
+      only-append at (only low xs) (new ++ only high xs)
+      ∙ ap (λ l. only at (only low xs) ++ l) (only-append at new (only high xs) ∙ ap (λ l. l ++ only at (only high xs)) none)
+      ∙ split (ltb m a)
+      (λ e.
+      let l : m < a = ltb-true m a e in
+      (λ i. only-within low at (λ x q. lt-ltb (number x) a (omega (arith, eqb-true (number x) m q))) xs i ++ only-apart high at (λ x q. ne-eqb (number x) m (λ z. omega (arith, ltb-true a (number x) q))) xs i)
+      ∙ append-nil (only at xs))
+      (λ e.
+      let l : a < m = omega (arith, ltb-false m a e) in
+      (λ i. only-apart low at (λ x q. ne-eqb (number x) m (λ z. omega (arith, ltb-true (number x) a q))) xs i ++ only-within high at (λ x q. lt-ltb a (number x) (omega (arith, eqb-true (number x) m q))) xs i))
+
+  -- replaced twice
+  pub replaced-twice : (last : List A) → replaced number a last (replaced number a new xs) ≡ replaced number a last xs
+  unfolding replaced
+  replaced-twice last =
+      let low : A → Bool = λ x. ltb (number x) a in
+      let high : A → Bool = λ x. ltb a (number x) in
+      let below : only low (only low xs ++ (new ++ only high xs)) ≡ only low xs =
+      only-append low (only low xs) (new ++ only high xs)
+      ∙ (λ i. only-within low low (λ x e. e) xs i ++ (only-append low new (only high xs) ∙ (λ j. none low (λ x e. le-ltb (number x) a (omega (arith, e))) j ++ only-apart high low (λ x e. le-ltb (number x) a (omega (arith, ltb-true a (number x) e))) xs j)) i)
+      ∙ append-nil (only low xs) in
+      let above : only high (only low xs ++ (new ++ only high xs)) ≡ only high xs =
+      only-append high (only low xs) (new ++ only high xs)
+      ∙ (λ i. only-apart low high (λ x e. le-ltb a (number x) (omega (arith, ltb-true (number x) a e))) xs i ++ (only-append high new (only high xs) ∙ (λ j. none high (λ x e. le-ltb a (number x) (omega (arith, e))) j ++ only-within high high (λ x e. e) xs j)) i) in
+      (λ i. below i ++ (last ++ above i))
+    where
+      none : (p : A → Bool) → ((x : A) → number x ≡ a → p x ≡ false) → only p new ≡ []
+      none p f = only-nothing p new (all-imply (λ x. eqb (number x) a) (λ x. not (p x)) new (λ x e. ap not (f x (eqb-true (number x) a e))) en)
+
 -- ---- how many
 
 pub length-only : {A : Type 0} (p : A → Bool) (xs : List A) → length (only p xs) ≤ length xs
@@ -194,11 +347,9 @@ length-parts {A = A} number a (x ∷ xs) =
     let k : number x ≡ a = eqb-true (number x) a q in
     omega (arith, r, ap length (only-no low x xs e), ap length (only-yes at x xs q), ap length (only-no high x xs (le-ltb a (number x) (omega arith)))))
     (λ q.
-    let k : a < number x = omega (arith, pos-ne (number x) a h (eqb-false (number x) a q)) in
+    let n = eqb-false (number x) a q in
+    let k : a < number x = omega arith in
     omega (arith, r, ap length (only-no low x xs e), ap length (only-no at x xs q), ap length (only-yes high x xs (lt-ltb a (number x) k)))))
-  where
-    pos-ne : (m n : ℕ) → n ≤ m → (m ≡ n → ⊥) → n < m
-    pos-ne m n h f = split (ltb n m) (ltb-true n m) (λ e. let z : m ≡ n = omega (arith, ltb-false n m e) in absurd (f z))
 
 pub length-replaced : {A : Type 0} (number : A → ℕ) (a : ℕ) (new xs : List A) → length (replaced number a new xs) + length (those number a xs) ≡ length new + length xs
 unfolding replaced

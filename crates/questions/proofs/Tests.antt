@@ -34,6 +34,18 @@ and-second false b e = refl
 pub and-skip : (a b : Bool) → a ≡ true → (a && b) ≡ b
 and-skip a b e = rw e
 
+-- where the first holds, the second may be said otherwise
+pub and-under : (a b c : Bool) → (a ≡ true → b ≡ c) → (a && b) ≡ (a && c)
+and-under true b c h = h refl
+and-under false b c h = refl
+
+-- tests in turn: the first that fails decides, and one that holds leaves it to the rest
+pub stop : (a b : Bool) → a ≡ false → false ≡ (a && b)
+stop a b e = sym (and-first a b e)
+
+pub goes : (a b x : Bool) → a ≡ true → x ≡ b → x ≡ (a && b)
+goes a b x e f = f ∙ sym (and-skip a b e)
+
 -- the first two change places
 pub and-left : (a b c : Bool) → (a && (b && c)) ≡ (b && (a && c))
 and-left true b c = refl

@@ -1,21 +1,6 @@
--- Laws of records for every width: of their words, their order, searches and changes; and of typed tables (`TypedLaws`, `TabledLaws`, `TypedTableLaws`).
-pub mod WordLaws
-pub mod RecordLaws
-pub mod SpliceLaws
-pub mod OrderLaws
-pub mod SearchLaws
-pub mod PlaceLaws
-pub mod EditLaws
-pub mod LookupLaws
-pub mod TableLaws
-pub mod FieldLaws
-pub mod RowLaws
-pub mod RangeLaws
-pub mod AscendingLaws
-pub mod FindLaws
-pub mod KeepLaws
-pub mod StepLaws
-pub mod TypedLaws
-pub mod TabledLaws
-pub mod RunLaws
-pub mod TypedTableLaws
+-- Laws of records for every width: of their words, their order, searches and changes; of typed tables (`TypedLaws`, `TabledLaws`, `TypedTableLaws`);
+-- and of one pass that tests each record and the order (`ScanLaws`).
+pub mod Words
+pub mod Changes
+pub mod Order
+pub mod Tables

@@ -28,7 +28,7 @@ unfoldable pub table : List (List ℕ) → List ℕ → List ℕ
 table rs xs = flat rs ++ drop (length (flat rs)) xs
 
 -- n records of w words, w above 0, are within len words
-unfoldable pub fits : ℕ → ℕ → ℕ → Bool
+unfoldable pub fits : (len w n : ℕ) → Bool
 fits len w n = ltb 0 w && leb (n * w) len
 
 -- ---- order
@@ -62,7 +62,7 @@ ascending d [] = true
 ascending d (r ∷ rs) = leads d r rs && ascending d rs
 
 -- keys of one or two words, within a record; n such records are within len words
-unfoldable pub keyed : ℕ → ℕ → ℕ → ℕ → Bool
+unfoldable pub keyed : (len w d n : ℕ) → Bool
 keyed len w d n = leb 1 d && (leb d 2 && (leb d w && fits len w n))
 
 -- ---- search
@@ -91,14 +91,14 @@ unfoldable pub find : ℕ → List ℕ → List (List ℕ) → Found
 find d k rs = foundAt d k rs (lowerBound d k rs)
 
 -- what a search by the words a and b answers: only the first counts where d is 1
-unfoldable pub findIn : ℕ → ℕ → ℕ → ℕ → ℕ → List ℕ → Found
+unfoldable pub findIn : (w d n a b : ℕ) → List ℕ → Found
 findIn w d n a b xs = cond (keyed (length xs) w d n) (find d (key d (a ∷ b ∷ [])) (records w n xs)) Unfit
 
 -- from the first record whose first word is not below a, up to the first whose first word is above a
 unfoldable pub rangeOf : ℕ → List (List ℕ) → Span
 rangeOf a rs = Between (lowerBound 1 (a ∷ []) rs) (lowerBound 1 ((a + 1) ∷ []) rs)
 
-unfoldable pub rangeIn : ℕ → ℕ → ℕ → List ℕ → Span
+unfoldable pub rangeIn : (w n a : ℕ) → List ℕ → Span
 rangeIn w n a xs = cond (fits (length xs) w n) (rangeOf a (records w n xs)) NoSpan
 
 -- the record with the key k
@@ -109,7 +109,7 @@ lookup d k (r ∷ rs) = cond (same (key d r) k) (some r) (lookup d k rs)
 -- ---- change
 
 -- rs with the records i up to j replaced by `new`
-unfoldable pub splice : ℕ → ℕ → List (List ℕ) → List (List ℕ) → List (List ℕ)
+unfoldable pub splice : (i j : ℕ) → List (List ℕ) → List (List ℕ) → List (List ℕ)
 splice i j new rs = take i rs ++ (new ++ drop j rs)
 
 -- rs with r put in before record i; without record i; with r for record i
@@ -123,29 +123,29 @@ unfoldable pub overwriteAt : ℕ → List ℕ → List (List ℕ) → List (List
 overwriteAt i r rs = splice i (suc i) (r ∷ []) rs
 
 -- k words for the records i up to j, of n, are whole records, and there is room for them
-unfoldable pub spliceable : ℕ → ℕ → ℕ → ℕ → ℕ → ℕ → Bool
+unfoldable pub spliceable : (len w n i j k : ℕ) → Bool
 spliceable len w n i j k = fits len w n && (leb i j && (leb j n && (eqb (k % w) 0 && leb ((n - (j - i)) * w + k) len)))
 
 -- the same for one record of k words more; for one record less; for a record of k words in place of another
-unfoldable pub insertable : ℕ → ℕ → ℕ → ℕ → ℕ → Bool
+unfoldable pub insertable : (len w n i k : ℕ) → Bool
 insertable len w n i k = eqb k w && (leb i n && fits len w (n + 1))
 
-unfoldable pub removable : ℕ → ℕ → ℕ → ℕ → Bool
+unfoldable pub removable : (len w n i : ℕ) → Bool
 removable len w n i = ltb i n && fits len w n
 
-unfoldable pub overwritable : ℕ → ℕ → ℕ → ℕ → ℕ → Bool
+unfoldable pub overwritable : (len w n i k : ℕ) → Bool
 overwritable len w n i k = eqb k w && removable len w n i
 
 -- the words after each: those of the new records, then those from there on as they were; all as they were where it is refused
-unfoldable pub spliced : ℕ → ℕ → ℕ → ℕ → List ℕ → List ℕ → List ℕ
+unfoldable pub spliced : (w n i j : ℕ) → List ℕ → List ℕ → List ℕ
 spliced w n i j new xs =
     cond (spliceable (length xs) w n i j (length new)) (table (splice i j (records w (length new / w) new) (records w n xs)) xs) xs
 
-unfoldable pub inserted : ℕ → ℕ → ℕ → List ℕ → List ℕ → List ℕ
+unfoldable pub inserted : (w n i : ℕ) → List ℕ → List ℕ → List ℕ
 inserted w n i r xs = cond (insertable (length xs) w n i (length r)) (table (insertAt i r (records w n xs)) xs) xs
 
-unfoldable pub removed : ℕ → ℕ → ℕ → List ℕ → List ℕ
+unfoldable pub removed : (w n i : ℕ) → List ℕ → List ℕ
 removed w n i xs = cond (removable (length xs) w n i) (table (removeAt i (records w n xs)) xs) xs
 
-unfoldable pub overwritten : ℕ → ℕ → ℕ → List ℕ → List ℕ → List ℕ
+unfoldable pub overwritten : (w n i : ℕ) → List ℕ → List ℕ → List ℕ
 overwritten w n i r xs = cond (overwritable (length xs) w n i (length r)) (table (overwriteAt i r (records w n xs)) xs) xs

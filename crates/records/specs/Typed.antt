@@ -1,8 +1,8 @@
 -- Typed tables: records that stand for values, by the words of a value, the value of words and the width; and tables after a change. Definitions only.
 use mathlib.Core.Path.{_≡_}
-use mathlib.Core.Bool.{Bool, true, _&&_}
+use mathlib.Core.Bool.{Bool, true, cond, _&&_}
 use mathlib.Core.List.{List}
-use Prim.Native.Nat.{ℕ, _*_, _/_, _%_, _^_, _≤_}
+use Prim.Native.Nat.{ℕ, _-_, _*_, _/_, _%_, _^_, _≤_}
 use lib.Dec.{ltb, eqb}
 use lib.ListN.{length, getD}
 use Rattle.questions.specs.Lists.{all, replaced}
@@ -39,8 +39,20 @@ standsFor w words of valid r = eqb (length r) w && (same (words (of r)) r && val
 -- ---- tables
 
 -- n records of w words whose keys of d words ascend
-unfoldable pub inOrder : ℕ → ℕ → ℕ → List ℕ → Bool
+unfoldable pub inOrder : (w d n : ℕ) → List ℕ → Bool
 inOrder w d n xs = keyed (length xs) w d n && ascending d (records w n xs)
+
+-- ---- a test of each record, and of their order
+
+-- the first word at `at` is above that of the record of w words before it, if there is one
+unfoldable pub follows : (w at : ℕ) → List ℕ → Bool
+follows w at xs = cond (ltb at w) true (ltb (getD xs (at - w) 0) (getD xs at 0))
+
+-- every record passes, and their first words ascend (01, 'The saved image': 'ids strictly ascending')
+unfoldable pub areRecords : (List ℕ → Bool) → List (List ℕ) → Bool
+areRecords test rs = all test rs && ascending 1 rs
+
+-- ---- what a search and a change leave
 
 -- the place of the record that a search found; n, where it found none
 unfoldable pub foundOr : ℕ → Found → ℕ
@@ -61,7 +73,7 @@ pub record Front (w n : ℕ) (rs : List (List ℕ)) (xs : List ℕ) : Type 0 whe
 -- ---- records that share a first word
 
 -- the records of a table after those with the first word a were replaced by those in `new`
-abbrev pub replacedRun : ℕ → ℕ → ℕ → List ℕ → List ℕ → List (List ℕ)
+abbrev pub replacedRun : (w n a : ℕ) → List ℕ → List ℕ → List (List ℕ)
 replacedRun w n a new xs = replaced (word 0) a (records w (length new / w) new) (records w n xs)
 
 -- the n records fit and ascend by their first word, or by more of them; the new ones are whole, and there is room for them

@@ -30,7 +30,7 @@ use denote.Slice.{sliceVal, MutSlice, ShrSlice, Room, finally}
 use denote.Lend.{Held, lends-slice, lends-shr-slice, slice-back}
 use denote.Steps.{only, owned, peeks}
 use borrow.Rule.Slice.Shared.{parts-cells}
-use Rattle.demand.specs.declared.hot_set.HotEntry.{HotEntry}
+use Rattle.hot.specs.declared.hot_set.HotEntry.{HotEntry}
 use Rattle.hot_lent.proofs.Rows.{R, entry-row, vals, tells, makes, lawful, by-value}
 
 abbrev pub Entries : RattleType

@@ -2,10 +2,10 @@
 // answer the same and leave the same.
 use demand::answers::FlagAnswer;
 use demand::answers::LenAnswer;
-use demand::hot_set::HotEntry;
-use demand::hot_set::HotSet;
-use demand::hot_set::SinceAnswer;
-use demand::hot_set::UpdateAnswer;
+use hot::hot_set::HotEntry;
+use hot::hot_set::HotSet;
+use hot::hot_set::SinceAnswer;
+use hot::hot_set::UpdateAnswer;
 ghost use Prim.Native.Nat.{_<_};
 
 // What an update answers, and the entries after it.

@@ -9,10 +9,10 @@ use crate::entries::Updated;
 use crate::fields::Args;
 use demand::answers::FlagAnswer;
 use demand::answers::LenAnswer;
-use demand::hot_set::HotSet;
-use demand::hot_set::NewAnswer;
-use demand::hot_set::SinceAnswer;
-use demand::hot_set::UpdateAnswer;
+use hot::hot_set::HotSet;
+use hot::hot_set::NewAnswer;
+use hot::hot_set::SinceAnswer;
+use hot::hot_set::UpdateAnswer;
 
 // The hot set of the script, once one is made.
 pub(crate) struct Hot {

@@ -4,65 +4,47 @@ use crate::answers::Answer;
 use crate::answers::Value;
 use crate::calls;
 use crate::digits;
-use crate::digits::Decoded;
 use crate::fields::Args;
 use crate::lent;
 use crate::session;
 use crate::session::Done;
 use crate::session::Session;
+use crate::tables::ContestedTable;
+use crate::tables::HotKeyTable;
+use crate::tables::Kept;
+use crate::tables::KeyTable;
+use crate::tables::PeerTable;
+use crate::tables::ShadowTable;
+use crate::tables::SnapshotTable;
 use demand::answers::LenAnswer;
 use image::LoadAnswer;
 
 // Saves limiter and peers.
 pub(crate) fn save_to(
     s: Session,
-    keys: &[u64],
-    hot_keys: &[u64],
-    shadows: &[u64],
-    peer_table: &[u64],
-    snapshots: &[u64],
-    contested: &[u64],
+    keys: &KeyTable,
+    hot_keys: &HotKeyTable,
+    shadows: &ShadowTable,
+    peer_table: &PeerTable,
+    snapshots: &SnapshotTable,
+    contested: &ContestedTable,
     out: &mut [u8],
 ) -> LenAnswer {
     let node = s.node;
     let state = s.peers;
     let limiter = node.value;
     let peers = state.value;
+    let lent = s.lent;
     image::save(
         limiter,
-        keys,
-        hot_keys,
-        shadows,
+        lent::part(keys, lent.keys),
+        lent::part(hot_keys, lent.hot),
+        lent::part(shadows, lent.shadows),
         peers,
-        peer_table,
-        snapshots,
-        contested,
+        lent::part(peer_table, lent.peers),
+        lent::part(snapshots, lent.snapshots),
+        lent::part(contested, lent.contested),
         out,
-    )
-}
-
-// The same into the image that is kept, with so many bytes of room.
-fn keep(
-    room: u64,
-    s: Session,
-    keys: &[u64],
-    hot_keys: &[u64],
-    shadows: &[u64],
-    peer_table: &[u64],
-    snapshots: &[u64],
-    contested: &[u64],
-    kept: &mut [u8],
-) -> LenAnswer {
-    let n = lent::at_most(room, kept.len());
-    save_to(
-        s,
-        keys,
-        hot_keys,
-        shadows,
-        peer_table,
-        snapshots,
-        contested,
-        &mut kept[..n],
     )
 }
 
@@ -81,10 +63,10 @@ fn of_save(answer: LenAnswer, s: Session, kept: &[u8]) -> Done {
     match answer {
         LenAnswer::No(n) => session::refused(n, s),
         LenAnswer::Is(len) => {
-            let n = lent::at_most(len as u64, kept.len());
+            let image = lent::bytes(kept, len as u64);
             Done {
-                answer: image_of(&kept[..n]),
-                session: session::keeping(s, n),
+                answer: image_of(image),
+                session: session::keeping(s, image.len()),
             }
         }
     }
@@ -102,10 +84,9 @@ fn of_load(answer: LoadAnswer, s: Session) -> Done {
     }
 }
 
-// Loads the first bytes of a buffer, so many of them.
+// Loads an image.
 fn load(
     from: &[u8],
-    len: usize,
     s: Session,
     keys: &mut [u64],
     hot_keys: &mut [u64],
@@ -114,195 +95,84 @@ fn load(
     snapshots: &mut [u64],
     contested: &mut [u64],
 ) -> Done {
-    let n = lent::at_most(len as u64, from.len());
+    let lent = s.lent;
     let answer = image::load(
-        &from[..n],
-        keys,
-        hot_keys,
-        shadows,
-        peer_table,
-        snapshots,
-        contested,
+        from,
+        lent::part_mut(keys, lent.keys),
+        lent::part_mut(hot_keys, lent.hot),
+        lent::part_mut(shadows, lent.shadows),
+        lent::part_mut(peer_table, lent.peers),
+        lent::part_mut(snapshots, lent.snapshots),
+        lent::part_mut(contested, lent.contested),
     );
     of_load(answer, s)
 }
 
-// Loads the bytes at the front of a line, if its digits spelled some.
-fn load_decoded(
-    bytes: Decoded,
-    line: &[u8],
-    s: Session,
-    keys: &mut [u64],
-    hot_keys: &mut [u64],
-    shadows: &mut [u64],
-    peer_table: &mut [u64],
-    snapshots: &mut [u64],
-    contested: &mut [u64],
-) -> Done {
-    if !bytes.good {
-        return session::said(Value::Unknown, s);
-    }
-    load(
-        line,
-        bytes.len,
-        s,
-        keys,
-        hot_keys,
-        shadows,
-        peer_table,
-        snapshots,
-        contested,
-    )
+// What a call comes to: its answer; or, where it loads, an image of so many bytes that is still to be
+// loaded.
+struct Step {
+    loads: bool,
+    len: usize,
+    done: Done,
 }
 
-// Loads what a line spells from there to its end.
-fn load_hex(
-    line: &mut [u8],
-    from: usize,
-    s: Session,
-    keys: &mut [u64],
-    hot_keys: &mut [u64],
-    shadows: &mut [u64],
-    peer_table: &mut [u64],
-    snapshots: &mut [u64],
-    contested: &mut [u64],
-) -> Done {
+fn answered(done: Done) -> Step {
+    Step {
+        loads: false,
+        len: 0,
+        done,
+    }
+}
+
+fn loading(len: usize, s: Session) -> Step {
+    Step {
+        loads: true,
+        len,
+        done: session::said(Value::Done, s),
+    }
+}
+
+// The bytes that a line spells from there to its end are put at its front, to be loaded.
+fn spelled(line: &mut [u8], from: usize, s: Session) -> Step {
     let bytes = digits::decode(line, from);
-    load_decoded(
-        bytes,
-        line,
-        s,
-        keys,
-        hot_keys,
-        shadows,
-        peer_table,
-        snapshots,
-        contested,
-    )
-}
-
-// Loads the image that a save kept.
-fn load_saved(
-    saved: LenAnswer,
-    s: Session,
-    keys: &mut [u64],
-    hot_keys: &mut [u64],
-    shadows: &mut [u64],
-    peer_table: &mut [u64],
-    snapshots: &mut [u64],
-    contested: &mut [u64],
-    kept: &[u8],
-) -> Done {
-    match saved {
-        LenAnswer::No(n) => session::refused(n, s),
-        LenAnswer::Is(len) => load(
-            kept,
-            len,
-            session::keeping(s, len),
-            keys,
-            hot_keys,
-            shadows,
-            peer_table,
-            snapshots,
-            contested,
-        ),
+    if bytes.good {
+        loading(bytes.len, s)
+    } else {
+        answered(session::said(Value::Unknown, s))
     }
 }
 
-// Saves into the image that is kept, then loads that.
-fn reload(
-    s: Session,
-    keys: &mut [u64],
-    hot_keys: &mut [u64],
-    shadows: &mut [u64],
-    peer_table: &mut [u64],
-    snapshots: &mut [u64],
-    contested: &mut [u64],
-    kept: &mut [u8],
-) -> Done {
-    let saved = keep(
-        u64::MAX,
-        s,
-        keys,
-        hot_keys,
-        shadows,
-        peer_table,
-        snapshots,
-        contested,
-        kept,
-    );
-    load_saved(
-        saved,
-        s,
-        keys,
-        hot_keys,
-        shadows,
-        peer_table,
-        snapshots,
-        contested,
-        kept,
-    )
+// The image that a save kept is to be loaded.
+fn saved(answer: LenAnswer, s: Session) -> Step {
+    match answer {
+        LenAnswer::No(n) => answered(session::refused(n, s)),
+        LenAnswer::Is(len) => loading(len, session::keeping(s, len)),
+    }
 }
 
-// Saves into the image that is kept.
+// The room that a save has in the image that is kept.
+fn room_of(place: usize, args: Args) -> u64 {
+    if place == calls::SAVE {
+        args.first
+    } else {
+        u64::MAX
+    }
+}
+
+// A call that saves into the image that is kept.
 fn save(
-    room: u64,
-    s: Session,
-    keys: &[u64],
-    hot_keys: &[u64],
-    shadows: &[u64],
-    peer_table: &[u64],
-    snapshots: &[u64],
-    contested: &[u64],
-    kept: &mut [u8],
-) -> Done {
-    let answer = keep(
-        room,
-        s,
-        keys,
-        hot_keys,
-        shadows,
-        peer_table,
-        snapshots,
-        contested,
-        kept,
-    );
-    of_save(answer, s, kept)
-}
-
-// A call on the state there is, where it is; a dump is written with its answer.
-fn change_made(
     place: usize,
     args: Args,
     s: Session,
-    keys: &mut [u64],
-    hot_keys: &mut [u64],
-    shadows: &mut [u64],
-    peer_table: &mut [u64],
-    snapshots: &mut [u64],
-    contested: &mut [u64],
+    keys: &KeyTable,
+    hot_keys: &HotKeyTable,
+    shadows: &ShadowTable,
+    peer_table: &PeerTable,
+    snapshots: &SnapshotTable,
+    contested: &ContestedTable,
     kept: &mut [u8],
-) -> Done {
-    if !session::has_both(s) {
-        return session::said(Value::NoState, s);
-    }
-    if place == calls::DUMP {
-        return session::said(Value::Dump, s);
-    }
-    if place == calls::RELOAD {
-        return reload(
-            s,
-            keys,
-            hot_keys,
-            shadows,
-            peer_table,
-            snapshots,
-            contested,
-            kept,
-        );
-    }
-    save(
-        args.first,
+) -> Step {
+    let answer = save_to(
         s,
         keys,
         hot_keys,
@@ -310,51 +180,41 @@ fn change_made(
         peer_table,
         snapshots,
         contested,
-        kept,
-    )
+        lent::bytes_mut(kept, room_of(place, args)),
+    );
+    if place == calls::RELOAD {
+        return saved(answer, s);
+    }
+    answered(of_save(answer, s, kept))
 }
 
-// A call on images. The line may be overwritten.
-pub(crate) fn change(
+// A call up to its load. A dump is written with its answer.
+fn step_of(
     line: &mut [u8],
     place: usize,
     args: Args,
     s: Session,
-    keys: &mut [u64],
-    hot_keys: &mut [u64],
-    shadows: &mut [u64],
-    peer_table: &mut [u64],
-    snapshots: &mut [u64],
-    contested: &mut [u64],
-    kept: &mut [u8],
-) -> Done {
+    keys: &KeyTable,
+    hot_keys: &HotKeyTable,
+    shadows: &ShadowTable,
+    peer_table: &PeerTable,
+    snapshots: &SnapshotTable,
+    contested: &ContestedTable,
+    kept: &mut Kept,
+) -> Step {
     if place == calls::LOAD {
-        return load(
-            kept,
-            s.kept,
-            s,
-            keys,
-            hot_keys,
-            shadows,
-            peer_table,
-            snapshots,
-            contested,
-        );
+        return loading(s.kept, s);
     }
     if place == calls::LOADHEX {
-        return load_hex(
-            line,
-            args.next,
-            s,
-            keys,
-            hot_keys,
-            shadows,
-            peer_table,
-            snapshots,
-            contested,
-        );
+        return spelled(line, args.next, s);
     }
-    change_made(
+    if !session::has_both(s) {
+        return answered(session::said(Value::NoState, s));
+    }
+    if place == calls::DUMP {
+        return answered(session::said(Value::Dump, s));
+    }
+    save(
         place,
         args,
         s,
@@ -365,5 +225,63 @@ pub(crate) fn change(
         snapshots,
         contested,
         kept,
+    )
+}
+
+// A call on images. The line may be overwritten. The load is called from two places, so that the compiler
+// keeps its large frame out of those of the callers.
+pub(crate) fn change(
+    line: &mut [u8],
+    place: usize,
+    args: Args,
+    s: Session,
+    keys: &mut KeyTable,
+    hot_keys: &mut HotKeyTable,
+    shadows: &mut ShadowTable,
+    peer_table: &mut PeerTable,
+    snapshots: &mut SnapshotTable,
+    contested: &mut ContestedTable,
+    kept: &mut Kept,
+) -> Done {
+    let step = step_of(
+        line,
+        place,
+        args,
+        s,
+        keys,
+        hot_keys,
+        shadows,
+        peer_table,
+        snapshots,
+        contested,
+        kept,
+    );
+    let done = step.done;
+    if !step.loads {
+        return done;
+    }
+    let after = done.session;
+    let len = step.len as u64;
+    if place == calls::LOADHEX {
+        return load(
+            lent::bytes(line, len),
+            after,
+            keys,
+            hot_keys,
+            shadows,
+            peer_table,
+            snapshots,
+            contested,
+        );
+    }
+    load(
+        lent::bytes(kept, len),
+        after,
+        keys,
+        hot_keys,
+        shadows,
+        peer_table,
+        snapshots,
+        contested,
     )
 }

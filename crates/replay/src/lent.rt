@@ -44,6 +44,27 @@ pub(crate) fn at_most(n: u64, most: usize) -> usize
     if n < most as u64 { n as usize } else { most }
 }
 
+// The first of a slice, so many of them.
+pub(crate) fn part<'a>(words: &'a [u64], n: u64) -> &'a [u64] {
+    let end = at_most(n, words.len());
+    &words[..end]
+}
+
+pub(crate) fn part_mut<'a>(words: &'a mut [u64], n: u64) -> &'a mut [u64] {
+    let end = at_most(n, words.len());
+    &mut words[..end]
+}
+
+pub(crate) fn bytes<'a>(all: &'a [u8], n: u64) -> &'a [u8] {
+    let end = at_most(n, all.len());
+    &all[..end]
+}
+
+pub(crate) fn bytes_mut<'a>(all: &'a mut [u8], n: u64) -> &'a mut [u8] {
+    let end = at_most(n, all.len());
+    &mut all[..end]
+}
+
 // The words of so many pairs, and of so many entries of three and of four words; there are 256 at
 // most.
 pub(crate) fn two_each(n: u64) -> u64 {

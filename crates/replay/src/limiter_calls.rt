@@ -7,7 +7,6 @@ use crate::fields;
 use crate::fields::Args;
 use crate::lent;
 use crate::meter;
-use demand::peer_demand::ChangeAnswer;
 use gcra::CheckAnswer;
 use limiter::Cap;
 use limiter::Changed;
@@ -22,6 +21,7 @@ use limiter::Tally;
 use limiter::Traced;
 use limiter::TracedAnswer;
 use limiter::TracedCheck;
+use peers::peer_demand::ChangeAnswer;
 
 // The limiter of the script, once one is made.
 pub(crate) struct Node {
@@ -321,7 +321,6 @@ fn check_pairs(
     shadows: &[u64],
     list: &mut [u64],
 ) -> Done {
-    let room = lent::at_most(lent::three_each(args.second), list.len());
     let count = args.third;
     of_changed(
         value.check_each(
@@ -331,7 +330,7 @@ fn check_pairs(
             pairs,
             count as usize,
             args.first as usize,
-            &mut list[..room],
+            lent::part_mut(list, lent::three_each(args.second)),
         ),
         Value::Checks(count),
     )

@@ -9,7 +9,7 @@ use crate::lent;
 use crate::limiter_calls;
 use crate::limiter_calls::Node;
 use crate::meter;
-use crate::peers;
+use crate::peer_calls;
 use demand::answers::LenAnswer;
 use limiter::Config;
 use limiter::ConfigAnswer;
@@ -109,8 +109,8 @@ fn answer_key(
         calls::HOTSINCE => {
             answers::one(hot_set::of_since(value.hot_since(keys, hot, shadows, key)))
         }
-        calls::ISHOT => peers::of_flag(value.is_hot(keys, hot, shadows, key)),
-        _ => peers::of_flag(value.tracked(keys, hot, shadows, key)),
+        calls::ISHOT => peer_calls::of_flag(value.is_hot(keys, hot, shadows, key)),
+        _ => peer_calls::of_flag(value.tracked(keys, hot, shadows, key)),
     }
 }
 
@@ -134,8 +134,8 @@ fn answer_whole(
         calls::NEWFACTOR => {
             meter::of_rate(value.new_key_factor(keys, hot, shadows, args.first as usize))
         }
-        calls::NTRACKED => peers::of_len(value.tracked_keys(keys, hot, shadows)),
-        _ => peers::of_len(value.hot_keys(keys, hot, shadows)),
+        calls::NTRACKED => peer_calls::of_len(value.tracked_keys(keys, hot, shadows)),
+        _ => peer_calls::of_len(value.hot_keys(keys, hot, shadows)),
     }
 }
 
@@ -190,9 +190,9 @@ fn answer_lent(
     shadows: &[u64],
     list: &mut [u64],
 ) -> Answer {
-    let room = lent::at_most(list_room(place, args), list.len());
     let k = args.first as usize;
-    answer_list(place, k, value, keys, hot, shadows, &mut list[..room])
+    let room = lent::part_mut(list, list_room(place, args));
+    answer_list(place, k, value, keys, hot, shadows, room)
 }
 
 // The answer to a call that reads the limiter.

@@ -13,9 +13,10 @@ mod lent;
 mod limiter_calls;
 mod limiter_readers;
 mod meter;
-mod peers;
+mod peer_calls;
 mod session;
 mod shown;
+mod tables;
 
 use answers::Answer;
 use answers::Value;
@@ -23,6 +24,16 @@ use calls::Call;
 use fields::Args;
 use session::Done;
 use session::Session;
+use tables::ContestedTable;
+use tables::HotKeyTable;
+use tables::HotTable;
+use tables::Kept;
+use tables::KeyTable;
+use tables::List;
+use tables::PeerTable;
+use tables::Ready;
+use tables::ShadowTable;
+use tables::SnapshotTable;
 use text::lines::Kind;
 use text::lines::Lines;
 
@@ -46,7 +57,7 @@ fn answer_alone(place: usize, args: Args) -> Answer {
     } else if place < calls::NEWER {
         estimator::answer(place, args)
     } else if place < calls::NO_CALL {
-        answers::one(peers::rounds_of(place, args))
+        answers::one(peer_calls::rounds_of(place, args))
     } else {
         answer_none(place)
     }
@@ -57,14 +68,14 @@ fn answer_of(
     line: &[u8],
     call: Call,
     s: Session,
-    hot: &[u64],
-    keys: &[u64],
-    hot_keys: &[u64],
-    shadows: &[u64],
-    peer_table: &[u64],
-    snapshots: &[u64],
-    contested: &[u64],
-    list: &mut [u64],
+    hot: &HotTable,
+    keys: &KeyTable,
+    hot_keys: &HotKeyTable,
+    shadows: &ShadowTable,
+    peer_table: &PeerTable,
+    snapshots: &SnapshotTable,
+    contested: &ContestedTable,
+    list: &mut List,
 ) -> Answer {
     let place = call.place;
     let args = call.args;
@@ -86,12 +97,12 @@ fn respond_both(
     place: usize,
     args: Args,
     s: Session,
-    keys: &mut [u64],
-    hot_keys: &mut [u64],
-    shadows: &mut [u64],
-    peer_table: &[u64],
-    snapshots: &[u64],
-    contested: &[u64],
+    keys: &mut KeyTable,
+    hot_keys: &mut HotKeyTable,
+    shadows: &mut ShadowTable,
+    peer_table: &PeerTable,
+    snapshots: &SnapshotTable,
+    contested: &ContestedTable,
 ) -> Done {
     if place == calls::LEND {
         return session::lend(args, s);
@@ -125,15 +136,15 @@ fn respond(
     kind: Kind,
     line: &mut [u8],
     s: Session,
-    hot: &mut [u64],
-    keys: &mut [u64],
-    hot_keys: &mut [u64],
-    shadows: &mut [u64],
-    peer_table: &mut [u64],
-    snapshots: &mut [u64],
-    contested: &mut [u64],
-    kept: &mut [u8],
-    list: &mut [u64],
+    hot: &mut HotTable,
+    keys: &mut KeyTable,
+    hot_keys: &mut HotKeyTable,
+    shadows: &mut ShadowTable,
+    peer_table: &mut PeerTable,
+    snapshots: &mut SnapshotTable,
+    contested: &mut ContestedTable,
+    kept: &mut Kept,
+    list: &mut List,
 ) -> Done {
     let call = calls::call_of(kind, line);
     let place = call.place;
@@ -193,102 +204,25 @@ fn respond(
     }
 }
 
-// The same, with as many words of the tables as the script lends.
-fn respond_lent(
-    kind: Kind,
-    line: &mut [u8],
-    s: Session,
-    hot: &mut [u64],
-    keys: &mut [u64],
-    hot_keys: &mut [u64],
-    shadows: &mut [u64],
-    peer_table: &mut [u64],
-    snapshots: &mut [u64],
-    contested: &mut [u64],
-    kept: &mut [u8],
-    list: &mut [u64],
-) -> Done {
-    let lent = s.lent;
-    let a = lent::at_most(lent.keys, keys.len());
-    let b = lent::at_most(lent.hot, hot_keys.len());
-    let c = lent::at_most(lent.shadows, shadows.len());
-    let d = lent::at_most(lent.peers, peer_table.len());
-    let e = lent::at_most(lent.snapshots, snapshots.len());
-    let f = lent::at_most(lent.contested, contested.len());
-    respond(
-        kind,
-        line,
-        s,
-        hot,
-        &mut keys[..a],
-        &mut hot_keys[..b],
-        &mut shadows[..c],
-        &mut peer_table[..d],
-        &mut snapshots[..e],
-        &mut contested[..f],
-        kept,
-        list,
-    )
-}
-
-// Where `wanted`, shows the state's image behind what is written of an answer, with as many words of
-// the tables as the script lends.
-fn show_lent(
-    wanted: bool,
-    out: &mut [u8],
-    at: usize,
-    whole: bool,
-    s: Session,
-    keys: &[u64],
-    hot_keys: &[u64],
-    shadows: &[u64],
-    peer_table: &[u64],
-    snapshots: &[u64],
-    contested: &[u64],
-) -> usize {
-    if !wanted {
-        return at;
-    }
-    let lent = s.lent;
-    let a = lent::at_most(lent.keys, keys.len());
-    let b = lent::at_most(lent.hot, hot_keys.len());
-    let c = lent::at_most(lent.shadows, shadows.len());
-    let d = lent::at_most(lent.peers, peer_table.len());
-    let e = lent::at_most(lent.snapshots, snapshots.len());
-    let f = lent::at_most(lent.contested, contested.len());
-    shown::put(
-        out,
-        at,
-        whole,
-        s,
-        &keys[..a],
-        &hot_keys[..b],
-        &shadows[..c],
-        &peer_table[..d],
-        &snapshots[..e],
-        &contested[..f],
-    )
-}
-
 // Whether the image is still to be written for an answer.
 fn is_dump(first: Value) -> bool {
     if let Value::Dump = first { true } else { false }
 }
 
 // Writes the line of an answer, the image's length and hash behind it where the script is to show
-// images and there is one.
+// images and there is one. The room for an image is made only where one is shown.
 fn put_line(
     show: bool,
-    out: &mut [u8],
+    out: &mut Ready,
     at: usize,
     done: Done,
-    keys: &[u64],
-    hot_keys: &[u64],
-    shadows: &[u64],
-    peer_table: &[u64],
-    snapshots: &[u64],
-    contested: &[u64],
-    list: &[u64],
+    keys: &KeyTable,
+    hot_keys: &HotKeyTable,
+    shadows: &ShadowTable,
+    peer_table: &PeerTable,
+    snapshots: &SnapshotTable,
+    contested: &ContestedTable,
+    list: &List,
 ) -> usize {
     let answer = done.answer;
     let first = answer.first;
@@ -296,34 +230,36 @@ fn put_line(
     if !answers::is_there(first) {
         return at;
     }
-    let end = answers::put(out, at, answer, list);
-    let dumped = show_lent(
-        is_dump(first),
-        out,
-        end,
-        true,
-        s,
-        keys,
-        hot_keys,
-        shadows,
-        peer_table,
-        snapshots,
-        contested,
-    );
-    let all = show_lent(
-        show && session::has_both(s),
-        out,
-        dumped,
-        false,
-        s,
-        keys,
-        hot_keys,
-        shadows,
-        peer_table,
-        snapshots,
-        contested,
-    );
-    answers::end_line(out, all)
+    let mut end = answers::put(out, at, answer, list);
+    if is_dump(first) {
+        end = shown::put(
+            out,
+            end,
+            true,
+            s,
+            keys,
+            hot_keys,
+            shadows,
+            peer_table,
+            snapshots,
+            contested,
+        );
+    }
+    if show && session::has_both(s) {
+        end = shown::put(
+            out,
+            end,
+            false,
+            s,
+            keys,
+            hot_keys,
+            shadows,
+            peer_table,
+            snapshots,
+            contested,
+        );
+    }
+    answers::end_line(out, end)
 }
 
 fn is_end(kind: Kind) -> bool {
@@ -345,20 +281,20 @@ fn answer_line(
     show: bool,
     kind: Kind,
     line: &mut [u8],
-    out: &mut [u8],
+    out: &mut Ready,
     at: usize,
     s: Session,
-    hot: &mut [u64],
-    keys: &mut [u64],
-    hot_keys: &mut [u64],
-    shadows: &mut [u64],
-    peer_table: &mut [u64],
-    snapshots: &mut [u64],
-    contested: &mut [u64],
-    kept: &mut [u8],
-    list: &mut [u64],
+    hot: &mut HotTable,
+    keys: &mut KeyTable,
+    hot_keys: &mut HotKeyTable,
+    shadows: &mut ShadowTable,
+    peer_table: &mut PeerTable,
+    snapshots: &mut SnapshotTable,
+    contested: &mut ContestedTable,
+    kept: &mut Kept,
+    list: &mut List,
 ) -> Answered {
-    let done = respond_lent(
+    let done = respond(
         kind,
         line,
         s,
@@ -402,17 +338,17 @@ struct Turn {
 fn turn_of(
     show: bool,
     input: &mut [u8],
-    out: &mut [u8],
+    out: &mut Ready,
     t: Turn,
-    hot: &mut [u64],
-    keys: &mut [u64],
-    hot_keys: &mut [u64],
-    shadows: &mut [u64],
-    peer_table: &mut [u64],
-    snapshots: &mut [u64],
-    contested: &mut [u64],
-    kept: &mut [u8],
-    list: &mut [u64],
+    hot: &mut HotTable,
+    keys: &mut KeyTable,
+    hot_keys: &mut HotKeyTable,
+    shadows: &mut ShadowTable,
+    peer_table: &mut PeerTable,
+    snapshots: &mut SnapshotTable,
+    contested: &mut ContestedTable,
+    kept: &mut Kept,
+    list: &mut List,
 ) -> Turn {
     let rest = Lines {
         from: t.from,
@@ -455,16 +391,16 @@ fn turn_of(
 fn run(
     show: bool,
     input: &mut [u8],
-    out: &mut [u8],
-    hot: &mut [u64],
-    keys: &mut [u64],
-    hot_keys: &mut [u64],
-    shadows: &mut [u64],
-    peer_table: &mut [u64],
-    snapshots: &mut [u64],
-    contested: &mut [u64],
-    kept: &mut [u8],
-    list: &mut [u64],
+    out: &mut Ready,
+    hot: &mut HotTable,
+    keys: &mut KeyTable,
+    hot_keys: &mut HotKeyTable,
+    shadows: &mut ShadowTable,
+    peer_table: &mut PeerTable,
+    snapshots: &mut SnapshotTable,
+    contested: &mut ContestedTable,
+    kept: &mut Kept,
+    list: &mut List,
 ) {
     let session = session::nothing();
     let mut t = Turn {
@@ -504,7 +440,7 @@ fn shows_images() -> bool {
 }
 
 // Makes the tables, and answers the script.
-fn start(input: &mut [u8], kept: &mut [u8]) {
+fn start(input: &mut [u8], kept: &mut Kept) {
     let mut out = io::large_buffer();
     let mut hot = [0u64; 384];
     let mut keys = [0u64; 90112];

@@ -1,4 +1,5 @@
-// What the script's calls made, and the calls on it.
+// What the script's calls made, and the calls on it, which are lent as many words of the tables as the
+// script says.
 use crate::answers;
 use crate::answers::Answer;
 use crate::answers::Value;
@@ -11,12 +12,18 @@ use crate::lent::Lent;
 use crate::limiter_calls;
 use crate::limiter_calls::Node;
 use crate::limiter_readers;
-use crate::peers;
-use crate::peers::Peers;
-use demand::peer_demand::PeerDemand;
-use demand::peer_demand::PeersAnswer;
+use crate::peer_calls;
+use crate::peer_calls::Peers;
+use crate::tables::ContestedTable;
+use crate::tables::HotKeyTable;
+use crate::tables::KeyTable;
+use crate::tables::PeerTable;
+use crate::tables::ShadowTable;
+use crate::tables::SnapshotTable;
 use limiter::Limiter;
 use limiter::LimiterAnswer;
+use peers::peer_demand::PeerDemand;
+use peers::peer_demand::PeersAnswer;
 
 // `kept` is how many bytes the image has that is kept for a load.
 pub(crate) struct Session {
@@ -38,7 +45,7 @@ pub(crate) fn nothing() -> Session {
     Session {
         hot: hot_set::nothing(),
         node: limiter_calls::nothing(),
-        peers: peers::nothing(),
+        peers: peer_calls::nothing(),
         lent: lent::whole(),
         kept: 0,
     }
@@ -90,7 +97,16 @@ pub(crate) fn change_peers(
 ) -> Done {
     let node = s.node;
     let state = s.peers;
-    let done = peers::change(line, place, args, state, peer_table, snapshots, contested);
+    let lent = s.lent;
+    let done = peer_calls::change(
+        line,
+        place,
+        args,
+        state,
+        lent::part_mut(peer_table, lent.peers),
+        lent::part_mut(snapshots, lent.snapshots),
+        lent::part_mut(contested, lent.contested),
+    );
     let value = done.value;
     let peers = done.peers;
     s.node = node_after(place, value, node);
@@ -110,7 +126,17 @@ pub(crate) fn change_node(
     list: &mut [u64],
 ) -> Done {
     let state = s.node;
-    let done = limiter_calls::change(line, place, args, state, keys, hot_keys, shadows, list);
+    let lent = s.lent;
+    let done = limiter_calls::change(
+        line,
+        place,
+        args,
+        state,
+        lent::part_mut(keys, lent.keys),
+        lent::part_mut(hot_keys, lent.hot),
+        lent::part_mut(shadows, lent.shadows),
+        list,
+    );
     let answer = done.answer;
     let node = done.node;
     s.node = node;
@@ -178,15 +204,25 @@ fn peers_no(answer: PeersAnswer) -> u8 {
 pub(crate) fn make(
     args: Args,
     s: Session,
-    keys: &[u64],
-    hot_keys: &[u64],
-    shadows: &[u64],
-    peer_table: &[u64],
-    snapshots: &[u64],
-    contested: &[u64],
+    keys: &KeyTable,
+    hot_keys: &HotKeyTable,
+    shadows: &ShadowTable,
+    peer_table: &PeerTable,
+    snapshots: &SnapshotTable,
+    contested: &ContestedTable,
 ) -> Done {
-    let limiter = Limiter::new(limiter_calls::config_of(args), keys, hot_keys, shadows);
-    let peers = PeerDemand::new(peer_table, snapshots, contested);
+    let lent = s.lent;
+    let limiter = Limiter::new(
+        limiter_calls::config_of(args),
+        lent::part(keys, lent.keys),
+        lent::part(hot_keys, lent.hot),
+        lent::part(shadows, lent.shadows),
+    );
+    let peers = PeerDemand::new(
+        lent::part(peer_table, lent.peers),
+        lent::part(snapshots, lent.snapshots),
+        lent::part(contested, lent.contested),
+    );
     of_new(limiter, peers, s)
 }
 
@@ -197,9 +233,9 @@ pub(crate) fn tick_with_shares(
     keys: &mut [u64],
     hot_keys: &mut [u64],
     shadows: &mut [u64],
-    peer_table: &[u64],
-    snapshots: &[u64],
-    contested: &[u64],
+    peer_table: &PeerTable,
+    snapshots: &SnapshotTable,
+    contested: &ContestedTable,
 ) -> Done {
     let state = s.node;
     let peers = s.peers;
@@ -208,14 +244,15 @@ pub(crate) fn tick_with_shares(
     }
     let limiter = state.value;
     let known = peers.value;
+    let lent = s.lent;
     let changed = limiter.tick_with_shares(
-        keys,
-        hot_keys,
-        shadows,
+        lent::part_mut(keys, lent.keys),
+        lent::part_mut(hot_keys, lent.hot),
+        lent::part_mut(shadows, lent.shadows),
         known,
-        peer_table,
-        snapshots,
-        contested,
+        lent::part(peer_table, lent.peers),
+        lent::part(snapshots, lent.snapshots),
+        lent::part(contested, lent.contested),
         args.first,
         args.second as usize,
     );
@@ -232,20 +269,21 @@ pub(crate) fn read_peers(
     place: usize,
     args: Args,
     s: Session,
-    peer_table: &[u64],
-    snapshots: &[u64],
-    contested: &[u64],
+    peer_table: &PeerTable,
+    snapshots: &SnapshotTable,
+    contested: &ContestedTable,
     list: &mut [u64],
 ) -> Answer {
     let state = s.peers;
-    peers::answer(
+    let lent = s.lent;
+    peer_calls::answer(
         line,
         place,
         args,
         state,
-        peer_table,
-        snapshots,
-        contested,
+        lent::part(peer_table, lent.peers),
+        lent::part(snapshots, lent.snapshots),
+        lent::part(contested, lent.contested),
         list,
     )
 }
@@ -255,11 +293,20 @@ pub(crate) fn read_node(
     place: usize,
     args: Args,
     s: Session,
-    keys: &[u64],
-    hot_keys: &[u64],
-    shadows: &[u64],
+    keys: &KeyTable,
+    hot_keys: &HotKeyTable,
+    shadows: &ShadowTable,
     list: &mut [u64],
 ) -> Answer {
     let state = s.node;
-    limiter_readers::answer(place, args, state, keys, hot_keys, shadows, list)
+    let lent = s.lent;
+    limiter_readers::answer(
+        place,
+        args,
+        state,
+        lent::part(keys, lent.keys),
+        lent::part(hot_keys, lent.hot),
+        lent::part(shadows, lent.shadows),
+        list,
+    )
 }

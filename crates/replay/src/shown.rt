@@ -5,6 +5,13 @@ use crate::digits;
 use crate::images;
 use crate::lent;
 use crate::session::Session;
+use crate::tables::ContestedTable;
+use crate::tables::HotKeyTable;
+use crate::tables::KeyTable;
+use crate::tables::PeerTable;
+use crate::tables::Ready;
+use crate::tables::ShadowTable;
+use crate::tables::SnapshotTable;
 use demand::answers::LenAnswer;
 
 // The length and the hash of an image, behind an answer.
@@ -34,10 +41,7 @@ fn put_saved(out: &mut [u8], at: usize, whole: bool, answer: LenAnswer, room: &[
                 at
             }
         }
-        LenAnswer::Is(len) => {
-            let n = lent::at_most(len as u64, room.len());
-            put_image(out, at, whole, &room[..n])
-        }
+        LenAnswer::Is(len) => { put_image(out, at, whole, lent::bytes(room, len as u64)) }
     }
 }
 
@@ -48,16 +52,16 @@ fn large_room() -> [u8; image::LARGEST_IMAGE] {
 
 // With room for every image.
 fn put_large(
-    out: &mut [u8],
+    out: &mut Ready,
     at: usize,
     whole: bool,
     s: Session,
-    keys: &[u64],
-    hot_keys: &[u64],
-    shadows: &[u64],
-    peer_table: &[u64],
-    snapshots: &[u64],
-    contested: &[u64],
+    keys: &KeyTable,
+    hot_keys: &HotKeyTable,
+    shadows: &ShadowTable,
+    peer_table: &PeerTable,
+    snapshots: &SnapshotTable,
+    contested: &ContestedTable,
 ) -> usize {
     let mut room = large_room();
     let answer = images::save_to(
@@ -83,16 +87,16 @@ fn is_full(answer: LenAnswer) -> bool {
 
 // Shows the image of the state. Little room is tried first: there is less to clear.
 pub(crate) fn put(
-    out: &mut [u8],
+    out: &mut Ready,
     at: usize,
     whole: bool,
     s: Session,
-    keys: &[u64],
-    hot_keys: &[u64],
-    shadows: &[u64],
-    peer_table: &[u64],
-    snapshots: &[u64],
-    contested: &[u64],
+    keys: &KeyTable,
+    hot_keys: &HotKeyTable,
+    shadows: &ShadowTable,
+    peer_table: &PeerTable,
+    snapshots: &SnapshotTable,
+    contested: &ContestedTable,
 ) -> usize {
     let mut room = [0u8; 8192];
     let answer = images::save_to(

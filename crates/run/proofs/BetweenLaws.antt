@@ -15,24 +15,25 @@ use Rattle.gcra.specs.declared.Decision.{Decision}
 use Rattle.gcra.specs.declared.Decision.the-variants.{Allow, Deny}
 use Rattle.questions.specs.Questions.{Question, _asks_, Answer, answer, passes, changed}
 use Rattle.gcra.specs.Meter.{isAllow, decision, check}
-use Rattle.gcra.proofs.Checks.{check-deny}
-use Rattle.gcra.proofs.Retry.{at-retry}
-use Rattle.gcra.specs.Packed.{unitNanos}
+use Rattle.gcra.proofs.Meter.Checks.{check-deny}
+use Rattle.gcra.proofs.Meter.Retry.{at-retry}
+use Rattle.gcra.specs.declared.Units.{Units}
 use Rattle.questions.specs.Lists.{all}
 use Rattle.limiter.specs.declared.Config.{Config}
 use Rattle.limiter.specs.declared.Limit.{Limit}
 use Rattle.limiter.specs.declared.Tally.{Tally}
-use Rattle.limiter.specs.State.{KeyRecord, LimiterState, keyWith, putKey}
+use Rattle.limiter.specs.State.{KeyRecord, LimiterState, keyWith, putKey, unitsOf}
 use Rattle.limiter.specs.Checks.{newKey, foundOr, entry, checkedKey, talliedKey, keyDecision, shadowDecision, checkIn, checkTraced, recordTally, ownLimit, hasPlace, countersFit, checkKeyQuestions, checkOne, afterOne, checkEach}
 use Rattle.limiter.specs.Readers.{ofKey}
 use Rattle.limiter.specs.Calls.{Decisions, answerWords}
 use Rattle.image.specs.Image.{State}
-use Rattle.run.specs.Run.{Held, Lent, Change, What, Resume, Move, Shown, GoesOn, Resumes}
+use Rattle.run.specs.Run.{Memory, Lent, Change, What, Resume, Move, Shown, GoesOn, Resumes}
 use Rattle.run.specs.Trace.{newStates, asked, made, after, stateAfter, meters, meterIn}
 use Rattle.run.specs.Between.{Decided, decidedAt, decisionFirst, ifOwn, decidedEach, decidedIn, decided, ticklessWhat, tickless, byMeter, OwnRecord, isDenied, RetryTime, Between, Sentences}
 use Rattle.run.proofs.Count.Turns.{fresh}
 use Rattle.limiter.proofs.States.KeyLaws.{put-own, put-other}
 use Rattle.limiter.proofs.Calls.BetweenTickLaws.{entry-key}
+use Rattle.limiter.proofs.LimiterTheorems.{one-settings}
 use Rattle.run.proofs.Count.TraceTurns.{taken, done-passed}
 use Rattle.run.proofs.Standing.Stands.{Stands}
 use Rattle.run.proofs.Standing.AnswerCases.{check-back, traced-back, change-back}
@@ -99,16 +100,16 @@ module _ (key : ℕ) where
   found-or-new new x (some y) e f = f
 
   enters : (s : LimiterState) (k : ℕ) (x : Limit) (now n : ℕ) (r : KeyRecord) (ds : List Decided) → r .key ≡ k
-      → Follows (some (entry unitNanos s k x now n .gcra)) ds (some (r .gcra))
+      → Follows (some (entry (unitsOf (s .settings)) s k x now n .gcra)) ds (some (r .gcra))
       → Follows (meterIn key s) (ifOwn key k ds) (ofKey meter (keyWith key (putKey r (s .keys))))
   unfolding entry
   enters s k x now n r ds e f =
       split (eqb k key)
       (λ h.
       let z = eqb-true k key h in
-      let f′ = subst (λ (j : ℕ). Follows (some (foundOr (newKey unitNanos (s .settings) j x now n) x (keyWith j (s .keys)) .gcra)) ds
+      let f′ = subst (λ (j : ℕ). Follows (some (foundOr (newKey (unitsOf (s .settings)) (s .settings) j x now n) x (keyWith j (s .keys)) .gcra)) ds
       (some (r .gcra))) z f in
-      rw (h, put-own key r (s .keys) (e ∙ z)) (found-or-new (newKey unitNanos (s .settings) key x now n) x (keyWith key (s .keys)) refl f′))
+      rw (h, put-own key r (s .keys) (e ∙ z)) (found-or-new (newKey (unitsOf (s .settings)) (s .settings) key x now n) x (keyWith key (s .keys)) refl f′))
       (λ h. rw (h, put-other key r (s .keys) (ap (λ (j : ℕ). eqb j key) e ∙ h)) nothing)
 
   -- no check of a key leaves nothing to see of it
@@ -118,10 +119,10 @@ module _ (key : ℕ) where
   -- ---- each call
 
   check-follows : (s : LimiterState) (k : ℕ) (x : Limit) (now n : ℕ)
-      → Follows (meterIn key s) (ifOwn key k (record { at = now; decision = keyDecision unitNanos s k x now n } ∷ []))
-      (meterIn key (checkIn unitNanos s k x now n))
+      → Follows (meterIn key s) (ifOwn key k (record { at = now; decision = keyDecision (unitsOf (s .settings)) s k x now n } ∷ []))
+      (meterIn key (checkIn (unitsOf (s .settings)) s k x now n))
   unfolding checkIn
-  check-follows s k x now n = enters s k x now n (checkedKey now none (entry unitNanos s k x now n)) _ (entry-key unitNanos s k x now n) (checks nothing)
+  check-follows s k x now n = enters s k x now n (checkedKey now none (entry (unitsOf (s .settings)) s k x now n)) _ (entry-key (unitsOf (s .settings)) s k x now n) (checks nothing)
 
   -- the words of one of many answers say it. A 'no' is 8 or 9.
   words-say : (a b : Bool) (d : Decision) (ws : List ℕ) → let qs = (8 asks a) ∷ (9 asks b) ∷ [] in let out = answerWords (answer qs d) ++ ws in
@@ -134,22 +135,23 @@ module _ (key : ℕ) where
 
   -- many
   each-follows : (n : ℕ) (rs : List (List ℕ)) (s : LimiterState) (out : List ℕ)
-      → Follows (meterIn key s) (decidedEach key rs (flat (map answerWords (checkEach unitNanos n rs s .answers)) ++ out))
-      (meterIn key (checkEach unitNanos n rs s .left))
+      → Follows (meterIn key s) (decidedEach key rs (flat (map answerWords (checkEach (unitsOf (s .settings)) n rs s .answers)) ++ out))
+      (meterIn key (checkEach (unitsOf (s .settings)) n rs s .left))
   unfolding decidedEach checkEach flat
   each-follows n [] s out = nothing
   each-follows n (r ∷ rs) s out =
       let k = getD r 0 0 in
       let now = getD r 1 0 in
-      let s′ = afterOne unitNanos n s k now in
-      let more = flat (map answerWords (checkEach unitNanos n rs s′ .answers)) in
-      let x = checkedKey now none (entry unitNanos s k (ownLimit s) now n) in
-      let w = words-say (hasPlace s (x .key)) (countersFit x) (keyDecision unitNanos s k (ownLimit s) now n) (more ++ out) in
-      rw (append-assoc (answerWords (checkOne unitNanos n s k now)) more out, w .1)
+      let s′ = afterOne (unitsOf (s .settings)) n s k now in
+      let more = flat (map answerWords (checkEach (unitsOf (s .settings)) n rs s′ .answers)) in
+      let x = checkedKey now none (entry (unitsOf (s .settings)) s k (ownLimit s) now n) in
+      let w = words-say (hasPlace s (x .key)) (countersFit x) (keyDecision (unitsOf (s .settings)) s k (ownLimit s) now n) (more ++ out) in
+      rw (append-assoc (answerWords (checkOne (unitsOf (s .settings)) n s k now)) more out, w .1)
       (follows-then
-      (one-call (meterIn key) (checkKeyQuestions unitNanos s k now n) k now _ (keyDecision unitNanos s k (ownLimit s) now n) (w .0)
+      (one-call (meterIn key) (checkKeyQuestions (unitsOf (s .settings)) s k now n) k now _ (keyDecision (unitsOf (s .settings)) s k (ownLimit s) now n) (w .0)
       (λ p. check-follows s k (ownLimit s) now n))
-      (each-follows n rs s′ out))
+      (subst (λ (u : Units). Follows (meterIn key s′) (decidedEach key rs (flat (map answerWords (checkEach u n rs s′ .answers)) ++ out)) (meterIn key (checkEach u n rs s′ .left)))
+      (ap unitsOf (one-settings (unitsOf (s .settings)) n s k now)) (each-follows n rs s′ out)))
 
   abbrev meterOf : State → Option Gcra
   meterOf s = meterIn key (s .limiter)
@@ -165,18 +167,18 @@ module _ (key : ℕ) where
   or-still qs s s′ f = split (passes qs) (λ p. rw p f) (λ p. rw p nothing)
 
   traced-follows : (s : LimiterState) (k : ℕ) (x : Limit) (y : Option Limit) (now n : ℕ)
-      → Follows (meterIn key s) (ifOwn key k (record { at = now; decision = keyDecision unitNanos s k x now n } ∷ []))
-      (meterIn key (checkTraced unitNanos s k x y now n))
+      → Follows (meterIn key s) (ifOwn key k (record { at = now; decision = keyDecision (unitsOf (s .settings)) s k x now n } ∷ []))
+      (meterIn key (checkTraced (unitsOf (s .settings)) s k x y now n))
   unfolding checkTraced
   traced-follows s k x y now n =
-      enters s k x now n (checkedKey now (shadowDecision unitNanos s k x y now n) (entry unitNanos s k x now n)) _ (entry-key unitNanos s k x now n) (checks nothing)
+      enters s k x now n (checkedKey now (shadowDecision (unitsOf (s .settings)) s k x y now n) (entry (unitsOf (s .settings)) s k x now n)) _ (entry-key (unitsOf (s .settings)) s k x now n) (checks nothing)
 
   tally-follows : (s : LimiterState) (k : ℕ) (y : Tally) (x : Limit) (now n : ℕ)
-      → Follows (meterIn key s) [] (meterIn key (recordTally unitNanos s k y x now n))
+      → Follows (meterIn key s) [] (meterIn key (recordTally (unitsOf (s .settings)) s k y x now n))
   unfolding recordTally
   tally-follows s k y x now n =
-      subst (λ (ds : List Decided). Follows (meterIn key s) ds (meterIn key (recordTally unitNanos s k y x now n))) (none-own k)
-      (enters s k x now n (talliedKey y (entry unitNanos s k x now n)) [] (entry-key unitNanos s k x now n) nothing)
+      subst (λ (ds : List Decided). Follows (meterIn key s) ds (meterIn key (recordTally (unitsOf (s .settings)) s k y x now n))) (none-own k)
+      (enters s k x now n (talliedKey y (entry (unitsOf (s .settings)) s k x now n)) [] (entry-key (unitsOf (s .settings)) s k x now n) nothing)
 
   many-follows : (n : Lent) (list : List ℕ) (count m : ℕ) (out : List ℕ) (s : State)
       → let x = Change.check-each list count m out in
@@ -199,7 +201,7 @@ module _ (key : ℕ) where
       one-call meterOf (asked n (Change.check-traced k z y now m) s) k now _ _
       (ap meters (traced-back _)
       ∙ meters-answer (asked n (Change.check-traced k z y now m) s)
-      (record { decision = keyDecision unitNanos (s .limiter) k z now m; shadow = shadowDecision unitNanos (s .limiter) k z y now m }))
+      (record { decision = keyDecision (unitsOf (s .limiter .settings)) (s .limiter) k z now m; shadow = shadowDecision (unitsOf (s .limiter .settings)) (s .limiter) k z y now m }))
       (λ p. traced-follows (s .limiter) k z y now m)
   call-follows n (Change.check-each list count m out) s w = many-follows n list count m out s
   call-follows n (Change.tally k y z now m) s w = or-still (asked n (Change.tally k y z now m) s) s _ (tally-follows (s .limiter) k y z now m)
@@ -288,8 +290,8 @@ retry-time : (s : State) (ms : List Move) → all tickless ms ≡ true → Retry
 retry-time s ms w key us d vs e ws = retry (decided key ms (shownBy s ms)) us d vs e ws (run-follows key s ms w)
 
 -- and so of what the program shows, in any run whose resumptions keep the state
-module _ (At : Held → Resume → Held → Type 0) (keeps : (h h′ : Held) (s : State) (w : Resume) → Stands h s → At h w h′ → Stands h′ s) where
-  between : {c : Config} {h : Held} → Stands h (newStates c) → Between At c h
+module _ (At : Memory → Resume → Memory → Type 0) (keeps : (h h′ : Memory) (s : State) (w : Resume) → Stands h s → At h w h′ → Stands h′ s) where
+  between : {c : Config} {h : Memory} → Stands h (newStates c) → Between At c h
   between {c} st before ms w₁ w₂ quiet xs ys a b u v =
       let s = stateAfter (newStates c) before in
       let e = run-shows At keeps ms w₂ (run-shows At keeps before w₁ st u .1) v .0 in

@@ -19,7 +19,7 @@ use Rattle.limiter.specs.declared.Config.{Config}
 use Rattle.limiter.specs.State.{KeyRecord, keyWith}
 use Rattle.limiter.specs.Calls.{tracedAnswer}
 use Rattle.image.specs.Image.{State}
-use Rattle.run.specs.Run.{Change, What, Reply, Held, Resume, Move, Shown, Runs, GoesOn, Resumes, Started}
+use Rattle.run.specs.Run.{Change, What, Reply, Memory, Resume, Move, Shown, Runs, GoesOn, Resumes, Started}
 use Rattle.run.specs.Typed.{typedConfig, typedMove}
 use Rattle.run.specs.Trace.{Sort, sort, meters, isDone, outputOf, newStates, stateAfter}
 
@@ -117,16 +117,16 @@ RetryTime ms xs =
 
 -- ---- the two, of any part of a run that has no tick
 
-abbrev pub Between : (Held → Resume → Held → Type 0) → Config → Held → Type 0
+abbrev pub Between : (Memory → Resume → Memory → Type 0) → Config → Memory → Type 0
 Between At c h =
     (before ms : List Move) → all typedMove before ≡ true → all typedMove ms ≡ true → all tickless ms ≡ true
-    → (xs ys : List Shown) (a b : Held) → Runs At h before xs a → Runs At a ms ys b
+    → (xs ys : List Shown) (a b : Memory) → Runs At h before xs a → Runs At a ms ys b
     → OwnRecord (stateAfter (newStates c) before) ms ys × RetryTime ms ys
 
-pub record BetweenTicks (c : Config) (h : Held) : Type 0 where
+pub record BetweenTicks (c : Config) (h : Memory) : Type 0 where
   pub unbroken : Between GoesOn c h
   pub resumed : Between Resumes c h
 
 -- of a new limiter and its peers
 abbrev pub Sentences : Type 0
-Sentences = (c : Config) (h : Held) → typedConfig c ≡ true → Started c h → BetweenTicks c h
+Sentences = (c : Config) (h : Memory) → typedConfig c ≡ true → Started c h → BetweenTicks c h

@@ -17,8 +17,8 @@ use lib.ListN.{length, take}
 use Rattle.demand.specs.declared.answers.LenAnswer.{LenAnswer}
 use Rattle.demand.specs.declared.answers.LenAnswer.the-variants as len-answer
 use Rattle.questions.specs.Lists.{all}
-use Rattle.demand.specs.Peers.State as peer-state
-use Rattle.demand.specs.Peers.State.{PeerTables}
+use Rattle.peers.specs.Peers.State as peer-state
+use Rattle.peers.specs.Peers.State.{PeerTables}
 use Rattle.limiter.specs.declared.Config.{Config}
 use Rattle.limiter.specs.State.{LimiterTables, lengths, haveRoom}
 use Rattle.image.specs.declared.Loaded.{Loaded}
@@ -26,34 +26,34 @@ use Rattle.image.specs.declared.LoadAnswer.{LoadAnswer}
 use Rattle.image.specs.declared.LoadAnswer.the-variants as load-answer
 use Rattle.image.specs.Calls.{Loads}
 use Rattle.run.specs.Seen.{KeepsToTheBound, Premises, NeverLowered}
-use Rattle.run.specs.Run.{Held, Call, Reply, Step, Resume, Move, Shown, lend, lentBy, imageOf, SavesAt, Resumes, Unbroken, Resumed, Started}
+use Rattle.run.specs.Run.{Memory, Call, Reply, Step, Resume, Move, Shown, lend, lentBy, imageOf, SavesAt, Resumes, Unbroken, Resumed, Started}
 use Rattle.run.specs.Typed.{typedConfig, typedWhat, typedMove}
 use Rattle.run.specs.Trace.{newStates, trace}
 
 -- ---- 'The resumed run's save and load get no "no" where there is room (1, 16)'
 
 -- as many words as are lent; 1 of the save; 16; 1 of the load
-pub record Room (h : Held) (w : Resume) : Type 0 where
+pub record Room (h : Memory) (w : Resume) : Type 0 where
   pub enough : lentBy (lend (w .lent) h) ≡ w .lent
   pub lent : (haveRoom (h .limiter .config) (w .lent .limiter) && peer-state.haveRoom (w .lent .peers)) ≡ true
   pub output : length (imageOf h) ≤ length (w .out)
   pub tables : (haveRoom (h .limiter .config) (lengths (w .tables)) && peer-state.haveRoom (peer-state.lengths (w .peerTables))) ≡ true
 
 -- each answer that keeps the promise is no 'no'
-pub record Served (h : Held) (w : Resume) : Type 0 where
+pub record Served (h : Memory) (w : Resume) : Type 0 where
   pub saved : (r : LenAnswer) (out : List ℕ) → SavesAt h w r out → (size : ℕ) × (r ≡ len-answer.Is size)
   pub loaded :
       (size : ℕ) (out : List ℕ) → SavesAt h w (len-answer.Is size) out
       → (r : LoadAnswer) (t : LimiterTables) (pt : PeerTables) → Loads (take size out) (w .tables) (w .peerTables) r t pt
       → (x : Loaded) × (r ≡ load-answer.Is x)
   -- and a save and a load that keep their promises exist
-  pub resumed : (h′ : Held) × Resumes h w h′
+  pub resumed : (h′ : Memory) × Resumes h w h′
 
 -- ---- 'Each call gets the limiter's state, the peers' state and the tables, whichever it takes, as the calls before it left them'
 
 -- whatever the program holds, a call that is lent no more words than it holds has an answer, so that no run ends early
-abbrev pub CanCall : Held → Type 0
-CanCall h = (c : Call) → typedWhat (c .what) ≡ true → lentBy (lend (c .lent) h) ≡ c .lent → (r : Reply) × (h′ : Held) × Step h c r h′
+abbrev pub CanCall : Memory → Type 0
+CanCall h = (c : Call) → typedWhat (c .what) ≡ true → lentBy (lend (c .lent) h) ≡ c .lent → (r : Reply) × (h′ : Memory) × Step h c r h′
 
 -- ---- the statement
 
@@ -65,18 +65,18 @@ pub record Counted (c : Config) (ms : List Move) (xs : List Shown) : Type 0 wher
   pub never-lowered : (key : ℕ) → NeverLowered none (trace key (newStates c) ms xs)
 
 -- of what the program holds at the start, h, and a list of calls with places of resumption, ms
-pub record Claim (c : Config) (h : Held) (ms : List Move) : Type 0 where
+pub record Claim (c : Config) (h : Memory) (ms : List Move) : Type 0 where
   -- 'a resumed run .. has from there on the answers, outputs and images of the unbroken run, byte for byte'
-  pub resumes : {xs ys : List Shown} {a b : Held} → Unbroken h ms xs a → Resumed h ms ys b → ys ≡ xs
+  pub resumes : {xs ys : List Shown} {a b : Memory} → Unbroken h ms xs a → Resumed h ms ys b → ys ≡ xs
   -- 'The resumed run's save and load get no "no" where there is room', wherever in the list
-  pub served : {ys : List Shown} {b : Held} → Resumed h ms ys b → (w : Resume) → Room b w → Served b w
+  pub served : {ys : List Shown} {b : Memory} → Resumed h ms ys b → (w : Resume) → Room b w → Served b w
   -- each run can go on with any call
-  pub goes-on : {xs : List Shown} {a : Held} → Unbroken h ms xs a → CanCall a
-  pub goes-on-resumed : {ys : List Shown} {b : Held} → Resumed h ms ys b → CanCall b
+  pub goes-on : {xs : List Shown} {a : Memory} → Unbroken h ms xs a → CanCall a
+  pub goes-on-resumed : {ys : List Shown} {b : Memory} → Resumed h ms ys b → CanCall b
   -- 'In both, for every key and every stretch ..'
-  pub counted : {xs : List Shown} {a : Held} → Unbroken h ms xs a → Counted c ms xs
-  pub counted-resumed : {ys : List Shown} {b : Held} → Resumed h ms ys b → Counted c ms ys
+  pub counted : {xs : List Shown} {a : Memory} → Unbroken h ms xs a → Counted c ms xs
+  pub counted-resumed : {ys : List Shown} {b : Memory} → Resumed h ms ys b → Counted c ms ys
 
 -- 'For every list of calls on a new limiter and its peers .., whatever the settings and clock readings', with arguments of their types
 abbrev pub Demand3 : Type 0
-Demand3 = (c : Config) (h : Held) → typedConfig c ≡ true → Started c h → (ms : List Move) → all typedMove ms ≡ true → Claim c h ms
+Demand3 = (c : Config) (h : Memory) → typedConfig c ≡ true → Started c h → (ms : List Move) → all typedMove ms ≡ true → Claim c h ms

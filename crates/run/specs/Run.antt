@@ -9,20 +9,20 @@ use lib.ListN.{length, take, drop}
 use Rattle.gcra.specs.declared.CheckAnswer.{CheckAnswer}
 use Rattle.gcra.specs.declared.QuotaAnswer.{QuotaAnswer}
 use Rattle.gcra.specs.declared.RateAnswer.{RateAnswer}
-use Rattle.demand.specs.declared.hot_set.SinceAnswer.{SinceAnswer}
-use Rattle.demand.specs.declared.peer_demand.DemandReport.{DemandReport}
-use Rattle.demand.specs.declared.peer_demand.PeerDemand.{PeerDemand}
-use Rattle.demand.specs.declared.peer_demand.PeersChanged.{PeersChanged}
-use Rattle.demand.specs.declared.peer_demand.PeersAnswer.the-variants as peers-answer
-use Rattle.demand.specs.declared.peer_demand.ChangeAnswer.{ChangeAnswer}
+use Rattle.hot.specs.declared.hot_set.SinceAnswer.{SinceAnswer}
+use Rattle.peers.specs.declared.peer_demand.DemandReport.{DemandReport}
+use Rattle.peers.specs.declared.peer_demand.PeerDemand.{PeerDemand}
+use Rattle.peers.specs.declared.peer_demand.PeersChanged.{PeersChanged}
+use Rattle.peers.specs.declared.peer_demand.PeersAnswer.the-variants as peers-answer
+use Rattle.peers.specs.declared.peer_demand.ChangeAnswer.{ChangeAnswer}
 use Rattle.demand.specs.declared.answers.FlagAnswer.{FlagAnswer}
 use Rattle.demand.specs.declared.answers.LenAnswer.{LenAnswer}
 use Rattle.demand.specs.declared.answers.LenAnswer.the-variants as len-answer
-use Rattle.demand.specs.declared.peer_demand.HeardAnswer.{HeardAnswer}
-use Rattle.demand.specs.declared.peer_demand.TotalAnswer.{TotalAnswer}
-use Rattle.demand.specs.Peers.State as peer-state
-use Rattle.demand.specs.Peers.State.{PeerTables, PeerLengths}
-use Rattle.demand.specs.Peers.Calls as peers
+use Rattle.peers.specs.declared.peer_demand.HeardAnswer.{HeardAnswer}
+use Rattle.peers.specs.declared.peer_demand.TotalAnswer.{TotalAnswer}
+use Rattle.peers.specs.Peers.State as peer-state
+use Rattle.peers.specs.Peers.State.{PeerTables, PeerLengths}
+use Rattle.peers.specs.Peers.Calls as peers
 use Rattle.limiter.specs.declared.Limit.{Limit}
 use Rattle.limiter.specs.declared.Config.{Config}
 use Rattle.limiter.specs.declared.Limiter.{Limiter}
@@ -117,20 +117,20 @@ pub data Reply : Type 0 where
 
 -- ---- what the program holds: 'the limiter's state, the peers' state and the tables'
 
-pub record Held : Type 0 where
+pub record Memory : Type 0 where
   pub limiter : Limiter
   pub tables : LimiterTables
   pub peers : PeerDemand
   pub peerTables : PeerTables
 
-abbrev pub withLimiter : Held → Limiter → LimiterTables → Held
+abbrev pub withLimiter : Memory → Limiter → LimiterTables → Memory
 withLimiter h l t = record { limiter = l; tables = t; peers = h .peers; peerTables = h .peerTables }
 
-abbrev pub withPeers : Held → PeerDemand → PeerTables → Held
+abbrev pub withPeers : Memory → PeerDemand → PeerTables → Memory
 withPeers h p t = record { limiter = h .limiter; tables = h .tables; peers = p; peerTables = t }
 
 -- what each call does to what it is lent: its function's promise
-pub data Does (h : Held) : Change → Reply → Held → Type 0 where
+pub data Does (h : Memory) : Change → Reply → Memory → Type 0 where
   checks :
       {key now n : ℕ} {r : Checked} {t : LimiterTables} → limiter.Checks (h .limiter) (h .tables) key now n r t
       → Does h (check key now n) (decided (r .answer)) (withLimiter h (r .limiter) t)
@@ -169,7 +169,7 @@ pub data Does (h : Held) : Change → Reply → Held → Type 0 where
       {now maxAge : ℕ} {r : PeersChanged} {t : PeerTables} → peers.Expires (h .peers) (h .peerTables) now maxAge r t
       → Does h (expire now maxAge) (done (r .answer)) (withPeers h (r .peers) t)
 
-pub data Tells (h : Held) : Query → Told → Type 0 where
+pub data Tells (h : Memory) : Query → Told → Type 0 where
   tells-rates : {key : ℕ} {r : RatesAnswer} → limiter.TellsRates (h .limiter) (h .tables) key r → Tells h (key-rates key) (rates r)
   tells-quota : {key : ℕ} {r : KeyQuotaAnswer} → limiter.TellsQuota (h .limiter) (h .tables) key r → Tells h (quota key) (quota r)
   tells-limit : {key : ℕ} {r : LimitAnswer} → limiter.TellsLimit (h .limiter) (h .tables) key r → Tells h (limit key) (limit r)
@@ -207,13 +207,13 @@ pub data Tells (h : Held) : Query → Told → Type 0 where
       {out out′ : List ℕ} {r : LenAnswer} → Saves (h .limiter) (h .tables) (h .peers) (h .peerTables) out r out′
       → Tells h (save out) (listed r out′)
 
-pub data Acts (h : Held) : What → Reply → Held → Type 0 where
-  does : {x : Change} {r : Reply} {h′ : Held} → Does h x r h′ → Acts h (changes x) r h′
+pub data Acts (h : Memory) : What → Reply → Memory → Type 0 where
+  does : {x : Change} {r : Reply} {h′ : Memory} → Does h x r h′ → Acts h (changes x) r h′
   does-tell : {x : Query} {r : Told} → Tells h x r → Acts h (reads x) (tells r) h
 
 -- ---- a call: the first words of each table are lent, and come back
 
-abbrev pub lend : Lent → Held → Held
+abbrev pub lend : Lent → Memory → Memory
 lend n h =
     record {
       limiter = h .limiter;
@@ -232,13 +232,13 @@ lend n h =
           };
     }
 
-abbrev pub lentBy : Held → Lent
+abbrev pub lentBy : Memory → Lent
 lentBy h = record { limiter = lengths (h .tables); peers = peer-state.lengths (h .peerTables) }
 
 abbrev pub putBack : List ℕ → List ℕ → List ℕ
 putBack part whole = part ++ drop (length part) whole
 
-abbrev pub returned : Held → Held → Held
+abbrev pub returned : Memory → Memory → Memory
 returned part h =
     record {
       limiter = part .limiter;
@@ -257,10 +257,10 @@ returned part h =
           };
     }
 
-pub record Step (h : Held) (c : Call) (r : Reply) (h′ : Held) : Type 0 where
+pub record Step (h : Memory) (c : Call) (r : Reply) (h′ : Memory) : Type 0 where
   -- there are as many words as the call is lent
   pub enough : lentBy (lend (c .lent) h) ≡ c .lent
-  pub after : Held
+  pub after : Memory
   pub acts : Acts (lend (c .lent) h) (c .what) r after
   pub back : h′ ≡ returned after h
 
@@ -279,7 +279,7 @@ pub data Move : Type 0 where
   resume : Resume → Move
 
 -- 'the image that a save with room would write'
-abbrev pub imageOf : Held → List ℕ
+abbrev pub imageOf : Memory → List ℕ
 imageOf h = image (here (h .limiter) (h .tables) (h .peers) (h .peerTables))
 
 -- 'Compared are each later call's answer or number, what it writes to a lent output, and the image .. after the load and after each later call'
@@ -289,38 +289,38 @@ pub data Shown : Type 0 where
 
 -- from what the program holds, a list of moves shows what is compared and leaves what the program then holds; `At` says what happens at a place of
 -- resumption
-pub data Runs (At : Held → Resume → Held → Type 0) : Held → List Move → List Shown → Held → Type 0 where
-  end : {h : Held} → Runs At h [] [] h
+pub data Runs (At : Memory → Resume → Memory → Type 0) : Memory → List Move → List Shown → Memory → Type 0 where
+  end : {h : Memory} → Runs At h [] [] h
   calls :
-      {h h′ last : Held} {c : Call} {r : Reply} {ms : List Move} {xs : List Shown} → Step h c r h′ → Runs At h′ ms xs last
+      {h h′ last : Memory} {c : Call} {r : Reply} {ms : List Move} {xs : List Shown} → Step h c r h′ → Runs At h′ ms xs last
       → Runs At h (call c ∷ ms) (answered r (imageOf h′) ∷ xs) last
   resumes :
-      {h h′ last : Held} {w : Resume} {ms : List Move} {xs : List Shown} → At h w h′ → Runs At h′ ms xs last
+      {h h′ last : Memory} {w : Resume} {ms : List Move} {xs : List Shown} → At h w h′ → Runs At h′ ms xs last
       → Runs At h (resume w ∷ ms) (resumed (imageOf h′) ∷ xs) last
 
 -- nothing happens there in the unbroken run
-abbrev pub GoesOn : Held → Resume → Held → Type 0
+abbrev pub GoesOn : Memory → Resume → Memory → Type 0
 GoesOn h w h′ = h′ ≡ h
 
 -- a save of what is lent there
-abbrev pub SavesAt : Held → Resume → LenAnswer → List ℕ → Type 0
+abbrev pub SavesAt : Memory → Resume → LenAnswer → List ℕ → Type 0
 SavesAt h w r out = Saves (h .limiter) (lend (w .lent) h .tables) (h .peers) (lend (w .lent) h .peerTables) (w .out) r out
 
 -- 'The resumed run's load gets the image its save wrote, and tables whatever they hold'
-pub data Resumes (h : Held) (w : Resume) : Held → Type 0 where
+pub data Resumes (h : Memory) (w : Resume) : Memory → Type 0 where
   saved-and-loaded :
       {size : ℕ} {out : List ℕ} {x : Loaded} {t : LimiterTables} {pt : PeerTables} → SavesAt h w (len-answer.Is size) out
       → Loads (take size out) (w .tables) (w .peerTables) (load-answer.Is x) t pt
       → Resumes h w (record { limiter = x .limiter; tables = t; peers = x .peers; peerTables = pt })
 
-abbrev pub Unbroken : Held → List Move → List Shown → Held → Type 0
+abbrev pub Unbroken : Memory → List Move → List Shown → Memory → Type 0
 Unbroken = Runs GoesOn
 
-abbrev pub Resumed : Held → List Move → List Shown → Held → Type 0
+abbrev pub Resumed : Memory → List Move → List Shown → Memory → Type 0
 Resumed = Runs Resumes
 
 -- 'The list starts from what new returns', whatever the tables that are held then
-pub record Started (c : Config) (h : Held) : Type 0 where
+pub record Started (c : Config) (h : Memory) : Type 0 where
   pub tables : LimiterTables
   pub peerTables : PeerTables
   pub limiter : limiter.IsNew c tables (limiter-answer.Is (h .limiter))

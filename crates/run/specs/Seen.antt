@@ -28,7 +28,7 @@ goesOn (some a) none = false
 goesOn (some a) (some b) = sameQuota (b .quota) (a .quota)
 
 -- 'lowers a TAT ahead of its reading': of a TAT a at the reading `at`, which becomes b
-abbrev pub lowered : ℕ → ℕ → ℕ → ℕ
+abbrev pub lowered : (at a b : ℕ) → ℕ
 lowered at a b = cond (ltb at a && ltb b a) 1 0
 
 -- 'A change of quota is a call that ends one spell and starts the next, the key tracked throughout; a tick that by rounding lowers a TAT ahead of its

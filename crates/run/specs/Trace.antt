@@ -13,11 +13,11 @@ use Rattle.gcra.specs.declared.Decision.{Decision}
 use Rattle.questions.specs.Questions.{Question, _asks_, Answer, refused, given, changed}
 use Rattle.gcra.specs.Meter.{isAllow}
 use Rattle.gcra.specs.Calls.{checkAnswer}
-use Rattle.demand.specs.declared.peer_demand.ChangeAnswer.{ChangeAnswer}
-use Rattle.demand.specs.declared.peer_demand.ChangeAnswer.the-variants as change-answer
-use Rattle.demand.specs.Peers.State as peer-state
-use Rattle.demand.specs.Peers.Changes as peer-changes
-use Rattle.demand.specs.Peers.Calls as peer-calls
+use Rattle.peers.specs.declared.peer_demand.ChangeAnswer.{ChangeAnswer}
+use Rattle.peers.specs.declared.peer_demand.ChangeAnswer.the-variants as change-answer
+use Rattle.peers.specs.Peers.State as peer-state
+use Rattle.peers.specs.Peers.Changes as peer-changes
+use Rattle.peers.specs.Peers.Calls as peer-calls
 use Rattle.limiter.specs.declared.Config.{Config}
 use Rattle.limiter.specs.declared.Parameters.{Parameters}
 use Rattle.limiter.specs.State as limiter-state

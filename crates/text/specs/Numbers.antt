@@ -17,7 +17,7 @@ ifFits true n = n
 ifFits false n = Unfit
 
 -- The number that digits make in a base, the most significant first, after digits that made n. It fits 64 bits.
-unfoldable pub numeral : ℕ → ℕ → List ℕ → Number
+unfoldable pub numeral : (base n : ℕ) → List ℕ → Number
 unfolding digit
 numeral base n [] = Value n
 numeral base n (b ∷ bs) = ifFits (ltb (digit b) base && ltb (base * n + digit b) (2 ^ 64)) (numeral base (base * n + digit b) bs)

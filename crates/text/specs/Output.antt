@@ -24,5 +24,5 @@ pub record Spelled (base least n at r : ℕ) (xs ys : List ℕ) : Type 0 where
   pub ends : r ≡ end at (digits base count n) xs
 
 -- where to go on writing: behind what is there where that leaves `room` bytes, else at the front
-unfoldable pub flushed : ℕ → ℕ → List ℕ → ℕ
+unfoldable pub flushed : (at room : ℕ) → List ℕ → ℕ
 flushed at room xs = cond (leb (at + room) (length xs)) at 0

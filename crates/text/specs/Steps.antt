@@ -48,7 +48,7 @@ pub record More (turns to r : ℕ) (xs ys : List ℕ) : Type 0 where
   pub turn-left : to < r → 0 < turns
 
 -- a line start..end, too long where its first bytes were given up, with bytes from..to in hand behind it
-abbrev pub lineOf : ℕ → ℕ → Bool → ℕ → ℕ → Line
+abbrev pub lineOf : (start end : ℕ) → Bool → ℕ → ℕ → Line
 lineOf start end givenUp from to =
     record { start = start; end = end; kind = cond givenUp kind.TooLong kind.Whole; rest = record { from = from; to = to } }
 

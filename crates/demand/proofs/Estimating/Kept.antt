@@ -14,7 +14,7 @@ use lib.Ieee.Fits.{down-pos}
 use lib.Ieee.Exact.{HasValue, round-exact}
 use lib.Ieee.Back.{round-whole}
 use Rattle.float.specs.Magnitude.{magnitude}
-use Rattle.float.proofs.Held.{fits-small, fits-top}
+use Rattle.float.proofs.Formats.Held.{fits-small, fits-top}
 use Rattle.demand.specs.Decay.Weight.{S, weight}
 use Rattle.demand.specs.Estimators.Estimator.{whole, alpha, folded, valid, tickedFrom, ticked}
 use Rattle.demand.specs.declared.demand.Times.{Times}
@@ -60,40 +60,40 @@ rate-at-most (fin false m (negsuc k)) f h =
 
 -- ---- the whole numbers that bound the steps are floats
 
-held : (n q j : ℕ) → q < 2 ^ 53 → q * 2 ^ j < 2 ^ 2098 → n * 2 ^ 1074 ≡ q * 2 ^ j * 1 → HasValue (round binary64 false n 1) false n 1
-held n q j small under is = round-exact binary64 false n 1 q j (lit< tt) small under is
+exactly : (n q j : ℕ) → q < 2 ^ 53 → q * 2 ^ j < 2 ^ 2098 → n * 2 ^ 1074 ≡ q * 2 ^ j * 1 → HasValue (round binary64 false n 1) false n 1
+exactly n q j small under is = round-exact binary64 false n 1 q j (lit< tt) small under is
 
-held-0 : HasValue (round binary64 false 0 1) false 0 1
-held-0 = held 0 0 0 (lit< tt) (lit< tt) refl
+exactly-0 : HasValue (round binary64 false 0 1) false 0 1
+exactly-0 = exactly 0 0 0 (lit< tt) (lit< tt) refl
 
-held-1 : HasValue (round binary64 false 1 1) false 1 1
-held-1 = held 1 1 1074 (lit< tt) (lit< tt) refl
+exactly-1 : HasValue (round binary64 false 1 1) false 1 1
+exactly-1 = exactly 1 1 1074 (lit< tt) (lit< tt) refl
 
-held-64 : HasValue (round binary64 false (2 ^ 64) 1) false (2 ^ 64) 1
-held-64 = held (2 ^ 64) 1 1138 (lit< tt) (lit< tt) refl
+exactly-64 : HasValue (round binary64 false (2 ^ 64) 1) false (2 ^ 64) 1
+exactly-64 = exactly (2 ^ 64) 1 1138 (lit< tt) (lit< tt) refl
 
-held-94 : HasValue (round binary64 false (2 ^ 94) 1) false (2 ^ 94) 1
-held-94 = held (2 ^ 94) 1 1168 (lit< tt) (lit< tt) refl
+exactly-94 : HasValue (round binary64 false (2 ^ 94) 1) false (2 ^ 94) 1
+exactly-94 = exactly (2 ^ 94) 1 1168 (lit< tt) (lit< tt) refl
 
-held-left : HasValue (round binary64 false left 1) false left 1
-held-left = held left (2 ^ 53 - 2) 2045 (lit< tt) (lit< tt) refl
+exactly-left : HasValue (round binary64 false left 1) false left 1
+exactly-left = exactly left (2 ^ 53 - 2) 2045 (lit< tt) (lit< tt) refl
 
-held-largest : HasValue (round binary64 false largest 1) false largest 1
-held-largest = held largest (2 ^ 53 - 1) 2045 (lit< tt) (lit< tt) refl
+exactly-largest : HasValue (round binary64 false largest 1) false largest 1
+exactly-largest = exactly largest (2 ^ 53 - 1) 2045 (lit< tt) (lit< tt) refl
 
 -- 1 / 2 ^ 30 is below a nanosecond in seconds
-held-tiny : HasValue (round binary64 false 1 (2 ^ 30)) false 1 (2 ^ 30)
-held-tiny = round-exact binary64 false 1 (2 ^ 30) 1 1044 (lit< tt) (lit< tt) (lit< tt) refl
+exactly-tiny : HasValue (round binary64 false 1 (2 ^ 30)) false 1 (2 ^ 30)
+exactly-tiny = round-exact binary64 false 1 (2 ^ 30) 1 1044 (lit< tt) (lit< tt) (lit< tt) refl
 
 -- ---- attempts per second
 
 counted : (n : ℕ) → n < 2 ^ 64 → AtMost (whole n) (2 ^ 64) 1
 unfolding ofInt
-counted n h = round-at-most binary64 (2 ^ 64) 1 held-64 (lit< tt) n 1 (lit< tt) (omega arith)
+counted n h = round-at-most binary64 (2 ^ 64) 1 exactly-64 (lit< tt) n 1 (lit< tt) (omega arith)
 
 elapsed-least : (e : ℕ) → 0 < e → e < 2 ^ 64 → AtLeast (whole e) 1 1
 unfolding ofInt
-elapsed-least e p h = round-at-least binary64 1 1 held-1 (lit< tt) e 1 (2 ^ 64) 1 (lit< tt) (omega arith) (counted e h)
+elapsed-least e p h = round-at-least binary64 1 1 exactly-1 (lit< tt) e 1 (2 ^ 64) 1 (lit< tt) (omega arith) (counted e h)
 
 -- nanoseconds in a second
 abbrev nanos : Float
@@ -111,13 +111,13 @@ billion-least = at-least nanos 1_000_000_000 1 billion
 
 seconds-least : (e : ℕ) → 0 < e → e < 2 ^ 64 → AtLeast (div binary64 (whole e) nanos) 1 (2 ^ 30)
 seconds-least e p h =
-    div-at-least binary64 1 (2 ^ 30) held-tiny (lit< tt) (whole e) nanos 1 1 1_000_000_000 1 1_000_000_000 1 (2 ^ 64) 1 (lit< tt) (lit< tt) (lit< tt) (lit≤ tt)
+    div-at-least binary64 1 (2 ^ 30) exactly-tiny (lit< tt) (whole e) nanos 1 1 1_000_000_000 1 1_000_000_000 1 (2 ^ 64) 1 (lit< tt) (lit< tt) (lit< tt) (lit≤ tt)
     (elapsed-least e p h) billion-most billion-least
-    (div-at-most binary64 (2 ^ 64) 1 held-64 (lit< tt) (whole e) nanos (2 ^ 64) 1 1_000_000_000 1 (lit< tt) (lit< tt) (lit≤ tt) (counted e h) billion-least)
+    (div-at-most binary64 (2 ^ 64) 1 exactly-64 (lit< tt) (whole e) nanos (2 ^ 64) 1 1_000_000_000 1 (lit< tt) (lit< tt) (lit≤ tt) (counted e h) billion-least)
 
 per-second : (n e : ℕ) → n < 2 ^ 64 → 0 < e → e < 2 ^ 64 → AtMost (div binary64 (whole n) (div binary64 (whole e) nanos)) (2 ^ 94) 1
 per-second n e hn p he =
-    div-at-most binary64 (2 ^ 94) 1 held-94 (lit< tt) (whole n) (div binary64 (whole e) nanos) (2 ^ 64) 1 1 (2 ^ 30) (lit< tt) (lit< tt) (lit≤ tt) (counted n hn) (seconds-least e p he)
+    div-at-most binary64 (2 ^ 94) 1 exactly-94 (lit< tt) (whole n) (div binary64 (whole e) nanos) (2 ^ 64) 1 1 (2 ^ 30) (lit< tt) (lit< tt) (lit≤ tt) (counted n hn) (seconds-least e p he)
 
 -- ---- 1 - alpha is at most D / S
 
@@ -152,15 +152,15 @@ module _ (rate x a : Float) (D new old : ℕ) (d : D ≤ S) (is : HasValue a fal
   together : HasValue (round binary64 false new 1) false new 1 → HasValue (round binary64 false old 1) false old 1 → (S - D) * 2 ^ 94 * 1 ≤ new * (S * 1) → D * largest * 1 ≤ old * (S * 1) → (new * 1 + old * 1) * 1 ≤ largest * (1 * 1)
       → AtMost (add binary64 (mul binary64 a x) (mul binary64 (sub binary64 (whole 1) a) rate)) largest 1
   together hn ho n o l =
-      add-at-most binary64 largest 1 held-largest (lit< tt) (mul binary64 a x) (mul binary64 (sub binary64 (whole 1) a) rate) new 1 old 1 (lit< tt) (lit< tt) l
+      add-at-most binary64 largest 1 exactly-largest (lit< tt) (mul binary64 a x) (mul binary64 (sub binary64 (whole 1) a) rate) new 1 old 1 (lit< tt) (lit< tt) l
       (mul-at-most binary64 new 1 hn (lit< tt) a x (S - D) S (2 ^ 94) 1 (lit< tt) (lit< tt) n (at-most a (S - D) S is) at)
       (mul-at-most binary64 old 1 ho (lit< tt) (sub binary64 (whole 1) a) rate D S largest 1 (lit< tt) (lit< tt) o (rest-of D d a is) r)
 
 averaged : (rate x a : Float) (D : ℕ) → D ≤ S → HasValue a false (S - D) S → AtMost rate largest 1 → AtMost x (2 ^ 94) 1
     → AtMost (add binary64 (mul binary64 a x) (mul binary64 (sub binary64 (whole 1) a) rate)) largest 1
 averaged rate x a D d is r at = elim (eq-or-lt-of-le d) [
-  | inl e ↦ together rate x a D 0 largest d is r at held-0 held-largest (le-of-eq (nothing D e)) (all D e) (lit≤ tt)
-  | inr l ↦ together rate x a D (2 ^ 94) left d is r at held-94 held-left (some D) (less D l) (lit≤ tt)
+  | inl e ↦ together rate x a D 0 largest d is r at exactly-0 exactly-largest (le-of-eq (nothing D e)) (all D e) (lit≤ tt)
+  | inr l ↦ together rate x a D (2 ^ 94) left d is r at exactly-94 exactly-left (some D) (less D l) (lit≤ tt)
 ]
   where
     nothing : (D : ℕ) → D ≡ S → (S - D) * 2 ^ 94 * 1 ≡ 0 * (S * 1)

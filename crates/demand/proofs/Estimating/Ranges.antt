@@ -115,14 +115,14 @@ quotient-rounded f m n e k s t S h = simp (ne-eqb n 0 not-zero)
     not-zero : n ≡ 0 → ⊥
     not-zero z = lt-irrefl 0 (lt-of-lt-of-le (above-zero n (up k) s t (down k) S (down-pos k) h) (le-of-eq (ap (λ (i : ℕ). i * up k) z ∙ zero-mul (up k))))
 
-module _ (f : Format) (b d : ℕ) (held : HasValue (round f false b d) false b d) (D : 0 < d) where
+module _ (f : Format) (b d : ℕ) (exactly : HasValue (round f false b d) false b d) (D : 0 < d) where
   -- a fraction that is at most one that the format holds is rounded to at most that
   pub round-at-most : (a c : ℕ) → 0 < c → a * d ≤ b * c → AtMost (round f false a c) b d
-  round-at-most a c C h = below-value (round f false a c) (round f false b d) b d (round-clear f a c) (round-mono f a c b d C D h) held
+  round-at-most a c C h = below-value (round f false a c) (round f false b d) b d (round-clear f a c) (round-mono f a c b d C D h) exactly
 
   -- and one that is at least that, and not too large, to at least that
   pub round-at-least : (a c g h : ℕ) → 0 < c → b * c ≤ a * d → AtMost (round f false a c) g h → AtLeast (round f false a c) b d
-  round-at-least a c g h C k m = above-value (round f false a c) (round f false b d) g h b d m (round-mono f b d a c D C k) held
+  round-at-least a c g h C k m = above-value (round f false a c) (round f false b d) g h b d m (round-mono f b d a c D C k) exactly
 
   -- ---- the operations
 

@@ -3,7 +3,7 @@ use mathlib.Core.Path.{refl, _∙_}
 use mathlib.Core.Bool.{true, false}
 use lib.Ieee.{eq}
 use borrow.Author.Needs.{needs}
-use Rattle.float.proofs.Order.{below-is}
+use Rattle.float.proofs.Orders.Order.{below-is}
 use Rattle.float.proofs.below.Statement.{statement}
 use Rattle.float.proofs.below.Tie as tie
 

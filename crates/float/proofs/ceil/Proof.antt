@@ -6,7 +6,7 @@ use mathlib.Core.Bool.{true, false}
 use lib.Dec.{T}
 use lib.Ieee.{binary64, ofBits, neg, fits}
 use Rattle.float.specs.Integral.{Middle}
-use Rattle.float.proofs.Integral.{middle-pos, middle-neg, neg-middle, cut-asks, cut-small, held-whole, ceil-up-at, ceil-same-at, ceil-neg-at, own-above, own-below, own-neither}
+use Rattle.float.proofs.Integers.Integral.{middle-pos, middle-neg, neg-middle, cut-asks, cut-small, held-whole, ceil-up-at, ceil-same-at, ceil-neg-at, own-above, own-below, own-neither}
 use Rattle.float.proofs.ceil.Statement.{statement}
 use Rattle.float.proofs.ceil.Tie as tie
 

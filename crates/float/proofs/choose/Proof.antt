@@ -1,5 +1,5 @@
 -- `float::choose` meets its contract.
-use Rattle.float.proofs.Order.{chosen-first, chosen-second, chosen-third}
+use Rattle.float.proofs.Orders.Order.{chosen-first, chosen-second, chosen-third}
 use Rattle.float.proofs.choose.Statement.{statement}
 use Rattle.float.proofs.choose.Tie as tie
 

@@ -1,7 +1,7 @@
 -- `float::f32_from_bits` meets its contract.
 use lib.Ieee.{binary32, ofBits, div}
 use borrow.Author.Needs.{needs}
-use Rattle.float.proofs.Patterns.{nan-read, no-nan-read}
+use Rattle.float.proofs.Formats.Patterns.{nan-read, no-nan-read}
 use Rattle.float.proofs.f32_from_bits.Statement.{statement}
 use Rattle.float.proofs.f32_from_bits.Tie as tie
 

@@ -1,7 +1,7 @@
 -- `float::f32_to_bits` meets its contract.
 use lib.Ieee.{binary32, toBits}
 use borrow.Author.Needs.{needs}
-use Rattle.float.proofs.Patterns.{nan-pattern, no-nan}
+use Rattle.float.proofs.Formats.Patterns.{nan-pattern, no-nan}
 use Rattle.float.proofs.f32_to_bits.Statement.{statement}
 use Rattle.float.proofs.f32_to_bits.Tie as tie
 

@@ -2,7 +2,7 @@
 use lib.Ieee.{ofBits, neg}
 use borrow.Author.Needs.{needs}
 use Rattle.float.proofs.Tests.{yes}
-use Rattle.float.proofs.ToInteger.{negative-zero, large-top, neither-zero}
+use Rattle.float.proofs.Integers.ToInteger.{negative-zero, large-top, neither-zero}
 use Rattle.float.proofs.f64_to_u64.Statement.{statement}
 use Rattle.float.proofs.f64_to_u64.Tie as tie
 

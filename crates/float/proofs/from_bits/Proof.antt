@@ -1,7 +1,7 @@
 -- `float::from_bits` meets its contract.
 use lib.Ieee.{binary64, ofBits, div}
 use borrow.Author.Needs.{needs}
-use Rattle.float.proofs.Patterns.{nan-read, no-nan-read}
+use Rattle.float.proofs.Formats.Patterns.{nan-read, no-nan-read}
 use Rattle.float.proofs.from_bits.Statement.{statement}
 use Rattle.float.proofs.from_bits.Tie as tie
 

@@ -1,6 +1,6 @@
 -- `float::is_finite` meets its contract.
 use lib.Ieee.{ofBits, neg, nanBits}
-use Rattle.float.proofs.Order.{finite-under, finite-over}
+use Rattle.float.proofs.Orders.Order.{finite-under, finite-over}
 use Rattle.float.proofs.is_finite.Statement.{statement}
 use Rattle.float.proofs.is_finite.Tie as tie
 

@@ -1,6 +1,6 @@
 -- `float::is_magnitude_bits` meets its contract.
 use lib.Ieee.{binary64}
-use Rattle.float.proofs.Patterns.{magnitude-bits}
+use Rattle.float.proofs.Formats.Patterns.{magnitude-bits}
 use Rattle.float.proofs.is_magnitude_bits.Statement.{statement}
 use Rattle.float.proofs.is_magnitude_bits.Tie as tie
 

@@ -1,6 +1,6 @@
 -- `float::is_magnitude_bits_f32` meets its contract.
 use lib.Ieee.{binary32}
-use Rattle.float.proofs.Patterns.{magnitude-bits}
+use Rattle.float.proofs.Formats.Patterns.{magnitude-bits}
 use Rattle.float.proofs.is_magnitude_bits_f32.Statement.{statement}
 use Rattle.float.proofs.is_magnitude_bits_f32.Tie as tie
 

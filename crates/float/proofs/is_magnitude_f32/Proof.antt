@@ -4,7 +4,7 @@ use Prim.Native.Nat.{ℕ}
 use lib.Ieee.{binary32, ofBits}
 use borrow.Author.Needs.{needs}
 use Rattle.float.specs.Magnitude.{magnitude}
-use Rattle.float.proofs.Patterns.{magnitude-of}
+use Rattle.float.proofs.Formats.Patterns.{magnitude-of}
 use Rattle.float.proofs.Tests.{yes}
 use Rattle.float.proofs.is_magnitude_f32.Statement.{statement}
 use Rattle.float.proofs.is_magnitude_f32.Tie as tie

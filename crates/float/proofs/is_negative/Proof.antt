@@ -4,7 +4,7 @@ use Prim.Native.Nat.{ℕ}
 use lib.Dec.{leb}
 use lib.Ieee.{binary64, top}
 use borrow.Author.Needs.{needs}
-use Rattle.float.proofs.Patterns.{sign-bit}
+use Rattle.float.proofs.Formats.Patterns.{sign-bit}
 use Rattle.float.proofs.Tests.{yes}
 use Rattle.float.proofs.is_negative.Statement.{statement}
 use Rattle.float.proofs.is_negative.Tie as tie

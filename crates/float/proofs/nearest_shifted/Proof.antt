@@ -4,8 +4,8 @@ use mathlib.Core.Path.{_≡_, sym}
 use Prim.Native.Nat.{ℕ, _-_, _*_, _/_, _%_, _^_, _<_}
 use native.Mathlib.Omega.{arith}
 use borrow.Author.Needs.{needs}
-use Rattle.float.proofs.Nearest.{nearest-lt, nearest-gt, nearest-eq}
-use Rattle.float.proofs.FromInteger.{back-le, rest-is, half-is, quotient-small}
+use Rattle.float.proofs.Formats.Nearest.{nearest-lt, nearest-gt, nearest-eq}
+use Rattle.float.proofs.Integers.FromInteger.{back-le, rest-is, half-is, quotient-small}
 use Rattle.float.proofs.nearest_shifted.Statement.{statement}
 use Rattle.float.proofs.nearest_shifted.Tie as tie
 

@@ -2,7 +2,7 @@
 use mathlib.Core.Path.{sym, ap, subst, _∙_}
 use lib.Dec.{T}
 use lib.Ieee.{binary64, ofBits, neg, fits}
-use Rattle.float.proofs.Integral.{middle-pos, middle-neg, neg-middle, round-turned, own-above, own-below, own-neither}
+use Rattle.float.proofs.Integers.Integral.{middle-pos, middle-neg, neg-middle, round-turned, own-above, own-below, own-neither}
 use Rattle.float.proofs.round.Statement.{statement}
 use Rattle.float.proofs.round.Tie as tie
 

@@ -4,7 +4,7 @@ use Prim.Native.Nat.{_+_, _/_, _<_}
 use native.Mathlib.Omega.{arith}
 use lib.Dec.{T}
 use lib.Ieee.{binary64, ofBits, fits}
-use Rattle.float.proofs.Integral.{held-whole, twice-asks, twice-small, round-pos-at}
+use Rattle.float.proofs.Integers.Integral.{held-whole, twice-asks, twice-small, round-pos-at}
 use Rattle.float.proofs.round_half_up.Statement.{statement}
 use Rattle.float.proofs.round_half_up.Tie as tie
 

@@ -1,7 +1,7 @@
 -- `float::to_bits` meets its contract.
 use lib.Ieee.{binary64, toBits}
 use borrow.Author.Needs.{needs}
-use Rattle.float.proofs.Patterns.{nan-pattern, no-nan}
+use Rattle.float.proofs.Formats.Patterns.{nan-pattern, no-nan}
 use Rattle.float.proofs.to_bits.Statement.{statement}
 use Rattle.float.proofs.to_bits.Tie as tie
 

@@ -3,7 +3,7 @@ use mathlib.Core.Path.{refl, sym, _∙_}
 use mathlib.Core.Bool.{true, false}
 use borrow.Author.Needs.{needs}
 use Rattle.float.specs.Order.{totalLess}
-use Rattle.float.proofs.Order.{total-cmp-is}
+use Rattle.float.proofs.Orders.Order.{total-cmp-is}
 use Rattle.float.proofs.total_cmp.Statement.{statement}
 use Rattle.float.proofs.total_cmp.Tie as tie
 

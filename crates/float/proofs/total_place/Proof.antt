@@ -1,7 +1,7 @@
 -- `float::total_place` meets its contract.
 use mathlib.Core.Path.{sym}
 use borrow.Author.Needs.{needs}
-use Rattle.float.proofs.Order.{place-clear, place-set}
+use Rattle.float.proofs.Orders.Order.{place-clear, place-set}
 use Rattle.float.proofs.total_place.Statement.{statement}
 use Rattle.float.proofs.total_place.Tie as tie
 

@@ -8,7 +8,7 @@ use native.Mathlib.Omega.{arith}
 use lib.Count.{leadingZeros, leading-top, leading-of-zero}
 use lib.Ieee.Nearest.{closest}
 use borrow.Author.Needs.{needs}
-use Rattle.float.proofs.FromInteger.{pattern-no-nan, small-in, leading-lo, leading-hi, big-is}
+use Rattle.float.proofs.Integers.FromInteger.{pattern-no-nan, small-in, leading-lo, leading-hi, big-is}
 use Rattle.float.proofs.u64_to_f64.Statement.{statement}
 use Rattle.float.proofs.u64_to_f64.Tie as tie
 

@@ -1,7 +1,7 @@
 -- `gcra::attempt` meets its contract: a reading below the retry time is denied, any other allowed.
 use mathlib.Core.Path.{sym}
 use borrow.Author.Needs.{needs}
-use Rattle.gcra.proofs.Checks.{attempt-deny, attempt-allow}
+use Rattle.gcra.proofs.Meter.Checks.{attempt-deny, attempt-allow}
 use Rattle.gcra.proofs.attempt.Statement.{statement}
 use Rattle.gcra.proofs.attempt.Tie as tie
 

@@ -4,16 +4,16 @@ use Prim.Native.Nat.{ℕ, _+_, _*_}
 use native.Mathlib.Omega.{arith}
 use lib.ListN.{take}
 use Rattle.records.specs.Records.{inserted}
-use Rattle.demand.specs.HotSet.Set.{words}
+use Rattle.hot.specs.HotSet.Set.{words}
 use borrow.Author.Needs.{needs}
-use Rattle.demand.proofs.HotSet.Words.{length-words}
+use Rattle.hot.proofs.HotSet.Words.{length-words}
 use Rattle.hot_lent.proofs.CopyLaws.{appended}
 use Rattle.hot_lent.proofs.Rows.{copied-long}
 use Rattle.hot_lent.proofs.append.Statement.{statement}
 use Rattle.hot_lent.proofs.append.Tie as tie
 use Rattle.hot_lent.proofs.append.Reads as reads
 use Rattle.hot_lent.proofs.append.Lts as lts
-use Rattle.demand.proofs.hot_set.HotEntry.words.Reads as words-reads
+use Rattle.hot.proofs.hot_set.HotEntry.words.Reads as words-reads
 use Rattle.records.proofs.insert.Reads as insert-reads
 
 -- src/lib.rt:58:13

@@ -1,7 +1,7 @@
 -- `hot_since` meets its contract, as a reader that takes a key.
-use Rattle.demand.specs.HotSet.Calls.{SaidSince}
-use Rattle.demand.proofs.hot_set.SinceAnswer as X
-use Rattle.demand.proofs.hot_set.SinceAnswer.Laws as X′
+use Rattle.hot.specs.HotSet.Calls.{SaidSince}
+use Rattle.hot.proofs.hot_set.SinceAnswer as X
+use Rattle.hot.proofs.hot_set.SinceAnswer.Laws as X′
 use Rattle.hot_lent.proofs.Readers.{keyed-reads}
 use Rattle.hot_lent.proofs.hot_since_in.Symbol as inner
 use Rattle.hot_lent.proofs.hot_since_in.Met.{met}

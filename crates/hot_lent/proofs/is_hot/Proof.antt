@@ -1,5 +1,5 @@
 -- `is_hot` meets its contract, as a reader that takes a key.
-use Rattle.demand.specs.HotSet.Calls.{SaidHot}
+use Rattle.hot.specs.HotSet.Calls.{SaidHot}
 use Rattle.demand.proofs.answers.FlagAnswer as X
 use Rattle.demand.proofs.answers.FlagAnswer.Laws as X′
 use Rattle.hot_lent.proofs.Readers.{keyed-reads}

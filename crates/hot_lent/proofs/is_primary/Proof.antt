@@ -1,5 +1,5 @@
 -- `is_primary` meets its contract, as a reader that takes a key.
-use Rattle.demand.specs.HotSet.Calls.{SaidPrimary}
+use Rattle.hot.specs.HotSet.Calls.{SaidPrimary}
 use Rattle.demand.proofs.answers.FlagAnswer as X
 use Rattle.demand.proofs.answers.FlagAnswer.Laws as X′
 use Rattle.hot_lent.proofs.Readers.{keyed-reads}

@@ -33,11 +33,11 @@ use denote.Triple.Clauses.{ensured, lasts}
 use denote.Triple.Table.{entered, cited}
 use denote.Triple.Walked.{says, Stays, stay-none-slice, stay-none, walkOf, goes-none-slice, goes-none, Walks, ends-at, walked, walk-meets}
 use denote.Exit.{yes}
-use Rattle.demand.specs.HotSet.Calls.{SaidLen}
-use Rattle.demand.specs.declared.hot_set.HotEntry.{HotEntry}
-use Rattle.demand.specs.declared.hot_set.HotSet.{HotSet}
+use Rattle.hot.specs.HotSet.Calls.{SaidLen}
+use Rattle.hot.specs.declared.hot_set.HotEntry.{HotEntry}
+use Rattle.hot.specs.declared.hot_set.HotSet.{HotSet}
 use Rattle.demand.specs.declared.answers.LenAnswer.{LenAnswer}
-use Rattle.demand.proofs.hot_set.HotSet as S
+use Rattle.hot.proofs.hot_set.HotSet as S
 use Rattle.demand.proofs.answers.LenAnswer as X
 use Rattle.demand.proofs.answers.LenAnswer.Laws as X′
 use Rattle.hot_lent.specs.declared.Copied.{Copied}

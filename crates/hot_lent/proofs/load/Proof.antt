@@ -49,7 +49,7 @@ use denote.Triple.Clauses.{ensured, lasts}
 use denote.Triple.Table.{entered, cited}
 use denote.Triple.Walked.{says, Stays, stay-none-slice, walkOf, goes-none-slice, Walks, ends-at, walked, walk-meets}
 use denote.Exit.{yes}
-use Rattle.demand.specs.declared.hot_set.HotEntry.{HotEntry}
+use Rattle.hot.specs.declared.hot_set.HotEntry.{HotEntry}
 use Rattle.hot_lent.specs.declared.Copied.{Copied}
 use Rattle.hot_lent.specs.Steps.{Copies, Appends}
 use Rattle.hot_lent.proofs.CopyLaws.{noEntry, none-yet, one-more, all-there, room-left}

@@ -49,8 +49,8 @@ use denote.Triple.Clauses.{ensured, lasts}
 use denote.Triple.Table.{entered, cited}
 use denote.Triple.Walked.{says, needs, Stays, stay-slice, stay-none, walkOf, goes-slice, goes-none, Walks, ends-at, walked, walk-meets}
 use denote.Exit.{yes}
-use Rattle.demand.specs.declared.hot_set.HotEntry.{HotEntry}
-use Rattle.demand.proofs.hot_set.UpdateAnswer as X
+use Rattle.hot.specs.declared.hot_set.HotEntry.{HotEntry}
+use Rattle.hot.proofs.hot_set.UpdateAnswer as X
 use Rattle.hot_lent.specs.declared.Turn.{Turn}
 use Rattle.hot_lent.specs.Steps.{entryIn}
 use Rattle.hot_lent.proofs.CopyLaws.{noEntry, stored, stored-none, stored-more, length-stored, stored-is}

@@ -44,11 +44,11 @@ use denote.Triple.Clauses.{ensured, lasts}
 use denote.Triple.Table.{entered, cited}
 use denote.Triple.Walked.{says, Stays, gave-slice, stay-none, walkOf, goes-gave-slice, goes-none, Walks, ends-at, walked, walk-meets}
 use denote.Exit.{yes}
-use Rattle.demand.specs.declared.hot_set.HotEntry.{HotEntry}
-use Rattle.demand.specs.declared.hot_set.HotSet.{HotSet}
-use Rattle.demand.specs.declared.hot_set.UpdateAnswer.{UpdateAnswer}
-use Rattle.demand.proofs.hot_set.HotSet as S
-use Rattle.demand.proofs.hot_set.UpdateAnswer as X
+use Rattle.hot.specs.declared.hot_set.HotEntry.{HotEntry}
+use Rattle.hot.specs.declared.hot_set.HotSet.{HotSet}
+use Rattle.hot.specs.declared.hot_set.UpdateAnswer.{UpdateAnswer}
+use Rattle.hot.proofs.hot_set.HotSet as S
+use Rattle.hot.proofs.hot_set.UpdateAnswer as X
 use Rattle.hot_lent.specs.declared.Copied.{Copied}
 use Rattle.hot_lent.specs.declared.Turn.{Turn}
 use Rattle.hot_lent.specs.Steps.{wordsIn, Copies, Turns, Stored}

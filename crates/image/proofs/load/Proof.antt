@@ -6,13 +6,13 @@ use Prim.Native.Nat.{ℕ}
 use borrow.Author.Needs.{needs}
 use Rattle.questions.specs.Questions.{refused, given, answer}
 use Rattle.questions.proofs.Tests.{told-no, told-yes}
-use Rattle.demand.specs.Peers.State as peer-state
-use Rattle.demand.specs.Peers.State.{PeerTables}
+use Rattle.peers.specs.Peers.State as peer-state
+use Rattle.peers.specs.Peers.State.{PeerTables}
 use Rattle.limiter.specs.State.{LimiterTables, tables}
 use Rattle.image.specs.Calls.{haveRoom, loadAnswer, valuesOf}
 use Rattle.image.specs.Reader.{stateRead}
 use Rattle.image.specs.LoadSteps.{imageQuestions}
-use Rattle.image.proofs.LoadCallLaws.{room-is, refused-room, refused-image, image-fits, image-loaded}
+use Rattle.image.proofs.Loading.LoadCallLaws.{room-is, refused-room, refused-image, image-fits, image-loaded}
 use Rattle.image.proofs.load.Statement.{statement}
 use Rattle.image.proofs.load.Tie as tie
 

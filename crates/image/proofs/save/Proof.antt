@@ -1,9 +1,9 @@
 -- `save` meets its contract: of the two askers' numbers the first is that of both.
 use borrow.Author.Needs.{needs}
 use mathlib.Core.Path.{_∙_}
-use Rattle.demand.specs.Peers.State as peer-state
+use Rattle.peers.specs.Peers.State as peer-state
 use Rattle.limiter.specs.State.{tables}
-use Rattle.image.proofs.ImageLaws.{first-of-both}
+use Rattle.image.proofs.Saving.ImageLaws.{first-of-both}
 use Rattle.image.proofs.save.Statement.{statement}
 use Rattle.image.proofs.save.Tie as tie
 

@@ -1,7 +1,7 @@
 -- Between ticks: a tracked key's decision depends on its own record and the reading alone, and a denied key is allowed at its retry time.
 use Prim.Native.Nat.{ℕ}
-use mathlib.Core.Path.{_≡_, refl, sym, ap, _∙_}
-use mathlib.Core.Bool.{Bool, true, false, false≢true}
+use mathlib.Core.Path.{_≡_, refl, ap, _∙_}
+use mathlib.Core.Bool.{true, false, false≢true}
 use mathlib.Core.List.{List, [], _∷_}
 use mathlib.Core.Option.{Option, none, some}
 use native.Mathlib.Omega.{arith}
@@ -13,8 +13,8 @@ use Rattle.gcra.specs.declared.Decision.{Decision}
 use Rattle.gcra.specs.declared.Decision.the-variants.{Allow, Deny}
 use Rattle.gcra.specs.Meter.{isAllow, decision, check}
 use Rattle.gcra.specs.Run.{allowed, after as meter-after}
-use Rattle.gcra.proofs.Checks.{check-deny}
-use Rattle.gcra.proofs.Retry.{retry-allowed}
+use Rattle.gcra.proofs.Meter.Checks.{check-deny}
+use Rattle.gcra.proofs.Meter.Retry.{retry-allowed}
 use Rattle.gcra.specs.declared.Units.{Units}
 use Rattle.limiter.specs.declared.Limit.{Limit}
 use Rattle.limiter.specs.declared.Tally.{Tally}

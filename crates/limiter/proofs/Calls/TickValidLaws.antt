@@ -12,24 +12,24 @@ use Rattle.gcra.specs.declared.Units.{Units}
 use Rattle.gcra.specs.declared.Quota.{Quota}
 use Rattle.gcra.specs.Packed.{Accepted, validQuota}
 use Rattle.gcra.specs.Rate.{setQuota}
-use Rattle.gcra.proofs.Rates.{per-second-valid}
-use Rattle.demand.specs.declared.hot_set.HotEntry.{HotEntry}
-use Rattle.demand.specs.HotSet.Set.{Outcome, validEntry, isHot}
+use Rattle.gcra.proofs.Rate.Rates.{per-second-valid}
+use Rattle.hot.specs.declared.hot_set.HotEntry.{HotEntry}
+use Rattle.hot.specs.HotSet.Set.{Outcome, validEntry, isHot}
 use Rattle.questions.specs.Lists.{all, any, only}
 use Rattle.records.specs.Typed.{isWord}
-use Rattle.demand.proofs.HotSet.Map.{Asc}
-use Rattle.demand.proofs.HotSet.Tests.{cooled-key}
-use Rattle.demand.proofs.HotSet.Theorems.{Kept, kept-update}
-use Rattle.demand.proofs.HotSet.ValidLaws.{updated-valid}
+use Rattle.hot.proofs.HotSet.Map.{Asc, cold-misses, all-hot}
+use Rattle.hot.proofs.HotSet.Tests.{cooled-key}
+use Rattle.hot.proofs.HotSet.Theorems.{Kept, kept-update}
+use Rattle.hot.proofs.HotSet.ValidLaws.{updated-valid}
 use Rattle.questions.proofs.OnlyLaws.{all-only, only-passes, all-imply, all-two, length-only}
-use Rattle.demand.proofs.Peers.Validity.ValidLaws.{all-take}
+use Rattle.questions.proofs.ListLaws.{all-take}
 use Rattle.limiter.specs.declared.Parameters.{Parameters}
 use Rattle.limiter.specs.State.{Settings, KeyRecord, ShadowRecord, LimiterState, isTracked, validKey, validShadow, valid}
 use Rattle.limiter.specs.Ticks.{Others, Settled, insert, sorted, isElsewhere, foldedKey, coldRate, hotSet, updated, stays, passOne, rateOf, quotaOf, withQuota, passTwo, weakerKey, victims, capped, afterPasses, tickWith}
 use Rattle.limiter.proofs.States.KeyListLaws.{or-left, not-left, any-none, all-mapped, beyond, rising, rising-only, rising-map, has-only, has-map}
 use Rattle.limiter.proofs.States.RecordValidLaws.{limit-burst, folded-good, set-good, GoodKey, key-says, key-valid}
 use Rattle.limiter.proofs.States.StateValidLaws.{keyOfKey, keyOfShadow, ValidState, valid-says, valid-intro}
-use Rattle.demand.proofs.HotSet.EntryLaws.{all-updated, cold-misses, all-hot}
+use Rattle.hot.proofs.HotSet.EntryLaws.{all-updated}
 
 -- ---- tests joined by 'or'
 or-without : (a b c : Bool) → ((a || b) || c) ≡ true → not b ≡ true → (a || c) ≡ true

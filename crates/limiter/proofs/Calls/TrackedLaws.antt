@@ -6,7 +6,7 @@ use mathlib.Core.Bool.{true}
 use lib.ListN.{length}
 use Rattle.gcra.specs.declared.Units.{Units}
 use Rattle.gcra.specs.Packed.{Accepted}
-use Rattle.demand.specs.declared.hot_set.HotEntry.{HotEntry}
+use Rattle.hot.specs.declared.hot_set.HotEntry.{HotEntry}
 use Rattle.questions.specs.Lists.{all}
 use Rattle.records.specs.Typed.{isWord}
 use Rattle.limiter.specs.declared.Parameters.{Parameters}

@@ -19,6 +19,7 @@ use Rattle.gcra.specs.declared.Decision.{Decision}
 use Rattle.gcra.specs.Packed.{validBurst, validQuota, withInterval}
 use Rattle.gcra.specs.Meter.{isAllow, moved, paceOf, tatAt, decision, check}
 use Rattle.gcra.specs.Rate.{perSecond}
+use Rattle.gcra.specs.declared.Units.{Units}
 use Rattle.questions.specs.Questions.{Question, _asks_, Answer, refused, answer, passes, firstNo}
 use Rattle.questions.proofs.Answers.{answer-no, answer-passed, changed-passed, kept-no, passed-none}
 use Rattle.records.specs.Typed.{isWord}
@@ -27,9 +28,9 @@ use Rattle.limiter.specs.declared.Limiter.{Limiter}
 use Rattle.limiter.specs.declared.Tally.{Tally}
 use Rattle.limiter.specs.declared.checks.KeyEntry.{KeyEntry}
 use Rattle.limiter.specs.declared.checks.Raised.{Raised}
-use Rattle.limiter.specs.State.{KeyRecord, putKey, keyWords}
+use Rattle.limiter.specs.State.{KeyRecord, putKey, keyWords, unitsIn}
 use Rattle.limiter.specs.Checks.{entry, raised, checkedKey, talliedKey, denied, countersFit, hasPlace, keyQuestions}
-use Rattle.limiter.specs.Steps.KeySteps.{units, keyRecord}
+use Rattle.limiter.specs.Steps.KeySteps.{keyRecord}
 use Rattle.limiter.specs.Steps.CheckSteps.{keysIn, keysOnly, counting, Ready, Placed, Enters, placeQuestions, Puts, Raises, answered, Acts}
 use Rattle.limiter.proofs.Checking.KeyTableLaws.{counted-keys, tracked-is, entered}
 
@@ -41,10 +42,10 @@ unfolding ofBits
 inf-is = refl
 
 -- the interval is the same at any burst
-pub any-burst : (rate : Float) (burst : ℕ) (q : Quota) → q ≡ perSecond units rate 1
-    → record { interval = q .interval; burst = burst } ≡ perSecond units rate burst
+pub any-burst : (u : Units) (rate : Float) (burst : ℕ) (q : Quota) → q ≡ perSecond u rate 1
+    → record { interval = q .interval; burst = burst } ≡ perSecond u rate burst
 unfolding perSecond withInterval
-any-burst rate burst q e = ap (λ (x : Quota). record { interval = x .interval; burst = burst }) e
+any-burst u rate burst q e = ap (λ (x : Quota). record { interval = x .interval; burst = burst }) e
 
 -- n more stay within u64
 pub room-test : (a n : ℕ) → a < 2 ^ 64 → leb n (2 ^ 64 - 1 - a) ≡ isWord (a + n)
@@ -127,7 +128,7 @@ module _ (l : Limiter) (xs : List ℕ) (after : KeyRecord) where
       record {
         first = sym z ∙ e;
         limiter = p .value ∙ changed-passed (counting l (length (putKey after (keysIn l xs)))) l asked q;
-        words = p .words ∙ changed-passed (table (map (keyWords units) (putKey after (keysIn l xs))) xs) xs asked q;
+        words = p .words ∙ changed-passed (table (map (keyWords (unitsIn l)) (putKey after (keysIn l xs))) xs) xs asked q;
       }
 
   -- with an answer by the number
@@ -159,8 +160,8 @@ place-passed l e attempts denials shadowDenials m f z =
 module _ (l : Limiter) (xs : List ℕ) (r : Ready l xs) (key : ℕ) (limit : Limit) (now n : ℕ) (b : validBurst (limit .burst) ≡ true) (e : KeyEntry)
     (h : Enters l xs key limit now n e) where
   -- the entry's quota is valid
-  pub entry-quota : validQuota units (e .state .gcra .quota) ≡ true
-  entry-quota = ap (λ (k : KeyRecord). validQuota units (k .gcra .quota)) (h .state) ∙ entered l xs r key limit now n b .quota
+  pub entry-quota : validQuota (unitsIn l) (e .state .gcra .quota) ≡ true
+  entry-quota = ap (λ (k : KeyRecord). validQuota (unitsIn l) (k .gcra .quota)) (h .state) ∙ entered l xs r key limit now n b .quota
 
   -- its place is its key's
   pub entry-placed : Placed l xs (e .state .key) (e .tracked) (e .place)
@@ -172,8 +173,8 @@ module _ (l : Limiter) (xs : List ℕ) (r : Ready l xs) (key : ℕ) (limit : Lim
   pub check-acts : (d : Decision) (g : Gcra) (m : ℕ) (x : Raised) (said : Answer Decision) (l′ : Limiter) (ys : List ℕ)
       → d ≡ decision (e .state .gcra) now → g ≡ check (e .state .gcra) now → m ≡ denied d → said ≡ answered (x .no) d → l′ ≡ x .limiter
       → Raises (raised 1 m 0 g (keyRecord (e .state))) l xs x ys
-      → Acts said (decision (entry units (keysOnly l xs) key limit now n .gcra) now)
-      (checkedKey now none (entry units (keysOnly l xs) key limit now n)) l xs l′ ys
+      → Acts said (decision (entry (unitsIn l) (keysOnly l xs) key limit now n .gcra) now)
+      (checkedKey now none (entry (unitsIn l) (keysOnly l xs) key limit now n)) l xs l′ ys
   check-acts d g m x said l′ ys ed eg em es el er =
       let k = keyRecord (e .state) in
       subst (λ (y : KeyRecord). Acts said (decision (y .gcra) now) (checkedKey now none y) l xs l′ ys) (h .state)
@@ -182,7 +183,7 @@ module _ (l : Limiter) (xs : List ℕ) (r : Ready l xs) (key : ℕ) (limit : Lim
 
   -- a record of it
   pub record-acts : (y : Tally) (x : Raised) (said : Answer Unit) (l′ : Limiter) (ys : List ℕ) → said ≡ answered (x .no) tt → l′ ≡ x .limiter
-      → Raises (talliedKey y (keyRecord (e .state))) l xs x ys → Acts said tt (talliedKey y (entry units (keysOnly l xs) key limit now n)) l xs l′ ys
+      → Raises (talliedKey y (keyRecord (e .state))) l xs x ys → Acts said tt (talliedKey y (entry (unitsIn l) (keysOnly l xs) key limit now n)) l xs l′ ys
   record-acts y x said l′ ys es el er =
       subst (λ (k : KeyRecord). Acts said tt (talliedKey y k) l xs l′ ys) (h .state)
       (raises-acts l xs (talliedKey y (keyRecord (e .state))) said tt x l′ ys es el er)

@@ -13,38 +13,35 @@ use lib.Seq.{sets-eq, getD-take, getD-drop}
 use Rattle.records.specs.Records.{records, flat, table, ascending, fits}
 use Rattle.records.specs.Words.{paste}
 use Rattle.questions.proofs.Tests.{both, and-intro}
-use Rattle.records.proofs.RecordLaws.{length-records, records-split}
-use Rattle.records.proofs.TableLaws.{Wide, length-flat}
+use Rattle.records.proofs.Words.RecordLaws.{length-records, records-split}
+use Rattle.records.proofs.Tables.TableLaws.{length-flat}
 use Rattle.gcra.specs.declared.Decision.{Decision}
 use Rattle.gcra.specs.declared.Decision.the-variants.{Allow, Deny}
-use Rattle.gcra.specs.Packed.{validBurst}
+use Rattle.gcra.specs.Packed.{validBurst, Accepted}
 use Rattle.questions.specs.Questions.{Question, Answer, refused, given, passes, firstNo}
 use Rattle.gcra.specs.Calls.{checkAnswer}
 use Rattle.questions.proofs.Answers.{answer-no, answer-passed, changed-passed, kept-no, passed-none}
-use Rattle.gcra.proofs.Encoding.{units-accepted}
 use Rattle.gcra.specs.declared.Units.{Units}
-use Rattle.demand.specs.declared.peer_demand.ChangeAnswer.the-variants.{No, Done}
+use Rattle.peers.specs.declared.peer_demand.ChangeAnswer.the-variants.{No, Done}
 use Rattle.demand.specs.Allocation.{isClusterSize}
 use Rattle.questions.specs.Lists.{all}
 use Rattle.records.specs.Typed.{isWord, exact}
-use Rattle.demand.proofs.HotSet.Map.{Asc}
-use Rattle.records.proofs.TabledLaws.{table-same}
+use Rattle.records.proofs.Tables.TabledLaws.{table-same}
 use Rattle.questions.proofs.OnlyLaws.{map-append}
-use Rattle.records.proofs.TypedLaws.{words-of-exact, wide-map, records-written, all-back, all-exact, length-written}
+use Rattle.records.proofs.Tables.TypedLaws.{words-of-exact, wide-map, records-written, all-back, all-exact, length-written}
 use Rattle.limiter.specs.declared.Limiter.{Limiter}
 use Rattle.limiter.specs.declared.Checked.{Checked}
-use Rattle.limiter.specs.State.{KeyRecord, LimiterState, LimiterTables, tables, lengths, haveRoom, keyWords, keyOf, putKey, settingsOf, validSettings, validKey, valid, stateOf, isValid, valueOf, written}
-use Rattle.limiter.specs.Checks.{holding, entry, checkedKey, keyDecision, checkIn, ownLimit, hasPlace, keyQuestions, checkKeyQuestions, Answers, checkOne, afterOne, checkEach}
+use Rattle.limiter.specs.State.{KeyRecord, LimiterState, LimiterTables, tables, lengths, haveRoom, keyWords, keyOf, putKey, settingsOf, validSettings, validKey, valid, stateOf, isValid, valueOf, written, unitsIn, unitsOf}
+use Rattle.limiter.specs.Checks.{holding, entry, checkedKey, checkIn, ownLimit, hasPlace, checkKeyQuestions, Answers, checkOne, afterOne, checkEach}
 use Rattle.limiter.specs.Calls.{answerWords, here, eachAsked, ChecksEach}
-use Rattle.limiter.specs.Steps.KeySteps.{units}
 use Rattle.limiter.specs.Steps.CheckSteps.{keysIn, keysOnly, counting, Ready, ChecksKey}
 use Rattle.limiter.specs.Steps.ManySteps.{PairsReady, pairsChecked, ChecksPairs}
 use Rattle.limiter.proofs.Calls.CheckValidLaws.{check-each-valid}
 use Rattle.limiter.proofs.States.KeyListLaws.{rising, rising-says, rising-ascends}
 use Rattle.limiter.proofs.States.RecordValidLaws.{limit-burst}
-use Rattle.limiter.proofs.States.StateValidLaws.{keyOfKey, settings-say, ValidState, valid-says, valid-intro}
+use Rattle.limiter.proofs.States.StateValidLaws.{keyOfKey, settings-say, ValidState, valid-says, valid-intro, units-of-accepted}
 use Rattle.limiter.proofs.States.WrittenLaws.{key-back, key-long}
-use Rattle.records.proofs.KeepLaws.{drop-past, paste-more}
+use Rattle.records.proofs.Changes.KeepLaws.{table-over, paste-more}
 use Rattle.limiter.proofs.Checking.KeyTableLaws.{counted-keys, no-fewer}
 use Rattle.limiter.proofs.Checking.LiftLaws.{state-valid, ready, shadows-counted, shadows-still, value-after, written-after}
 
@@ -121,11 +118,6 @@ module _ (u : Units) (n : ℕ) where
 
 -- ---- tables
 
--- a table that is written over by no fewer words leaves no trace
-over : (rs ss : List (List ℕ)) (xs : List ℕ) → length (flat rs) ≤ length (flat ss) → table ss (table rs xs) ≡ table ss xs
-unfolding table
-over rs ss xs h = ap (λ (ws : List ℕ). flat ss ++ ws) (drop-past rs xs (length (flat ss)) h)
-
 -- an answer has three words
 answer-long : (a : Answer Decision) → length (answerWords a) ≡ 3
 answer-long (refused m) = refl
@@ -163,11 +155,11 @@ each-room len count = let e : count * 3 ≡ 3 * count = omega arith in ap (λ (m
 -- ---- validity
 
 -- a check leaves a valid state
-after-valid : (s : LimiterState) → valid units s ≡ true → (key now n : ℕ) → isWord key ≡ true → isWord now ≡ true
-    → valid units (afterOne units n s key now) ≡ true
+after-valid : (u : Units) → Accepted u → (s : LimiterState) → valid u s ≡ true → (key now n : ℕ) → isWord key ≡ true → isWord now ≡ true
+    → valid u (afterOne u n s key now) ≡ true
 unfolding checkEach all
-after-valid s v key now n wk wn =
-    check-each-valid units units-accepted n ((key ∷ now ∷ []) ∷ []) s
+after-valid u a s v key now n wk wn =
+    check-each-valid u a n ((key ∷ now ∷ []) ∷ []) s
     (and-intro (isWord key && isWord now) true (and-intro (isWord key) (isWord now) wk wn) refl) v
 
 -- ---- the key table of a state whose keys are ks
@@ -175,45 +167,45 @@ abbrev keysAs : Limiter → List KeyRecord → LimiterState
 keysAs l ks = record { settings = settingsOf l; keys = ks; hot = []; shadows = [] }
 
 -- a key's first word is its key
-first-word : (k : KeyRecord) → take 1 (keyWords units k) ≡ k .key ∷ []
+first-word : (u : Units) (k : KeyRecord) → take 1 (keyWords u k) ≡ k .key ∷ []
 unfolding keyWords
-first-word k = refl
+first-word u k = refl
 
 module _ (l : Limiter) (xs : List ℕ) (room : l .config .«table_size» * 22 ≤ length xs) (ks : List KeyRecord)
-    (ok : valid units (keysAs l ks) ≡ true) where
+    (ok : valid (unitsIn l) (keysAs l ks) ≡ true) where
   abbrev counts : Limiter
   counts = counting l (length ks)
 
   abbrev words : List ℕ
-  words = table (map (keyWords units) ks) xs
+  words = table (map (keyWords (unitsIn l)) ks) xs
 
-  facts : ValidState units (keysAs l ks)
-  facts = valid-says units (keysAs l ks) ok
+  facts : ValidState (unitsIn l) (keysAs l ks)
+  facts = valid-says (unitsIn l) (keysAs l ks) ok
 
   -- they are read back
   keys-back : keysIn counts words ≡ ks
   keys-back =
-      ap (map (keyOf units)) (records-written (keyWords units) 22 (key-long units) ks xs)
-      ∙ all-back (keyWords units) (keyOf units) (validKey units) (key-back units units-accepted) ks (facts .keys)
+      ap (map (keyOf (unitsIn l))) (records-written (keyWords (unitsIn l)) 22 (key-long (unitsIn l)) ks xs)
+      ∙ all-back (keyWords (unitsIn l)) (keyOf (unitsIn l)) (validKey (unitsIn l)) (key-back (unitsIn l) (units-of-accepted (settingsOf l))) ks (facts .keys)
 
   -- the table is ready for a call
   pub ready-again : Ready counts words
   ready-again = record {
     few = facts .few;
-    room = omega (arith, room, length-written (keyWords units) 22 (key-long units) ks xs (omega (arith, mul-le-mul-right 22 (facts .few), room)));
+    room = omega (arith, room, length-written (keyWords (unitsIn l)) 22 (key-long (unitsIn l)) ks xs (omega (arith, mul-le-mul-right 22 (facts .few), room)));
     exactly =
-        ap (exact (keyWords units) (keyOf units)) (records-written (keyWords units) 22 (key-long units) ks xs)
-        ∙ all-exact (keyWords units) (keyOf units) (validKey units) (key-back units units-accepted) ks (facts .keys);
-    good = ap (all (validKey units)) keys-back ∙ facts .keys;
+        ap (exact (keyWords (unitsIn l)) (keyOf (unitsIn l))) (records-written (keyWords (unitsIn l)) 22 (key-long (unitsIn l)) ks xs)
+        ∙ all-exact (keyWords (unitsIn l)) (keyOf (unitsIn l)) (validKey (unitsIn l)) (key-back (unitsIn l) (units-of-accepted (settingsOf l))) ks (facts .keys);
+    good = ap (all (validKey (unitsIn l))) keys-back ∙ facts .keys;
     order =
-        ap (ascending 1) (records-written (keyWords units) 22 (key-long units) ks xs)
-        ∙ rising-ascends keyOfKey (keyWords units) first-word ks (facts .keys-rise);
+        ap (ascending 1) (records-written (keyWords (unitsIn l)) 22 (key-long (unitsIn l)) ks xs)
+        ∙ rising-ascends keyOfKey (keyWords (unitsIn l)) (first-word (unitsIn l)) ks (facts .keys-rise);
   }
 
   -- a key more, or another in its place, written over them
-  put-over : (k : KeyRecord) → table (map (keyWords units) (putKey k ks)) words ≡ table (map (keyWords units) (putKey k ks)) xs
+  put-over : (k : KeyRecord) → table (map (keyWords (unitsIn l)) (putKey k ks)) words ≡ table (map (keyWords (unitsIn l)) (putKey k ks)) xs
   put-over k =
-      over (map (keyWords units) ks) (map (keyWords units) (putKey k ks)) xs
+      table-over (map (keyWords (unitsIn l)) ks) (map (keyWords (unitsIn l)) (putKey k ks)) xs
       (omega (
         arith,
         words-long ks,
@@ -221,23 +213,23 @@ module _ (l : Limiter) (xs : List ℕ) (room : l .config .«table_size» * 22 �
         mul-le-mul-right 22 (subst (λ (js : List KeyRecord). length js ≤ length (putKey k js)) keys-back (no-fewer counts words ready-again k)),
       ))
     where
-      words-long : (js : List KeyRecord) → length (flat (map (keyWords units) js)) ≡ length js * 22
-      words-long js = length-flat 22 (map (keyWords units) js) (wide-map (keyWords units) 22 (key-long units) js)
-          ∙ ap (λ (m : ℕ). m * 22) (length-map js (keyWords units))
+      words-long : (js : List KeyRecord) → length (flat (map (keyWords (unitsIn l)) js)) ≡ length js * 22
+      words-long js = length-flat 22 (map (keyWords (unitsIn l)) js) (wide-map (keyWords (unitsIn l)) 22 (key-long (unitsIn l)) js)
+          ∙ ap (λ (m : ℕ). m * 22) (length-map js (keyWords (unitsIn l)))
 
   -- a check of one key is that of the definitions
   module _ (key now n : ℕ) (r : Checked) (ys : List ℕ) (h : ChecksKey counts words key (l .config .limit) now n r ys) where
     abbrev after : LimiterState
-    after = afterOne units n (keysAs l ks) key now
+    after = afterOne (unitsIn l) n (keysAs l ks) key now
 
     abbrev asked : List KeyRecord → List Question
-    asked js = checkKeyQuestions units (keysAs l js) key now n
+    asked js = checkKeyQuestions (unitsIn l) (keysAs l js) key now n
 
     abbrev put : List KeyRecord → List KeyRecord
-    put js = putKey (checkedKey now none (entry units (keysAs l js) key (l .config .limit) now n)) js
+    put js = putKey (checkedKey now none (entry (unitsIn l) (keysAs l js) key (l .config .limit) now n)) js
 
-    pub one-answer : checkAnswer (r .answer) ≡ checkOne units n (keysAs l ks) key now
-    one-answer = h .says ∙ ap (λ (js : List KeyRecord). checkOne units n (keysAs l js) key now) keys-back
+    pub one-answer : checkAnswer (r .answer) ≡ checkOne (unitsIn l) n (keysAs l ks) key now
+    one-answer = h .says ∙ ap (λ (js : List KeyRecord). checkOne (unitsIn l) n (keysAs l js) key now) keys-back
 
     pub one-limiter : r .limiter ≡ counting l (length (after .keys))
     unfolding checkIn
@@ -246,21 +238,21 @@ module _ (l : Limiter) (xs : List ℕ) (room : l .config .«table_size» * 22 �
       where
         by : (b : Bool)
             → cond b (counting l (length (put ks))) counts ≡ counting l
-            (length (cond b (checkIn units (keysAs l ks) key (l .config .limit) now n) (keysAs l ks) .keys))
+            (length (cond b (checkIn (unitsIn l) (keysAs l ks) key (l .config .limit) now n) (keysAs l ks) .keys))
         by true = refl
         by false = refl
 
-    pub one-words : ys ≡ table (map (keyWords units) (after .keys)) xs
+    pub one-words : ys ≡ table (map (keyWords (unitsIn l)) (after .keys)) xs
     unfolding checkIn
     one-words =
         h .words
-        ∙ ap (λ (js : List KeyRecord). cond (passes (asked js)) (table (map (keyWords units) (put js)) words) words) keys-back
+        ∙ ap (λ (js : List KeyRecord). cond (passes (asked js)) (table (map (keyWords (unitsIn l)) (put js)) words) words) keys-back
         ∙ by (passes (asked ks))
       where
         by : (b : Bool)
-            → cond b (table (map (keyWords units) (put ks)) words) words ≡ table
-            (map (keyWords units) (cond b (checkIn units (keysAs l ks) key (l .config .limit) now n) (keysAs l ks) .keys)) xs
-        by true = put-over (checkedKey now none (entry units (keysAs l ks) key (l .config .limit) now n))
+            → cond b (table (map (keyWords (unitsIn l)) (put ks)) words) words ≡ table
+            (map (keyWords (unitsIn l)) (cond b (checkIn (unitsIn l) (keysAs l ks) key (l .config .limit) now n) (keysAs l ks) .keys)) xs
+        by true = put-over (checkedKey now none (entry (unitsIn l) (keysAs l ks) key (l .config .limit) now n))
         by false = refl
 
 -- ---- the loop over the pairs
@@ -268,7 +260,7 @@ module _ (l : Limiter) (xs : List ℕ) (room : l .config .«table_size» * 22 �
 -- the first i pairs are checked, and the state is valid
 pub record Reached (l : Limiter) (xs list : List ℕ) (n : ℕ) (out : List ℕ) (i : ℕ) (l′ : Limiter) (xs′ out′ : List ℕ) : Type 0 where
   pub acted : ChecksPairs l xs list i n out l′ xs′ out′
-  pub ok : valid units (pairsChecked l xs list i n .left) ≡ true
+  pub ok : valid (unitsIn l) (pairsChecked l xs list i n .left) ≡ true
 
 module _ (l : Limiter) (xs list : List ℕ) (count n : ℕ) (out : List ℕ) (p : PairsReady l xs list count out) where
   -- the first i pairs
@@ -279,19 +271,19 @@ module _ (l : Limiter) (xs list : List ℕ) (count n : ℕ) (out : List ℕ) (p 
   keysAt i = keysAs l (upTo i .left .keys)
 
   -- no pair yet
-  words-same : map (keyWords units) (keysIn l xs) ≡ records 22 (l .keys) xs
-  words-same = words-of-exact (keyWords units) (keyOf units) (records 22 (l .keys) xs) (p .keys .exactly)
+  words-same : map (keyWords (unitsIn l)) (keysIn l xs) ≡ records 22 (l .keys) xs
+  words-same = words-of-exact (keyWords (unitsIn l)) (keyOf (unitsIn l)) (records 22 (l .keys) xs) (p .keys .exactly)
 
-  start-valid : valid units (keysOnly l xs) ≡ true
-  unfolding all rising
-  start-valid = valid-intro units (keysOnly l xs) (record {
+  start-valid : valid (unitsIn l) (keysOnly l xs) ≡ true
+  unfolding all rising ascending
+  start-valid = valid-intro (unitsIn l) (keysOnly l xs) (record {
     settings = settings-say (settingsOf l) (p .settings);
     few = omega (arith, counted-keys l xs (p .keys), p .keys .few);
     keys = p .keys .good;
-    keys-rise = rising-says keyOfKey (keyWords units) first-word (keysIn l xs) (ap (ascending 1) words-same ∙ p .keys .order);
+    keys-rise = rising-says keyOfKey (keyWords (unitsIn l)) (first-word (unitsIn l)) (keysIn l xs) (ap (ascending 1) words-same ∙ p .keys .order);
     hot-few = omega arith;
     hot = refl;
-    hot-rise = tt;
+    hot-rise = refl;
     hot-tracked = refl;
     shadows = refl;
     shadows-rise = refl;
@@ -318,10 +310,10 @@ module _ (l : Limiter) (xs list : List ℕ) (count n : ℕ) (out : List ℕ) (p 
   module _ (i : ℕ) (l′ : Limiter) (xs′ out′ : List ℕ) (h : Reached l xs list n out i l′ xs′ out′) where
     -- all but the keys is as it was
     left-is : upTo i .left ≡ keysAt i
-    left-is = each-holds units n (records 2 i list) (keysOnly l xs)
+    left-is = each-holds (unitsIn l) n (records 2 i list) (keysOnly l xs)
 
-    at-valid : valid units (keysAt i) ≡ true
-    at-valid = sym (ap (valid units) left-is) ∙ h .ok
+    at-valid : valid (unitsIn l) (keysAt i) ≡ true
+    at-valid = sym (ap (valid (unitsIn l)) left-is) ∙ h .ok
 
     pub reached-ready : Ready l′ xs′
     reached-ready =
@@ -331,13 +323,13 @@ module _ (l : Limiter) (xs list : List ℕ) (count n : ℕ) (out : List ℕ) (p 
 
     -- the tables are as long as they were
     answered : length (upTo i .answers) ≡ i
-    answered = each-length units n (records 2 i list) (keysOnly l xs) ∙ length-records 2 i list
+    answered = each-length (unitsIn l) n (records 2 i list) (keysOnly l xs) ∙ length-records 2 i list
 
     pub reached-keys : length xs′ ≡ length xs
     reached-keys =
         ap length (h .acted .words)
-        ∙ length-written (keyWords units) 22 (key-long units) (upTo i .left .keys) xs
-        (omega (arith, mul-le-mul-right 22 (valid-says units (keysAt i) at-valid .few), p .keys .room))
+        ∙ length-written (keyWords (unitsIn l)) 22 (key-long (unitsIn l)) (upTo i .left .keys) xs
+        (omega (arith, mul-le-mul-right 22 (valid-says (unitsIn l) (keysAt i) at-valid .few), p .keys .room))
 
     pub reached-output : i ≤ count → length out′ ≡ length out
     reached-output b =
@@ -352,27 +344,27 @@ module _ (l : Limiter) (xs list : List ℕ) (count n : ℕ) (out : List ℕ) (p 
     now = getD list (i * 2 + 1) 0
 
     next-pair : upTo
-        (i + 1) ≡ record { answers = upTo i .answers ++ (checkOne units n (keysAt i) key now ∷ []); left = afterOne units n (keysAt i) key now }
+        (i + 1) ≡ record { answers = upTo i .answers ++ (checkOne (unitsIn l) n (keysAt i) key now ∷ []); left = afterOne (unitsIn l) n (keysAt i) key now }
     unfolding records
     next-pair =
         let row = take 2 (drop (i * 2) list) in
         let word : (j : ℕ) → j < 2
         → getD row j 0 ≡ getD list (i * 2 + j) 0 = (λ j b. getD-take 2 (drop (i * 2) list) j 0 b ∙ getD-drop (i * 2) list j 0) in
         let first : getD row 0 0 ≡ key = word 0 (lit< tt) ∙ ap (λ (m : ℕ). getD list m 0) (add-zero (i * 2)) in
-        ap (λ (rs : List (List ℕ)). checkEach units n rs (keysOnly l xs)) (records-split 2 i 1 list)
-        ∙ each-snoc units n (records 2 i list) row (keysOnly l xs)
+        ap (λ (rs : List (List ℕ)). checkEach (unitsIn l) n rs (keysOnly l xs)) (records-split 2 i 1 list)
+        ∙ each-snoc (unitsIn l) n (records 2 i list) row (keysOnly l xs)
         ∙ (λ j.
         record {
-          answers = upTo i .answers ++ (checkOne units n (left-is j) (first j) (word 1 (lit< tt) j) ∷ []);
-          left = afterOne units n (left-is j) (first j) (word 1 (lit< tt) j);
+          answers = upTo i .answers ++ (checkOne (unitsIn l) n (left-is j) (first j) (word 1 (lit< tt) j) ∷ []);
+          left = afterOne (unitsIn l) n (left-is j) (first j) (word 1 (lit< tt) j);
         })
 
     module _ (r : Checked) (ys out″ : List ℕ) (c : ChecksKey l′ xs′ key (l .config .limit) now n r ys)
         (e : out″ ≡ paste (i * 3) (answerWords (checkAnswer (r .answer))) out′) where
-      checks : ChecksKey (counting l (length (upTo i .left .keys))) (table (map (keyWords units) (upTo i .left .keys)) xs) key
+      checks : ChecksKey (counting l (length (upTo i .left .keys))) (table (map (keyWords (unitsIn l)) (upTo i .left .keys)) xs) key
           (l .config .limit) now n r ys
       checks =
-          subst (λ (x : Limiter). ChecksKey x (table (map (keyWords units) (upTo i .left .keys)) xs) key (l .config .limit) now n r ys)
+          subst (λ (x : Limiter). ChecksKey x (table (map (keyWords (unitsIn l)) (upTo i .left .keys)) xs) key (l .config .limit) now n r ys)
           (h .acted .limiter)
           (subst (λ (x : List ℕ). ChecksKey l′ x key (l .config .limit) now n r ys) (h .acted .words) c)
 
@@ -380,7 +372,7 @@ module _ (l : Limiter) (xs list : List ℕ) (count n : ℕ) (out : List ℕ) (p 
       next-output : out″ ≡ table (map answerWords (upTo (i + 1) .answers)) out
       next-output =
           let said = upTo i .answers in
-          let a = checkOne units n (keysAt i) key now in
+          let a = checkOne (unitsIn l) n (keysAt i) key now in
           let long : length (map answerWords said) ≡ i = length-map said answerWords ∙ answered in
           e
           ∙ (λ j. paste (sym long j * 3) (answerWords (one-answer l xs (p .keys .room) (upTo i .left .keys) at-valid key now n r ys checks j))
@@ -397,10 +389,10 @@ module _ (l : Limiter) (xs list : List ℕ) (count n : ℕ) (out : List ℕ) (p 
               ∙ ap (λ (x : Answers). counting l (length (x .left .keys))) (sym next-pair);
           words =
               one-words l xs (p .keys .room) (upTo i .left .keys) at-valid key now n r ys checks
-              ∙ ap (λ (x : Answers). table (map (keyWords units) (x .left .keys)) xs) (sym next-pair);
+              ∙ ap (λ (x : Answers). table (map (keyWords (unitsIn l)) (x .left .keys)) xs) (sym next-pair);
           output = next-output;
         };
-        ok = ap (λ (x : Answers). valid units (x .left)) next-pair ∙ after-valid (keysAt i) at-valid key now n wk wn;
+        ok = ap (λ (x : Answers). valid (unitsIn l) (x .left)) next-pair ∙ after-valid (unitsIn l) (units-of-accepted (settingsOf l)) (keysAt i) at-valid key now n wk wn;
       }
 
 -- ---- the call on the limiter's whole state
@@ -411,7 +403,7 @@ module _ (l : Limiter) (t : LimiterTables) (list : List ℕ) (count n : ℕ) (ou
   -- what its questions say
   pub record Asked : Type 0 where
     pub room : haveRoom (l .config) (lengths t) ≡ true
-    pub ok : isValid units l t ≡ true
+    pub ok : isValid (unitsIn l) l t ≡ true
     pub ready : PairsReady l (t .keys) list count out
     pub all : passes asks ≡ true
 
@@ -421,7 +413,7 @@ module _ (l : Limiter) (t : LimiterTables) (list : List ℕ) (count n : ℕ) (ou
       let q = passed-none asks m (lit< tt, (lit< tt, (lit< tt, (lit< tt, (lit< tt, tt))))) e z in
       let a = both (fits (length list) 2 count) _ q in
       let b = both (haveRoom (l .config) (lengths t)) _ (a .1) in
-      let c = both (isValid units l t) _ (b .1) in
+      let c = both (isValid (unitsIn l) l t) _ (b .1) in
       let d = both (isClusterSize n) _ (c .1) in
       record {
         room = b .0;
@@ -449,9 +441,9 @@ module _ (l : Limiter) (t : LimiterTables) (list : List ℕ) (count n : ℕ) (ou
   unfolding stateOf
   each-lifted a l′ xs′ out′ h =
       let s = here l t in
-      let x = checkEach units n (records 2 count list) s in
-      let bared = each-bare units n (records 2 count list) s in
-      let held = each-holds units n (records 2 count list) s in
+      let x = checkEach (unitsIn l) n (records 2 count list) s in
+      let bared = each-bare (unitsIn l) n (records 2 count list) s in
+      let held = each-holds (unitsIn l) n (records 2 count list) s in
       record {
         acts = record {
           answered = answer-passed tt asks (a .all);
@@ -471,10 +463,10 @@ module _ (l : Limiter) (t : LimiterTables) (list : List ℕ) (count n : ℕ) (ou
               ∙ sym (ap valueOf held ∙ value-after l t (a .room) (a .ok) (x .left .keys) (s .shadows))
               ∙ changed-passed (valueOf (x .left)) l asks (a .all);
           words =
-              (λ i. tables ((h .words ∙ ap (λ (y : Answers). table (map (keyWords units) (y .left .keys)) (t .keys)) bared) i) (t .hot)
+              (λ i. tables ((h .words ∙ ap (λ (y : Answers). table (map (keyWords (unitsIn l)) (y .left .keys)) (t .keys)) bared) i) (t .hot)
               (sym (shadows-still l t (a .room) (a .ok)) i))
-              ∙ sym (ap (λ (y : LimiterState). written units y t) held ∙ written-after l t (a .room) (a .ok) (x .left .keys) (s .shadows))
-              ∙ changed-passed (written units (x .left) t) t asks (a .all);
+              ∙ sym (ap (λ (y : LimiterState). written (unitsOf (y .settings)) y t) held ∙ written-after l t (a .room) (a .ok) (x .left .keys) (s .shadows))
+              ∙ changed-passed (written (unitsOf (x .left .settings)) (x .left) t) t asks (a .all);
         };
         output =
             h .output

@@ -9,11 +9,11 @@ use lib.ListN.{getD, drop}
 use lib.Seq.{getD-drop, drop-drop}
 use Rattle.gcra.specs.declared.Tat.the-variants.{At}
 use Rattle.gcra.specs.Packed.{unpack}
+use Rattle.gcra.specs.declared.Units.{Units}
 use Rattle.questions.specs.Questions.{Question, Answer, refused, given, answer, passes}
 use Rattle.questions.proofs.Answers.{given-passed, answer-passed}
 use Rattle.records.specs.Fields.{timeOf}
 use Rattle.limiter.specs.State.{floatOf, estimateOf, gcraOf, tatFrom, keyOf}
-use Rattle.limiter.specs.Steps.KeySteps.{units}
 
 -- ---- answers of other crates' calls
 
@@ -37,9 +37,9 @@ pub estimate-at : (at : ℕ) (xs : List ℕ)
 estimate-at at xs = simp (getD-drop, add-zero)
 
 -- the three of a meter
-pub meter-at : (at : ℕ) (xs : List ℕ)
-    → gcraOf units (drop at xs) ≡ record { quota = unpack units (getD xs at 0); tat = tatFrom (timeOf (getD xs (at + 1) 0) (getD xs (at + 2) 0)) }
-meter-at at xs = simp (getD-drop, add-zero)
+pub meter-at : (u : Units) (at : ℕ) (xs : List ℕ)
+    → gcraOf u (drop at xs) ≡ record { quota = unpack u (getD xs at 0); tat = tatFrom (timeOf (getD xs (at + 1) 0) (getD xs (at + 2) 0)) }
+meter-at u at xs = simp (getD-drop, add-zero)
 
 -- a TAT whose flag is set
 pub tat-set : (flag t : ℕ) → (flag ≡ 0 → ⊥) → At t ≡ tatFrom (timeOf flag t)
@@ -47,14 +47,14 @@ tat-set zero t h = absurd (h refl)
 tat-set (suc f) t h = refl
 
 -- the 22 of a key, by parts
-pub key-at : (at : ℕ) (xs : List ℕ) → keyOf units (drop at xs) ≡ record {
+pub key-at : (u : Units) (at : ℕ) (xs : List ℕ) → keyOf u (drop at xs) ≡ record {
   key = getD xs at 0;
   limit = record { rate = floatOf (getD xs (at + 1) 0); burst = getD xs (at + 2) 0 };
   demand = estimateOf (drop (at + 3) xs);
   requests = estimateOf (drop (at + 7) xs);
   denials = estimateOf (drop (at + 11) xs);
   shadowDenials = estimateOf (drop (at + 15) xs);
-  gcra = gcraOf units (drop (at + 19) xs);
+  gcra = gcraOf u (drop (at + 19) xs);
 }
 unfolding keyOf
-key-at at xs = simp (getD-drop, add-zero, drop-drop)
+key-at u at xs = simp (getD-drop, add-zero, drop-drop)

@@ -9,18 +9,18 @@ use lib.Dec.{leb, lit<}
 use lib.ListN.{length, length-map}
 use Rattle.records.specs.Records.{records, table, ascending}
 use Rattle.questions.proofs.Tests.{both}
-use Rattle.records.proofs.RecordLaws.{length-records}
+use Rattle.records.proofs.Words.RecordLaws.{length-records}
 use Rattle.gcra.specs.Packed.{validBurst}
 use Rattle.questions.specs.Questions.{Question, Answer, refused, answer, passes, firstNo}
 use Rattle.gcra.specs.Calls.{checkAnswer}
 use Rattle.questions.proofs.Answers.{answer-no, kept-no, first-more, Numbered, passed-none}
-use Rattle.demand.specs.HotSet.Set as hot-set
+use Rattle.hot.specs.HotSet.Set as hot-set
 use Rattle.questions.specs.Lists.{all}
 use Rattle.records.specs.Typed.{exact}
-use Rattle.demand.specs.Peers.Calls.{changeAnswer}
+use Rattle.peers.specs.Peers.Calls.{changeAnswer}
 use Rattle.demand.specs.Allocation.{isRate}
-use Rattle.records.proofs.TabledLaws.{table-same}
-use Rattle.records.proofs.TypedLaws.{words-of-exact}
+use Rattle.records.proofs.Tables.TabledLaws.{table-same}
+use Rattle.records.proofs.Tables.TypedLaws.{words-of-exact}
 use Rattle.limiter.specs.declared.Cap.{Cap}
 use Rattle.limiter.specs.declared.Cap.the-variants as cap
 use Rattle.limiter.specs.declared.LastTick.{LastTick}
@@ -30,11 +30,10 @@ use Rattle.limiter.specs.declared.Limiter.{Limiter}
 use Rattle.limiter.specs.declared.Tally.{Tally}
 use Rattle.limiter.specs.declared.Checked.{Checked}
 use Rattle.limiter.specs.declared.Changed.{Changed}
-use Rattle.limiter.specs.State.{KeyRecord, ShadowRecord, LimiterState, LimiterTables, tables, lengths, haveRoom, capOf, capFrom, lastTickOf, lastTickFrom, keyWords, keyOf, shadowWords, shadowOf, putKey, stateOf, areExact, isValid, valid, validSettings, validKeys, validHot, validShadows, validKey, validShadow, valueOf, written}
+use Rattle.limiter.specs.State.{KeyRecord, ShadowRecord, LimiterState, LimiterTables, tables, lengths, haveRoom, capOf, capFrom, lastTickOf, lastTickFrom, keyWords, keyOf, shadowWords, shadowOf, putKey, stateOf, areExact, isValid, valid, validSettings, validKeys, validHot, validShadows, validKey, validShadow, valueOf, written, unitsIn}
 use Rattle.limiter.specs.Checks.{holding, hasPlace, keyQuestions, ownLimit, entry, checkedKey, talliedKey, keyDecision, checkIn, recordTally, limitQuestions, clusterQuestions}
 use Rattle.limiter.specs.Calls as Calls
 use Rattle.limiter.specs.Calls.{here, stateQuestions}
-use Rattle.limiter.specs.Steps.KeySteps.{units}
 use Rattle.limiter.specs.Steps.CheckSteps as steps
 use Rattle.limiter.specs.Steps.CheckSteps.{keysOnly, Ready, ChecksKey, RecordsKey}
 use Rattle.limiter.specs.Steps.TraceSteps.{ShadowsReady}
@@ -53,22 +52,22 @@ tick-forth last-tick.Unset = refl
 tick-forth (last-tick.At x) = refl
 
 -- ---- questions 1 and 2
-module _ (l : Limiter) (t : LimiterTables) (room : haveRoom (l .config) (lengths t) ≡ true) (ok : isValid units l t ≡ true) where
-  exactly : areExact units l t ≡ true
+module _ (l : Limiter) (t : LimiterTables) (room : haveRoom (l .config) (lengths t) ≡ true) (ok : isValid (unitsIn l) l t ≡ true) where
+  exactly : areExact (unitsIn l) l t ≡ true
   unfolding isValid
-  exactly = both (areExact units l t) (valid units (stateOf units l t)) ok .0
+  exactly = both (areExact (unitsIn l) l t) (valid (unitsIn l) (stateOf (unitsIn l) l t)) ok .0
 
-  pub state-valid : valid units (here l t) ≡ true
+  pub state-valid : valid (unitsIn l) (here l t) ≡ true
   unfolding isValid
-  state-valid = both (areExact units l t) (valid units (stateOf units l t)) ok .1
+  state-valid = both (areExact (unitsIn l) l t) (valid (unitsIn l) (stateOf (unitsIn l) l t)) ok .1
 
-  pub facts : ValidState units (here l t)
-  facts = valid-says units (here l t) state-valid
+  pub facts : ValidState (unitsIn l) (here l t)
+  facts = valid-says (unitsIn l) (here l t) state-valid
 
   -- the counts are those of the state
   pub keys-counted : length (here l t .keys) ≡ l .keys
   unfolding stateOf
-  keys-counted = length-map (records 22 (l .keys) (t .keys)) (keyOf units) ∙ length-records 22 (l .keys) (t .keys)
+  keys-counted = length-map (records 22 (l .keys) (t .keys)) (keyOf (unitsIn l)) ∙ length-records 22 (l .keys) (t .keys)
 
   pub hot-counted : length (here l t .hot) ≡ l .hot
   unfolding stateOf hot-set.entries
@@ -76,25 +75,25 @@ module _ (l : Limiter) (t : LimiterTables) (room : haveRoom (l .config) (lengths
 
   pub shadows-counted : length (here l t .shadows) ≡ l .shadows
   unfolding stateOf
-  shadows-counted = length-map (records 4 (l .shadows) (t .shadows)) (shadowOf units) ∙ length-records 4 (l .shadows) (t .shadows)
+  shadows-counted = length-map (records 4 (l .shadows) (t .shadows)) (shadowOf (unitsIn l)) ∙ length-records 4 (l .shadows) (t .shadows)
 
   -- each table's words are those of its records
-  keys-exact : exact (keyWords units) (keyOf units) (records 22 (l .keys) (t .keys)) ≡ true
+  keys-exact : exact (keyWords (unitsIn l)) (keyOf (unitsIn l)) (records 22 (l .keys) (t .keys)) ≡ true
   unfolding areExact
-  keys-exact = both (exact (keyWords units) (keyOf units) (records 22 (l .keys) (t .keys))) _ exactly .0
+  keys-exact = both (exact (keyWords (unitsIn l)) (keyOf (unitsIn l)) (records 22 (l .keys) (t .keys))) _ exactly .0
 
   hot-exact : exact hot-set.words hot-set.entry (records 6 (l .hot) (t .hot)) ≡ true
   unfolding areExact
   hot-exact =
       both (exact hot-set.words hot-set.entry (records 6 (l .hot) (t .hot))) _
-      (both (exact (keyWords units) (keyOf units) (records 22 (l .keys) (t .keys))) _ exactly .1) .0
+      (both (exact (keyWords (unitsIn l)) (keyOf (unitsIn l)) (records 22 (l .keys) (t .keys))) _ exactly .1) .0
 
-  pub shadows-exact : exact (shadowWords units) (shadowOf units) (records 4 (l .shadows) (t .shadows)) ≡ true
+  pub shadows-exact : exact (shadowWords (unitsIn l)) (shadowOf (unitsIn l)) (records 4 (l .shadows) (t .shadows)) ≡ true
   unfolding areExact
   shadows-exact =
       both (exact hot-set.words hot-set.entry (records 6 (l .hot) (t .hot)))
-      (exact (shadowWords units) (shadowOf units) (records 4 (l .shadows) (t .shadows)))
-      (both (exact (keyWords units) (keyOf units) (records 22 (l .keys) (t .keys))) _ exactly .1) .1
+      (exact (shadowWords (unitsIn l)) (shadowOf (unitsIn l)) (records 4 (l .shadows) (t .shadows)))
+      (both (exact (keyWords (unitsIn l)) (keyOf (unitsIn l)) (records 22 (l .keys) (t .keys))) _ exactly .1) .1
 
   -- there is room for the shadows
   pub shadows-fit : l .shadows * 4 ≤ length (t .shadows)
@@ -102,7 +101,7 @@ module _ (l : Limiter) (t : LimiterTables) (room : haveRoom (l .config) (lengths
   shadows-fit =
       let v = facts in
       let z = sizes-say (l .config) (v .settings .config .sizes) in
-      omega (arith, few-shadows units (here l t) v, shadows-counted, v .few, z .most-held, room-says (l .config) (lengths t) room .for-shadows)
+      omega (arith, few-shadows (unitsIn l) (here l t) v, shadows-counted, v .few, z .most-held, room-says (l .config) (lengths t) room .for-shadows)
 
   -- the key table is ready for a call
   pub ready : Ready l (t .keys)
@@ -111,32 +110,32 @@ module _ (l : Limiter) (t : LimiterTables) (room : haveRoom (l .config) (lengths
       let s = here l t in
       let v = facts in
       let z = sizes-say (l .config) (v .settings .config .sizes) in
-      let k = both (validKeys units (l .config) (s .keys)) _ (both (validSettings (s .settings)) _ state-valid .1) .0 in
-      let kk = both (all (validKey units) (s .keys)) _ (both (leb (length (s .keys)) (l .config .«table_size»)) _ k .1) in
+      let k = both (validKeys (unitsIn l) (l .config) (s .keys)) _ (both (validSettings (s .settings)) _ state-valid .1) .0 in
+      let kk = both (all (validKey (unitsIn l)) (s .keys)) _ (both (leb (length (s .keys)) (l .config .«table_size»)) _ k .1) in
       record {
         few = omega (arith, v .few, keys-counted);
         room = omega (arith, z .most-held, room-says (l .config) (lengths t) room .for-keys);
         exactly = keys-exact;
         good = v .keys;
-        order = sym (ap (ascending 1) (words-of-exact (keyWords units) (keyOf units) (records 22 (l .keys) (t .keys)) keys-exact)) ∙ kk .1;
+        order = sym (ap (ascending 1) (words-of-exact (keyWords (unitsIn l)) (keyOf (unitsIn l)) (records 22 (l .keys) (t .keys)) keys-exact)) ∙ kk .1;
       }
 
   -- the shadow table too
-  pub shadows-ready : ShadowsReady (l .shadows) (t .shadows)
+  pub shadows-ready : ShadowsReady (unitsIn l) (l .shadows) (t .shadows)
   unfolding stateOf valid validShadows
   shadows-ready =
       let s = here l t in
       let x = both (validSettings (s .settings)) _ state-valid .1 in
-      let y = both (validHot (l .config) (s .keys) (s .hot)) (validShadows units (l .config) (s .keys) (s .shadows))
-      (both (validKeys units (l .config) (s .keys)) _ x .1) .1 in
-      let z = both (all (validShadow units) (s .shadows)) _ (both (leb (length (s .shadows)) (l .config .«table_size»)) _ y .1) in
+      let y = both (validHot (l .config) (s .keys) (s .hot)) (validShadows (unitsIn l) (l .config) (s .keys) (s .shadows))
+      (both (validKeys (unitsIn l) (l .config) (s .keys)) _ x .1) .1 in
+      let z = both (all (validShadow (unitsIn l)) (s .shadows)) _ (both (leb (length (s .shadows)) (l .config .«table_size»)) _ y .1) in
       record {
         fit = shadows-fit;
         exactly = shadows-exact;
         good = z .0;
         order =
-            sym (ap (ascending 1) (words-of-exact (shadowWords units) (shadowOf units) (records 4 (l .shadows) (t .shadows)) shadows-exact))
-            ∙ both (ascending 1 (map (shadowWords units) (s .shadows))) _ (z .1) .0;
+            sym (ap (ascending 1) (words-of-exact (shadowWords (unitsIn l)) (shadowOf (unitsIn l)) (records 4 (l .shadows) (t .shadows)) shadows-exact))
+            ∙ both (ascending 1 (map (shadowWords (unitsIn l)) (s .shadows))) _ (z .1) .0;
       }
 
   -- the settings' limit has a valid burst
@@ -155,11 +154,11 @@ module _ (l : Limiter) (t : LimiterTables) (room : haveRoom (l .config) (lengths
       ∙ table-same 6 (l .hot) (t .hot) (omega (arith, v .hot-few, hot-counted, z .most-hot, room-says (l .config) (lengths t) room .for-hot))
 
   -- to write the shadows changes nothing
-  pub shadows-still : table (map (shadowWords units) (here l t .shadows)) (t .shadows) ≡ t .shadows
+  pub shadows-still : table (map (shadowWords (unitsIn l)) (here l t .shadows)) (t .shadows) ≡ t .shadows
   unfolding stateOf
   shadows-still =
       ap (λ (rs : List (List ℕ)). table rs (t .shadows))
-      (words-of-exact (shadowWords units) (shadowOf units) (records 4 (l .shadows) (t .shadows)) shadows-exact)
+      (words-of-exact (shadowWords (unitsIn l)) (shadowOf (unitsIn l)) (records 4 (l .shadows) (t .shadows)) shadows-exact)
       ∙ table-same 4 (l .shadows) (t .shadows) shadows-fit
 
   -- the value
@@ -179,9 +178,9 @@ module _ (l : Limiter) (t : LimiterTables) (room : haveRoom (l .config) (lengths
 
   -- the tables
   pub written-after : (ks : List KeyRecord) (ss : List ShadowRecord)
-      → written units (holding (here l t) ks ss) t ≡ tables (table (map (keyWords units) ks) (t .keys)) (t .hot)
-      (table (map (shadowWords units) ss) (t .shadows))
-  written-after ks ss = (λ i. tables (table (map (keyWords units) ks) (t .keys)) (hot-still i) (table (map (shadowWords units) ss) (t .shadows)))
+      → written (unitsIn l) (holding (here l t) ks ss) t ≡ tables (table (map (keyWords (unitsIn l)) ks) (t .keys)) (t .hot)
+      (table (map (shadowWords (unitsIn l)) ss) (t .shadows))
+  written-after ks ss = (λ i. tables (table (map (keyWords (unitsIn l)) ks) (t .keys)) (hot-still i) (table (map (shadowWords (unitsIn l)) ss) (t .shadows)))
 
 -- ---- questions that were passed before
 
@@ -210,7 +209,7 @@ module _ {A : Type 0} (said : Answer A) (value : A) (after : KeyRecord) (l l′ 
   left = holding (here l t) (putKey after (here l t .keys)) (here l t .shadows)
 
   -- a call on the key table is one on the limiter
-  pub lifted : haveRoom (l .config) (lengths t) ≡ true → isValid units l t ≡ true → passes asked ≡ true
+  pub lifted : haveRoom (l .config) (lengths t) ≡ true → isValid (unitsIn l) l t ≡ true → passes asked ≡ true
       → steps.Acts said value after l (t .keys) l′ ys
       → Calls.Acts said (asked ++ keyQuestions (here l t) after) value left l t l′ (tables ys (t .hot) (t .shadows))
   unfolding stateOf hasPlace
@@ -233,10 +232,10 @@ module _ {A : Type 0} (said : Answer A) (value : A) (after : KeyRecord) (l l′ 
             }) (shadows-counted l t room ok)) i) l);
         words =
             ap (λ (zs : List ℕ). tables zs (t .hot) (t .shadows)) (h .words)
-            ∙ changed-keys t (passes qs) (table (map (keyWords units) (putKey after (here l t .keys))) (t .keys))
+            ∙ changed-keys t (passes qs) (table (map (keyWords (unitsIn l)) (putKey after (here l t .keys))) (t .keys))
             ∙ (λ i. cond (sym (passes-after asked qs e) i)
             (sym (written-after l t room ok (putKey after (here l t .keys)) (here l t .shadows)
-            ∙ ap (λ (zs : List ℕ). tables (table (map (keyWords units) (putKey after (here l t .keys))) (t .keys)) (t .hot) zs)
+            ∙ ap (λ (zs : List ℕ). tables (table (map (keyWords (unitsIn l)) (putKey after (here l t .keys))) (t .keys)) (t .hot) zs)
             (shadows-still l t room ok)) i) t);
       }
 
@@ -250,7 +249,7 @@ refused-before value l t asked rs s m e z =
 -- what it says that questions 1 and 2 and others were passed
 pub record Passed (l : Limiter) (t : LimiterTables) (rs : List Question) : Type 0 where
   pub room : haveRoom (l .config) (lengths t) ≡ true
-  pub ok : isValid units l t ≡ true
+  pub ok : isValid (unitsIn l) l t ≡ true
   pub rest : passes rs ≡ true
   pub all : passes (stateQuestions l t ++ rs) ≡ true
 
@@ -260,7 +259,7 @@ unfolding passes
 passed l t rs m w e z =
     let q = passed-none (stateQuestions l t ++ rs) m (lit< tt, (lit< tt, w)) e z in
     let a = both (haveRoom (l .config) (lengths t)) _ q in
-    let b = both (isValid units l t) _ (a .1) in
+    let b = both (isValid (unitsIn l) l t) _ (a .1) in
     record { room = a .0; ok = b .0; rest = b .1; all = q }
 
 -- ---- each call on the key table
@@ -269,21 +268,21 @@ module _ (l : Limiter) (t : LimiterTables) (rs : List Question) (p : Passed l t 
   -- `check_in`, and `check` at the settings' limit
   pub checks-lifted : (r : Checked) → ChecksKey l (t .keys) key limit now n r ys
       → Calls.Acts (checkAnswer (r .answer))
-      ((stateQuestions l t ++ rs) ++ keyQuestions (here l t) (checkedKey now none (entry units (here l t) key limit now n)))
-      (keyDecision units (here l t) key limit now n) (checkIn units (here l t) key limit now n) l t (r .limiter) (tables ys (t .hot) (t .shadows))
+      ((stateQuestions l t ++ rs) ++ keyQuestions (here l t) (checkedKey now none (entry (unitsIn l) (here l t) key limit now n)))
+      (keyDecision (unitsIn l) (here l t) key limit now n) (checkIn (unitsIn l) (here l t) key limit now n) l t (r .limiter) (tables ys (t .hot) (t .shadows))
   unfolding checkIn entry stateOf
   checks-lifted r h =
-      lifted (checkAnswer (r .answer)) (keyDecision units (here l t) key limit now n) (checkedKey now none (entry units (here l t) key limit now n)) l
+      lifted (checkAnswer (r .answer)) (keyDecision (unitsIn l) (here l t) key limit now n) (checkedKey now none (entry (unitsIn l) (here l t) key limit now n)) l
       (r .limiter) t ys (stateQuestions l t ++ rs) (p .room) (p .ok) (p .all) h
 
   -- `record`
   pub records-lifted : (y : Tally) (r : Changed) → RecordsKey l (t .keys) key y limit now n r ys
       → Calls.Acts (changeAnswer (r .answer))
-      ((stateQuestions l t ++ rs) ++ keyQuestions (here l t) (talliedKey y (entry units (here l t) key limit now n))) tt
-      (recordTally units (here l t) key y limit now n) l t (r .limiter) (tables ys (t .hot) (t .shadows))
+      ((stateQuestions l t ++ rs) ++ keyQuestions (here l t) (talliedKey y (entry (unitsIn l) (here l t) key limit now n))) tt
+      (recordTally (unitsIn l) (here l t) key y limit now n) l t (r .limiter) (tables ys (t .hot) (t .shadows))
   unfolding recordTally entry stateOf
   records-lifted y r h =
-      lifted (changeAnswer (r .answer)) tt (talliedKey y (entry units (here l t) key limit now n)) l (r .limiter) t ys (stateQuestions l t ++ rs)
+      lifted (changeAnswer (r .answer)) tt (talliedKey y (entry (unitsIn l) (here l t) key limit now n)) l (r .limiter) t ys (stateQuestions l t ++ rs)
       (p .room)
       (p .ok) (p .all) h
 

@@ -6,18 +6,16 @@ use Prim.Native.Nat.{ℕ, _*_, _≤_}
 use native.Mathlib.Omega.{arith}
 use lib.ListN.{length, length-map}
 use Rattle.records.specs.Records.{records, ascending, same}
-use Rattle.records.proofs.OrderLaws.{same-eq}
-use Rattle.records.proofs.RecordLaws.{length-records}
-use Rattle.questions.proofs.Tests.{both}
-use Rattle.gcra.specs.Packed.{unitNanos}
-use Rattle.demand.specs.HotSet.Set as hot-set
+use Rattle.records.proofs.Order.OrderLaws.{same-eq}
+use Rattle.records.proofs.Words.RecordLaws.{length-records}
+use Rattle.questions.proofs.Tests.{both, and-intro}
+use Rattle.hot.specs.HotSet.Set as hot-set
 use Rattle.questions.specs.Lists.{all}
 use Rattle.records.specs.Typed.{exact}
-use Rattle.demand.specs.HotSet.Steps.{EntriesReady}
-use Rattle.demand.proofs.HotSet.Kept.{valid-asc}
+use Rattle.hot.specs.HotSet.Steps.{EntriesReady}
 use Rattle.limiter.specs.declared.Limiter.{Limiter}
-use Rattle.limiter.specs.State.{LimiterTables, LimiterState, lengths, haveRoom, keyWords, keyOf, shadowOf, stateOf, areExact, isValid}
-use Rattle.limiter.specs.Steps.TickSteps.{HeldKeys}
+use Rattle.limiter.specs.State.{LimiterTables, LimiterState, lengths, haveRoom, keyWords, keyOf, shadowOf, stateOf, areExact, isValid, unitsIn}
+use Rattle.limiter.specs.Steps.TickSteps.{LentKeys}
 use Rattle.limiter.proofs.States.KeyListLaws.{rising-ascends}
 use Rattle.limiter.proofs.States.StateValidLaws.{keyOfKey, sizes-say, ValidState, valid-says, few-shadows}
 use Rattle.limiter.proofs.States.WrittenLaws.{room-says}
@@ -31,24 +29,24 @@ exact-list words of (r ∷ rs) e =
     let b = both (same (words (of r)) r) _ e in
     (λ i. sym (same-eq (words (of r)) r (b .0)) i ∷ exact-list words of rs (b .1) i)
 
-module _ (l : Limiter) (t : LimiterTables) (room : haveRoom (l .config) (lengths t) ≡ true) (e : isValid unitNanos l t ≡ true) where
-  parts : (areExact unitNanos l t ≡ true) × ValidState unitNanos (stateOf unitNanos l t)
+module _ (l : Limiter) (t : LimiterTables) (room : haveRoom (l .config) (lengths t) ≡ true) (e : isValid (unitsIn l) l t ≡ true) where
+  parts : (areExact (unitsIn l) l t ≡ true) × ValidState (unitsIn l) (stateOf (unitsIn l) l t)
   unfolding isValid
-  parts = let b = both (areExact unitNanos l t) _ e in (b .0, valid-says unitNanos (stateOf unitNanos l t) (b .1))
+  parts = let b = both (areExact (unitsIn l) l t) _ e in (b .0, valid-says (unitsIn l) (stateOf (unitsIn l) l t) (b .1))
 
   abbrev state : LimiterState
-  state = stateOf unitNanos l t
+  state = stateOf (unitsIn l) l t
 
-  exacts : (exact (keyWords unitNanos) (keyOf unitNanos) (records 22 (l .keys) (t .keys)) ≡ true) × (exact hot-set.words hot-set.entry (records 6 (l .hot) (t .hot)) ≡ true)
+  exacts : (exact (keyWords (unitsIn l)) (keyOf (unitsIn l)) (records 22 (l .keys) (t .keys)) ≡ true) × (exact hot-set.words hot-set.entry (records 6 (l .hot) (t .hot)) ≡ true)
   unfolding areExact
   exacts =
-      let b = both (exact (keyWords unitNanos) (keyOf unitNanos) (records 22 (l .keys) (t .keys))) _ (parts .0) in
+      let b = both (exact (keyWords (unitsIn l)) (keyOf (unitsIn l)) (records 22 (l .keys) (t .keys))) _ (parts .0) in
       (b .0, both (exact hot-set.words hot-set.entry (records 6 (l .hot) (t .hot))) _ (b .1) .0)
 
   -- how many there are of each
   key-count : length (state .keys) ≡ l .keys
   unfolding stateOf
-  key-count = length-map (records 22 (l .keys) (t .keys)) (keyOf unitNanos) ∙ length-records 22 (l .keys) (t .keys)
+  key-count = length-map (records 22 (l .keys) (t .keys)) (keyOf (unitsIn l)) ∙ length-records 22 (l .keys) (t .keys)
 
   hot-count : length (state .hot) ≡ l .hot
   unfolding stateOf hot-set.entries
@@ -56,14 +54,14 @@ module _ (l : Limiter) (t : LimiterTables) (room : haveRoom (l .config) (lengths
 
   shadow-count : length (state .shadows) ≡ l .shadows
   unfolding stateOf
-  shadow-count = length-map (records 4 (l .shadows) (t .shadows)) (shadowOf unitNanos) ∙ length-records 4 (l .shadows) (t .shadows)
+  shadow-count = length-map (records 4 (l .shadows) (t .shadows)) (shadowOf (unitsIn l)) ∙ length-records 4 (l .shadows) (t .shadows)
 
   pub few-keys : (l .keys ≤ 4096) × (l .shadows ≤ 4096)
   unfolding stateOf
   few-keys =
       let v = parts .1 in
       let z = sizes-say (l .config) (v .settings .config .sizes) in
-      (omega (arith, v .few, z, key-count), omega (arith, v .few, z, key-count, few-shadows unitNanos state v, shadow-count))
+      (omega (arith, v .few, z, key-count), omega (arith, v .few, z, key-count, few-shadows (unitsIn l) state v, shadow-count))
 
   rooms : (l .keys * 22 ≤ length (t .keys)) × (l .hot * 6 ≤ length (t .hot)) × (l .shadows * 4 ≤ length (t .shadows))
   unfolding stateOf
@@ -73,27 +71,27 @@ module _ (l : Limiter) (t : LimiterTables) (room : haveRoom (l .config) (lengths
       let r = room-says (l .config) (lengths t) room in (
         omega (arith, v .few, z, key-count, r .for-keys),
         omega (arith, v .hot-few, z, hot-count, r .for-hot),
-        omega (arith, v .few, z, key-count, few-shadows unitNanos state v, shadow-count, r .for-shadows),
+        omega (arith, v .few, z, key-count, few-shadows (unitsIn l) state v, shadow-count, r .for-shadows),
       )
 
-  pub held-keys : HeldKeys (l .keys) (t .keys)
+  pub lent-keys : LentKeys (unitsIn l) (l .keys) (t .keys)
   unfolding stateOf
-  held-keys =
-      let x = exact-list (keyWords unitNanos) (keyOf unitNanos) (records 22 (l .keys) (t .keys)) (exacts .0) in
+  lent-keys =
+      let x = exact-list (keyWords (unitsIn l)) (keyOf (unitsIn l)) (records 22 (l .keys) (t .keys)) (exacts .0) in
       record {
         fit = rooms .0;
         exact = x;
         valids = parts .1 .keys;
-        ascends = ap (ascending 1) x ∙ rising-ascends keyOfKey (keyWords unitNanos) first-word (state .keys) (parts .1 .keys-rise);
+        ascends = ap (ascending 1) x ∙ rising-ascends keyOfKey (keyWords (unitsIn l)) (first-word (unitsIn l)) (state .keys) (parts .1 .keys-rise);
       }
 
-  pub held-hot : EntriesReady (l .hot) (t .hot)
-  unfolding stateOf hot-set.entries
-  held-hot = record {
+  pub lent-hot : EntriesReady (l .hot) (t .hot)
+  unfolding stateOf hot-set.entries hot-set.validEntries
+  lent-hot = record {
     fit = rooms .1;
     exact = sym (exact-list hot-set.words hot-set.entry (records 6 (l .hot) (t .hot)) (exacts .1));
-    good = valid-asc (state .hot) (parts .1 .hot-rise) (parts .1 .hot);
+    good = and-intro (all hot-set.validEntry (state .hot)) _ (parts .1 .hot) (parts .1 .hot-rise);
   }
 
-  pub held-shadows : l .shadows * 4 ≤ length (t .shadows)
-  held-shadows = rooms .2
+  pub lent-shadows : l .shadows * 4 ≤ length (t .shadows)
+  lent-shadows = rooms .2

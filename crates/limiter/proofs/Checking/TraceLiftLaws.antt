@@ -12,21 +12,19 @@ use Rattle.gcra.specs.declared.Gcra.{Gcra}
 use Rattle.gcra.specs.Packed.{validBurst}
 use Rattle.gcra.specs.Meter.{decision}
 use Rattle.questions.specs.Questions.{Question, passes, firstNo}
-use Rattle.gcra.proofs.Encoding.{units-accepted}
 use Rattle.demand.specs.Allocation.{isRate}
 use Rattle.limiter.specs.declared.Limit.{Limit}
 use Rattle.limiter.specs.declared.Limiter.{Limiter}
 use Rattle.limiter.specs.declared.TracedAnswer.the-variants.{No}
 use Rattle.limiter.specs.declared.TracedCheck.{TracedCheck}
-use Rattle.limiter.specs.State.{KeyRecord, LimiterState, LimiterTables, tables, lengths, haveRoom, keyWords, shadowWords, putKey, stateOf, isValid}
+use Rattle.limiter.specs.State.{KeyRecord, LimiterState, LimiterTables, tables, lengths, haveRoom, keyWords, shadowWords, putKey, stateOf, isValid, unitsIn, settingsOf}
 use Rattle.limiter.specs.Checks.{holding, entry, checkedKey, keyDecision, tracedMeter, decisionBy, shadowDecision, shadowsWith, checkTraced, hasPlace, bothLimitQuestions, clusterQuestions, keyQuestions}
 use Rattle.limiter.specs.Calls as Calls
 use Rattle.limiter.specs.Calls.{Decisions, tracedAnswer, here, stateQuestions, ChecksTraced}
-use Rattle.limiter.specs.Steps.KeySteps.{units}
 use Rattle.limiter.specs.Steps.CheckSteps.{keysOnly}
 use Rattle.limiter.specs.Steps.TraceSteps.{TracesAs, meterFor, Traces, Roomy}
 use Rattle.limiter.proofs.Calls.CheckValidLaws.{Given, traced-valid}
-use Rattle.limiter.proofs.States.StateValidLaws.{sizes-say, valid-says, few-shadows}
+use Rattle.limiter.proofs.States.StateValidLaws.{sizes-say, valid-says, few-shadows, units-of-accepted}
 use Rattle.limiter.proofs.States.WrittenLaws.{room-says}
 use Rattle.limiter.proofs.Checking.LiftLaws.{state-valid, value-after, written-after, answer-after, passes-after, refused-before, Passed, passed}
 
@@ -50,7 +48,7 @@ module _ (l : Limiter) (t : LimiterTables) (key now : ℕ) where
 
     -- a call on the two tables is one on the limiter
     lifted :
-        (r : TracedCheck) (xs zs : List ℕ) (asked : List Question) → haveRoom (l .config) (lengths t) ≡ true → isValid units l t ≡ true
+        (r : TracedCheck) (xs zs : List ℕ) (asked : List Question) → haveRoom (l .config) (lengths t) ≡ true → isValid (unitsIn l) l t ≡ true
         → passes asked ≡ true
         → TracesAs l (t .keys) (t .shadows) key now k m r xs zs
         → Calls.Acts (tracedAnswer (r .answer)) (asked ++ keyQuestions (here l t) after) decisions left l t (r .limiter) (tables xs (t .hot) zs)
@@ -64,7 +62,7 @@ module _ (l : Limiter) (t : LimiterTables) (key now : ℕ) where
           limiter = h .limiter ∙ (λ i. cond (sym (passes-after asked qs e) i) (sym (value-after l t room ok ks ss) i) l);
           words =
               (λ i. tables (h .keys i) (t .hot) (h .shadows i))
-              ∙ changed-both t (passes qs) (table (map (keyWords units) ks) (t .keys)) (table (map (shadowWords units) ss) (t .shadows))
+              ∙ changed-both t (passes qs) (table (map (keyWords (unitsIn l)) ks) (t .keys)) (table (map (shadowWords (unitsIn l)) ss) (t .shadows))
               ∙ (λ i. cond (sym (passes-after asked qs e) i) (sym (written-after l t room ok ks ss) i) t);
         }
 
@@ -74,14 +72,14 @@ module _ (l : Limiter) (t : LimiterTables) (key now : ℕ) where
         (shadow : Option Limit) → Traces l (t .keys) (t .shadows) key limit shadow now n r xs zs
         → let s = here l t in
         Calls.Acts (tracedAnswer (r .answer))
-        ((stateQuestions l t ++ rs) ++ keyQuestions s (checkedKey now (shadowDecision units s key limit shadow now n) (entry units s key limit now n)))
-        (record { decision = keyDecision units s key limit now n; shadow = shadowDecision units s key limit shadow now n })
-        (checkTraced units s key limit shadow now n) l t (r .limiter) (tables xs (t .hot) zs)
+        ((stateQuestions l t ++ rs) ++ keyQuestions s (checkedKey now (shadowDecision (unitsIn l) s key limit shadow now n) (entry (unitsIn l) s key limit now n)))
+        (record { decision = keyDecision (unitsIn l) s key limit now n; shadow = shadowDecision (unitsIn l) s key limit shadow now n })
+        (checkTraced (unitsIn l) s key limit shadow now n) l t (r .limiter) (tables xs (t .hot) zs)
     unfolding stateOf entry tracedMeter checkTraced
     traces-lifted none h =
-        lifted (entry units (here l t) key limit now n) none r xs zs (stateQuestions l t ++ rs) (p .room) (p .ok) (p .all) h
+        lifted (entry (unitsIn l) (here l t) key limit now n) none r xs zs (stateQuestions l t ++ rs) (p .room) (p .ok) (p .all) h
     traces-lifted (some shadow) h =
-        let k = entry units (here l t) key limit now n in
+        let k = entry (unitsIn l) (here l t) key limit now n in
         lifted k (meterFor l (t .shadows) key limit (some shadow) now k) r xs zs (stateQuestions l t ++ rs) (p .room) (p .ok) (p .all) h
 
   -- where the questions pass, the shadows after the call are no more than the keys, so that there is room
@@ -92,12 +90,12 @@ module _ (l : Limiter) (t : LimiterTables) (key now : ℕ) where
   traced-room limit shadow n p w q =
       let s = here l t in
       let rs = bothLimitQuestions limit (some shadow) ++ clusterQuestions n in
-      let qs = keyQuestions s (checkedKey now (shadowDecision units s key limit (some shadow) now n) (entry units s key limit now n)) in
-      let x = checkTraced units s key limit (some shadow) now n in
-      let v = valid-says units x
-      (traced-valid units units-accepted s (state-valid l t (p .room) (p .ok)) key limit now n w (some shadow) (passes-after rs qs (p .rest) ∙ q)) in
+      let qs = keyQuestions s (checkedKey now (shadowDecision (unitsIn l) s key limit (some shadow) now n) (entry (unitsIn l) s key limit now n)) in
+      let x = checkTraced (unitsIn l) s key limit (some shadow) now n in
+      let v = valid-says (unitsIn l) x
+      (traced-valid (unitsIn l) (units-of-accepted (settingsOf l)) s (state-valid l t (p .room) (p .ok)) key limit now n w (some shadow) (passes-after rs qs (p .rest) ∙ q)) in
       let z = sizes-say (l .config) (v .settings .config .sizes) in
-      omega (arith, few-shadows units x v, v .few, z .most-held, room-says (l .config) (lengths t) (p .room) .for-shadows)
+      omega (arith, few-shadows (unitsIn l) x v, v .few, z .most-held, room-says (l .config) (lengths t) (p .room) .for-shadows)
 
 -- question 4 among 3 and 4 of both limits, and 7
 pub bursts-passed :

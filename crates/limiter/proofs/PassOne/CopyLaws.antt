@@ -9,12 +9,13 @@ use lib.Ieee.{Float}
 use lib.ListN.{length, take, getD, set, length-append, length-set, length-take}
 use lib.Seq.{length-take-le, take-suc-set, getD-take}
 use Rattle.records.specs.Records.{records, table}
-use Rattle.records.proofs.RecordLaws.{length-records}
+use Rattle.records.proofs.Words.RecordLaws.{length-records}
 use Rattle.records.specs.Typed.{Tabled}
 use Rattle.limiter.specs.Steps.TickSteps.{flagged}
 use Rattle.limiter.specs.Steps.PassOneSteps.{stayingKeys, IdleDropped}
 use Rattle.limiter.proofs.Walking.FlagLaws.{flagged-more, flagged-all, flagged-few}
 use Rattle.limiter.proofs.PassOne.ListLaws.{flagged-many}
+use Rattle.gcra.specs.declared.Units.{Units}
 
 module _ (n : ℕ) (from bs : List Bool) where
   -- those of the first i whose flag is set
@@ -86,14 +87,14 @@ module _ (n : ℕ) (from bs : List Bool) where
           }
 
 -- the keys that stay and the flags copied
-pub dropped : (silent : Float) (now n : ℕ) (keys : List ℕ) (hots flags stays : List Bool) (r : ℕ) (keys′ : List ℕ) (to : List Bool) → n ≤ length flags
-    → take n stays ≡ stayingKeys silent now n keys hots
+pub dropped : (u : Units) (silent : Float) (now n : ℕ) (keys : List ℕ) (hots flags stays : List Bool) (r : ℕ) (keys′ : List ℕ) (to : List Bool) → n ≤ length flags
+    → take n stays ≡ stayingKeys u silent now n keys hots
     → take (length (flagged (take n stays) (take n flags))) to ≡ flagged (take n stays) (take n flags)
     → Tabled r (flagged stays (records 22 n keys)) keys keys′
-    → IdleDropped silent now n keys hots flags r keys′ to
-dropped silent now n keys hots flags stays r keys′ to f s c t =
+    → IdleDropped u silent now n keys hots flags r keys′ to
+dropped u silent now n keys hots flags stays r keys′ to f s c t =
     let rows : List (List ℕ) = records 22 n keys in
-    let e : flagged stays rows ≡ flagged (stayingKeys silent now n keys hots) rows =
+    let e : flagged stays rows ≡ flagged (stayingKeys u silent now n keys hots) rows =
     sym (flagged-all stays rows n (omega (arith, length-records 22 n keys))) ∙ ap (λ (bs : List Bool). flagged bs rows) s in
     let m : r ≡ length (flagged (take n stays) (take n flags)) =
     t .count ∙ ap length (e ∙ ap (λ (bs : List Bool). flagged bs rows) (sym s))

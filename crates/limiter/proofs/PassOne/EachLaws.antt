@@ -11,25 +11,24 @@ use lib.ListN.{length, take, drop, length-map, length-take}
 use lib.Seq.{take-at, length-take-le}
 use Rattle.float.specs.Magnitude.{magnitude}
 use Rattle.records.specs.Records.{records}
-use Rattle.records.proofs.RecordLaws.{fits-intro}
+use Rattle.records.proofs.Words.RecordLaws.{fits-intro}
 use Rattle.questions.proofs.Tests.{and-intro}
-use Rattle.gcra.specs.Packed.{unitNanos}
 use Rattle.questions.specs.Questions.{Question, passes}
 use Rattle.questions.proofs.Answers.{given-passed, changed-passed}
-use Rattle.demand.specs.declared.hot_set.HotEntry.{HotEntry}
-use Rattle.demand.specs.declared.hot_set.HotSet.{HotSet}
-use Rattle.demand.specs.declared.hot_set.EachAnswer.{EachAnswer}
-use Rattle.demand.specs.declared.hot_set.EachAnswer.the-variants as each-answer
-use Rattle.demand.specs.HotSet.Set.{Update, updatesOf, updateEach, entries}
-use Rattle.demand.proofs.HotSet.Theorems.{ready-valid}
-use Rattle.demand.specs.HotSet.Calls.{evictionMargin, room, rewrittenEach, updatesFit, askEach, lentUpdates, sized, eachAnswer, UpdatedEach}
+use Rattle.hot.specs.declared.hot_set.HotEntry.{HotEntry}
+use Rattle.hot.specs.declared.hot_set.HotSet.{HotSet}
+use Rattle.hot.specs.declared.hot_set.EachAnswer.{EachAnswer}
+use Rattle.hot.specs.declared.hot_set.EachAnswer.the-variants as each-answer
+use Rattle.hot.specs.HotSet.Set.{Update, updatesOf, updateEach, entries}
+use Rattle.hot.proofs.HotSet.Theorems.{ready-valid}
+use Rattle.hot.specs.HotSet.Calls.{evictionMargin, room, rewrittenEach, updatesFit, askEach, lentUpdates, sized, eachAnswer, UpdatedEach}
 use Rattle.demand.specs.Estimators.Estimator.{whole}
 use Rattle.questions.specs.Lists.{all}
 use Rattle.questions.proofs.ListLaws.{map-map}
 use Rattle.limiter.specs.declared.Limiter.{Limiter}
-use Rattle.limiter.specs.State.{KeyRecord, keyOf, validKey}
-use Rattle.limiter.specs.Steps.TickSteps.{keyRecord, keyRecords, HeldKeys}
-use Rattle.limiter.specs.Steps.PassOneSteps.{elsewhereIf, thresholdOf, Measured, updateOf, setOf, HeldHot, updatesFor, updatedFor, HotUpdated}
+use Rattle.limiter.specs.State.{KeyRecord, keyOf, validKey, unitsIn}
+use Rattle.limiter.specs.Steps.TickSteps.{keyRecords, LentKeys}
+use Rattle.limiter.specs.Steps.PassOneSteps.{elsewhereIf, thresholdOf, Measured, updateOf, setOf, LentHot, updatesFor, updatedFor, HotUpdated}
 use Rattle.limiter.proofs.States.KeyListLaws.{all-mapped}
 use Rattle.limiter.proofs.States.RecordValidLaws.{key-says}
 use Rattle.limiter.proofs.Checking.KeyRecordLaws.{never-refused}
@@ -78,15 +77,15 @@ answers-many margin s now [] es = refl
 answers-many margin s now (u ∷ us) es = ap suc (answers-many margin s now us _)
 
 module _ (silent : Float) (l : Limiter) (now n : ℕ) (keys hot : List ℕ) (elsewhere : List Bool)
-    (k : HeldKeys (l .keys) keys) (h : HeldHot l hot) (told : l .keys ≤ length elsewhere)
+    (k : LentKeys (unitsIn l) (l .keys) keys) (h : LentHot l hot) (told : l .keys ≤ length elsewhere)
     (size : Float) (z : size ≡ whole n) (demands thresholds : List Float) (flags : List Bool)
-    (w : Measured silent (l .keys) keys (l .config .alpha) size elsewhere demands thresholds flags)
+    (w : Measured (unitsIn l) silent (l .keys) keys (l .config .alpha) size elsewhere demands thresholds flags)
   where
     abbrev m : ℕ
     m = l .keys
 
     abbrev ks : List KeyRecord
-    ks = keyRecords m keys
+    ks = keyRecords (unitsIn l) m keys
 
     abbrev outs : List Bool
     outs = zipWith (elsewhereIf silent) ks (take m elsewhere)
@@ -96,8 +95,8 @@ module _ (silent : Float) (l : Limiter) (now n : ℕ) (keys hot : List ℕ) (els
     unfolding keyOf
     lent-are =
         let numbers : List ℕ = map (λ (x : KeyRecord). x .key) ks in
-        let many : length numbers ≡ m = length-map ks (λ (x : KeyRecord). x .key) ∙ keys-many m keys in
-        ap (λ (js : List ℕ). updatesOf js demands thresholds flags) (sym (map-map (λ (x : KeyRecord). x .key) keyRecord (records 22 m keys)))
+        let many : length numbers ≡ m = length-map ks (λ (x : KeyRecord). x .key) ∙ keys-many (unitsIn l) m keys in
+        ap (λ (js : List ℕ). updatesOf js demands thresholds flags) (sym (map-map (λ (x : KeyRecord). x .key) (keyOf (unitsIn l)) (records 22 m keys)))
         ∙ updates-taken numbers demands thresholds flags
         ∙ (λ i. updatesOf numbers (take (many i) demands) (take (many i) thresholds) (take (many i) flags))
         ∙ (λ i. updatesOf numbers (w .demand-rates i) (w .cold-rates i) (w .elsewhere-flags i))
@@ -106,7 +105,7 @@ module _ (silent : Float) (l : Limiter) (now n : ℕ) (keys hot : List ℕ) (els
 
     many-updates : length (updatesFor silent l n keys elsewhere) ≡ m
     many-updates =
-        let a = keys-many m keys in
+        let a = keys-many (unitsIn l) m keys in
         let b = zip-many (elsewhereIf silent) ks (take m elsewhere) (omega (arith, length-take-le m elsewhere told)) in
         zip-many (updateOf (l .config .alpha) n) ks outs (omega arith) ∙ a
 
@@ -114,19 +113,19 @@ module _ (silent : Float) (l : Limiter) (now n : ℕ) (keys hot : List ℕ) (els
     demands-good : all magnitude (take m demands) ≡ true
     demands-good =
         ap (all magnitude) (w .demand-rates)
-        ∙ all-mapped (λ (x : KeyRecord). x .demand .rate) (validKey unitNanos) magnitude ks (λ x v. key-says unitNanos x v .demand .finite)
+        ∙ all-mapped (λ (x : KeyRecord). x .demand .rate) (validKey (unitsIn l)) magnitude ks (λ x v. key-says (unitsIn l) x v .demand .finite)
         (k .valids)
 
     -- so many demands, thresholds and flags are lent
     long-demands : m ≤ length demands
-    long-demands = long-enough m demands (ap length (w .demand-rates) ∙ length-map ks (λ (x : KeyRecord). x .demand .rate) ∙ keys-many m keys)
+    long-demands = long-enough m demands (ap length (w .demand-rates) ∙ length-map ks (λ (x : KeyRecord). x .demand .rate) ∙ keys-many (unitsIn l) m keys)
 
     long-thresholds : m ≤ length thresholds
-    long-thresholds = long-enough m thresholds (ap length (w .cold-rates) ∙ length-map ks (thresholdOf (l .config .alpha) size) ∙ keys-many m keys)
+    long-thresholds = long-enough m thresholds (ap length (w .cold-rates) ∙ length-map ks (thresholdOf (l .config .alpha) size) ∙ keys-many (unitsIn l) m keys)
 
     long-flags : m ≤ length flags
     long-flags =
-        let a = keys-many m keys in
+        let a = keys-many (unitsIn l) m keys in
         long-enough m flags
         (ap length (w .elsewhere-flags) ∙ zip-many (elsewhereIf silent) ks (take m elsewhere) (omega (arith, length-take-le m elsewhere told)) ∙ a)
 
@@ -145,8 +144,10 @@ module _ (silent : Float) (l : Limiter) (now n : ℕ) (keys hot : List ℕ) (els
           (and-intro _ _ (ready-valid (setOf l) hot (h .size) (h .few) (h .held))
           (and-intro _ _ demands-good (and-intro _ _ (le-leb m (length out) roomy) refl))))
 
+      -- the promise of `update_each`, which has its own margin, for a margin that is the same
       module _ (r : EachAnswer) (hot′ : List ℕ) (out′ : List Bool)
           (u : UpdatedEach (setOf l) hot keys 22 m demands thresholds flags now out r hot′ out′)
+          (margin : Float) (same : evictionMargin ≡ margin)
         where
           -- the value of the answer, if it is given
           abbrev after : List Update → HotSet
@@ -156,25 +157,25 @@ module _ (silent : Float) (l : Limiter) (now n : ℕ) (keys hot : List ℕ) (els
           each-never i e =
               never-refused questions i (after (lentUpdates keys 22 m demands thresholds flags)) asked (u .answered) (sym (ap eachAnswer e))
 
-          pub each-done : (set : HotSet) → r ≡ each-answer.Is set → HotUpdated silent l now n keys hot elsewhere (set .len) hot′ flags out′
+          pub each-done : (set : HotSet) → r ≡ each-answer.Is set → HotUpdated margin silent l now n keys hot elsewhere (set .len) hot′ flags out′
           each-done set e =
               let us = lent-are in
-              let hots : List Bool = updatedFor silent l now n keys hot elsewhere .hot in
+              let hots : List Bool = updatedFor margin silent l now n keys hot elsewhere .hot in
               let given-set : set ≡ after (lentUpdates keys 22 m demands thresholds flags) =
               given-passed questions set (after (lentUpdates keys 22 m demands thresholds flags)) (sym (ap eachAnswer e) ∙ u .answered) .1 in
               let written : out′ ≡ hots ++ drop m out =
               u .output
               ∙ sym (changed-passed _ out questions asked)
-              ∙ ap (λ (zs : List Update). updateEach evictionMargin (setOf l) now zs (entries (l .hot) hot) .hot ++ drop m out) us in
+              ∙ (λ i. updateEach (same i) (setOf l) now (us i) (entries (l .hot) hot) .hot ++ drop m out) in
               record {
                 elsewhere-flags = w .elsewhere-flags;
                 hot-flags =
                     ap (take m) written
                     ∙ take-at hots (drop m out) m
-                    (answers-many evictionMargin (setOf l) now (updatesFor silent l n keys elsewhere) (entries (l .hot) hot) ∙ many-updates);
-                count = ap (λ (x : HotSet). x .len) given-set ∙ ap (λ (zs : List Update). after zs .len) us;
+                    (answers-many margin (setOf l) now (updatesFor silent l n keys elsewhere) (entries (l .hot) hot) ∙ many-updates);
+                count = ap (λ (x : HotSet). x .len) given-set ∙ (λ i. length (updateEach (same i) (setOf l) now (us i) (entries (l .hot) hot) .left));
                 words =
                     u .left
                     ∙ sym (changed-passed _ hot questions asked)
-                    ∙ ap (λ (zs : List Update). rewrittenEach evictionMargin (setOf l) now zs (entries (l .hot) hot) hot) us;
+                    ∙ (λ i. rewrittenEach (same i) (setOf l) now (us i) (entries (l .hot) hot) hot);
               }

@@ -10,46 +10,48 @@ use lib.Ieee.{Float}
 use lib.ListN.{length, take, drop, getD, length-map, List·getD-map}
 use lib.Seq.{getD-drop}
 use Rattle.records.specs.Records.{records}
-use Rattle.records.proofs.RecordLaws.{length-records, record-at}
+use Rattle.records.proofs.Words.RecordLaws.{length-records, record-at}
 use Rattle.gcra.specs.declared.Gcra.{Gcra}
 use Rattle.gcra.specs.declared.DebtAnswer.{DebtAnswer}
 use Rattle.gcra.specs.declared.DebtAnswer.the-variants as debt-answer
-use Rattle.gcra.specs.Packed.{unitNanos, validQuota}
+use Rattle.gcra.specs.Packed.{validQuota}
 use Rattle.gcra.specs.Meter.{hasDebt}
 use Rattle.questions.specs.Questions.{refused, given}
 use Rattle.gcra.specs.Calls as calls
+use Rattle.gcra.specs.declared.Units.{Units}
 use Rattle.questions.proofs.Answers.{alone-yes, given-passed}
-use Rattle.records.proofs.RowLaws.{word-at}
+use Rattle.records.proofs.Words.RowLaws.{word-at}
 use Rattle.limiter.specs.State.{KeyRecord, floatOf, keyOf, gcraOf}
-use Rattle.limiter.specs.Steps.TickSteps.{keyRecord, keyRecords, HeldKeys, HeldKey}
+use Rattle.limiter.specs.Steps.TickSteps.{keyRecords, LentKeys, LentKey}
 use Rattle.limiter.specs.Steps.PassOneSteps.{isDemand, staysIf}
+use Rattle.limiter.specs.Steps.KeySteps.{units}
 use Rattle.limiter.proofs.States.RecordValidLaws.{key-says}
-use Rattle.limiter.proofs.Walking.FoldLaws.{held-row}
+use Rattle.limiter.proofs.Walking.FoldLaws.{lent-row}
 
 -- ---- key i of a table
-module _ (n : ℕ) (xs : List ℕ) where
-  pub keys-many : length (keyRecords n xs) ≡ n
-  keys-many = length-map (records 22 n xs) keyRecord ∙ length-records 22 n xs
+module _ (u : Units) (n : ℕ) (xs : List ℕ) where
+  pub keys-many : length (keyRecords u n xs) ≡ n
+  keys-many = length-map (records 22 n xs) (keyOf u) ∙ length-records 22 n xs
 
   module _ (i : ℕ) (h : i < n) where
     abbrev pub keyAt : KeyRecord
-    keyAt = getD (keyRecords n xs) i (keyRecord [])
+    keyAt = getD (keyRecords u n xs) i (keyOf u [])
 
     abbrev row : List ℕ
     row = getD (records 22 n xs) i []
 
-    pub key-at : keyAt ≡ keyRecord row
-    key-at = List·getD-map keyRecord (records 22 n xs) i []
+    pub key-at : keyAt ≡ keyOf u row
+    key-at = List·getD-map (keyOf u) (records 22 n xs) i []
 
     -- where it is lent
-    lent-row : take (i * 22 + 22 - i * 22) (drop (i * 22) xs) ≡ row
-    lent-row = let z : i * 22 + 22 - i * 22 ≡ 22 = omega arith in ap (λ (k : ℕ). take k (drop (i * 22) xs)) z ∙ sym (record-at 22 n xs i h)
+    part-is-row : take (i * 22 + 22 - i * 22) (drop (i * 22) xs) ≡ row
+    part-is-row = let z : i * 22 + 22 - i * 22 ≡ 22 = omega arith in ap (λ (k : ℕ). take k (drop (i * 22) xs)) z ∙ sym (record-at 22 n xs i h)
 
-    pub lent-is : keyRecord (take (i * 22 + 22 - i * 22) (drop (i * 22) xs)) ≡ keyAt
-    lent-is = ap keyRecord lent-row ∙ sym key-at
+    pub lent-is : keyOf u (take (i * 22 + 22 - i * 22) (drop (i * 22) xs)) ≡ keyAt
+    lent-is = ap (keyOf u) part-is-row ∙ sym key-at
 
-    pub lent-held : HeldKeys n xs → HeldKey (take (i * 22 + 22 - i * 22) (drop (i * 22) xs))
-    lent-held k = subst (λ (r : List ℕ). HeldKey r) (sym lent-row) (held-row n xs i k h)
+    pub lent-again : LentKeys u n xs → LentKey u (take (i * 22 + 22 - i * 22) (drop (i * 22) xs))
+    lent-again k = subst (λ (r : List ℕ). LentKey u r) (sym part-is-row) (lent-row u n xs i k h)
 
     -- its rate of demand
     pub rate-at : floatOf (getD xs (i * 22 + 3) 0) ≡ keyAt .demand .rate
@@ -72,7 +74,7 @@ unfolding calls.gcraHasDebt
 debt-given g now r b e q = given-passed (calls.askQuota (g .quota)) b (hasDebt g now) (ap calls.debtAnswer (sym q) ∙ e) .1
 
 pub debt-never : (g : Gcra) (now : ℕ) (r : DebtAnswer) (n : ℕ) → calls.debtAnswer r ≡ calls.gcraHasDebt g now → r ≡ debt-answer.No n
-    → validQuota unitNanos (g .quota) ≡ true → ⊥
+    → validQuota units (g .quota) ≡ true → ⊥
 unfolding calls.gcraHasDebt
 debt-never g now r n e q v =
     let a : refused n ≡ calls.gcraHasDebt g now = ap calls.debtAnswer (sym q) ∙ e in
@@ -91,9 +93,9 @@ stays-by false true c = refl
 stays-by false false true = refl
 stays-by false false false = refl
 
-module _ (silent : Float) (r : List ℕ) (now : ℕ) where
+module _ (u : Units) (silent : Float) (r : List ℕ) (now : ℕ) where
   abbrev key : KeyRecord
-  key = keyRecord r
+  key = keyOf u r
 
   rate-word : key .demand .rate ≡ floatOf (getD r 3 0)
   unfolding keyOf
@@ -123,11 +125,11 @@ module _ (silent : Float) (r : List ℕ) (now : ℕ) where
     pub stays-pending : 0 < getD r 4 0 → true ≡ staysIf silent now key hot
     stays-pending h = sym (below-it ∙ ap (λ (b : Bool). b || hasDebt (key .gcra) now) (lt-ltb 0 (getD r 4 0) h))
 
-    pub stays-debt : getD r 4 0 ≡ 0 → (b : Bool) → b ≡ hasDebt (gcraOf unitNanos (drop 19 r)) now → b ≡ staysIf silent now key hot
+    pub stays-debt : getD r 4 0 ≡ 0 → (b : Bool) → b ≡ hasDebt (gcraOf u (drop 19 r)) now → b ≡ staysIf silent now key hot
     unfolding keyOf
     stays-debt h b p = p ∙ sym (below-it ∙ ap (λ (c : Bool). c || hasDebt (key .gcra) now) (ap (ltb 0) h))
 
 -- its quota is valid
-pub quota-valid : (r : List ℕ) → HeldKey r → validQuota unitNanos (gcraOf unitNanos (drop 19 r) .quota) ≡ true
+pub quota-valid : (u : Units) (r : List ℕ) → LentKey u r → validQuota u (gcraOf u (drop 19 r) .quota) ≡ true
 unfolding keyOf
-quota-valid r h = key-says unitNanos (keyRecord r) (h .valid) .gcra .quota
+quota-valid u r h = key-says u (keyOf u r) (h .valid) .gcra .quota

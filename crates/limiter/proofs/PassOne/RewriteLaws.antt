@@ -7,18 +7,18 @@ use native.Mathlib.Omega.{arith}
 use lib.Ieee.{Float}
 use lib.ListN.{length, drop}
 use Rattle.records.specs.Records.{records, table}
-use Rattle.demand.specs.declared.hot_set.HotEntry.{HotEntry}
-use Rattle.demand.specs.declared.hot_set.HotSet.{HotSet}
-use Rattle.demand.specs.HotSet.Set.{Outcome, Update, updateBy, updateEach, words, entry, entries, validEntry}
-use Rattle.demand.specs.HotSet.Calls.{rewrittenEach}
+use Rattle.hot.specs.declared.hot_set.HotEntry.{HotEntry}
+use Rattle.hot.specs.declared.hot_set.HotSet.{HotSet}
+use Rattle.hot.specs.HotSet.Set.{Outcome, Update, updateBy, updateEach, words, entry, entries, validEntry}
+use Rattle.hot.specs.HotSet.Calls.{rewrittenEach}
 use Rattle.questions.specs.Lists.{all}
-use Rattle.demand.specs.HotSet.Steps.{EntriesReady}
-use Rattle.demand.proofs.HotSet.Kept.{ready-table}
-use Rattle.demand.proofs.HotSet.Map.{Asc, asc-entries, table-same}
-use Rattle.demand.proofs.HotSet.Theorems.{Kept, kept-update}
-use Rattle.demand.proofs.HotSet.ValidLaws.{entry-back}
-use Rattle.demand.proofs.HotSet.Words.{length-words}
-use Rattle.records.proofs.TypedLaws.{all-back, records-written, written-again, past-written, length-written}
+use Rattle.hot.specs.HotSet.Steps.{EntriesReady}
+use Rattle.hot.proofs.HotSet.Map.{Asc}
+use Rattle.hot.proofs.HotSet.Table.{ready-table, asc-entries, table-same}
+use Rattle.hot.proofs.HotSet.Theorems.{Kept, kept-update}
+use Rattle.hot.proofs.HotSet.ValidLaws.{entry-back}
+use Rattle.hot.proofs.HotSet.Words.{length-words}
+use Rattle.records.proofs.Tables.TypedLaws.{all-back, records-written, written-again, past-written, length-written}
 
 -- entries as a hot set of a size holds them stand at the front of words that were xs; past the size they are as they were
 pub record Wrote (size : ℕ) (xs : List ℕ) (es : List HotEntry) (ys : List ℕ) : Type 0 where
@@ -65,10 +65,10 @@ module _ (margin : Float) (s : HotSet) (now : ℕ) (xs : List ℕ) (room : 6 * s
       wrote-each us (o .left) (table (map words (o .left)) ys) (wrote-again es (o .left) ys w (k .ascends) (k .bound))
 
 -- what is held then
-pub wrote-held : (size n : ℕ) (xs : List ℕ) (es : List HotEntry) (ys : List ℕ) → 6 * size ≤ length xs → n ≡ length es → Wrote size xs es ys
+pub wrote-lent : (size n : ℕ) (xs : List ℕ) (es : List HotEntry) (ys : List ℕ) → 6 * size ≤ length xs → n ≡ length es → Wrote size xs es ys
     → all validEntry es ≡ true
     → EntriesReady n ys
-wrote-held size n xs es ys room e w v =
+wrote-lent size n xs es ys room e w v =
     (rw (e, w .front) (ready-table es ys (w .ascends) v (omega (arith, w .few, w .long))))
 
 pub wrote-read : (size n : ℕ) (xs : List ℕ) (es : List HotEntry) (ys : List ℕ) → n ≡ length es → Wrote size xs es ys → all validEntry es ≡ true

@@ -8,23 +8,22 @@ use borrow.Author.Tests.{le-leb}
 use lib.Dec.{leb}
 use lib.ListN.{length, length-map}
 use Rattle.records.specs.Records.{records}
-use Rattle.records.proofs.RecordLaws.{length-records}
+use Rattle.records.proofs.Words.RecordLaws.{length-records}
 use Rattle.questions.proofs.Tests.{both, and-intro}
-use Rattle.gcra.specs.Packed.{unitNanos}
-use Rattle.demand.specs.HotSet.Set.{entry, entries, validSize}
+use Rattle.hot.specs.HotSet.Set.{entry, entries, validSize}
 use Rattle.limiter.specs.declared.Limiter.{Limiter}
-use Rattle.limiter.specs.State.{LimiterTables, lengths, haveRoom, stateOf, areExact, isValid}
-use Rattle.limiter.specs.Steps.PassOneSteps.{HeldHot, Passable}
+use Rattle.limiter.specs.State.{LimiterTables, lengths, haveRoom, stateOf, areExact, isValid, unitsIn}
+use Rattle.limiter.specs.Steps.PassOneSteps.{LentHot, Passable}
 use Rattle.limiter.proofs.States.StateValidLaws.{sizes-say, ValidState, valid-says}
 use Rattle.limiter.proofs.States.WrittenLaws.{room-says}
-use Rattle.limiter.proofs.Checking.ReadyLaws.{few-keys, held-keys, held-hot}
+use Rattle.limiter.proofs.Checking.ReadyLaws.{few-keys, lent-keys, lent-hot}
 
-module _ (l : Limiter) (t : LimiterTables) (room : haveRoom (l .config) (lengths t) ≡ true) (e : isValid unitNanos l t ≡ true) where
-  now-valid : ValidState unitNanos (stateOf unitNanos l t)
+module _ (l : Limiter) (t : LimiterTables) (room : haveRoom (l .config) (lengths t) ≡ true) (e : isValid (unitsIn l) l t ≡ true) where
+  now-valid : ValidState (unitsIn l) (stateOf (unitsIn l) l t)
   unfolding isValid
-  now-valid = valid-says unitNanos (stateOf unitNanos l t) (both (areExact unitNanos l t) _ e .1)
+  now-valid = valid-says (unitsIn l) (stateOf (unitsIn l) l t) (both (areExact (unitsIn l) l t) _ e .1)
 
-  hot-ready : HeldHot l (t .hot)
+  hot-ready : LentHot l (t .hot)
   unfolding stateOf entries validSize
   hot-ready =
       let v = now-valid in
@@ -36,8 +35,8 @@ module _ (l : Limiter) (t : LimiterTables) (room : haveRoom (l .config) (lengths
             (le-leb (l .config .«hot_set_size») 64 (z .most-hot));
         fit = room-says (l .config) (lengths t) room .for-hot;
         few = omega (arith, many, v .hot-few);
-        held = held-hot l t room e;
+        held = lent-hot l t room e;
       }
 
   pub pass-ready : (elsewhere : List Bool) → l .keys ≤ length elsewhere → Passable l (t .keys) (t .hot) elsewhere
-  pass-ready elsewhere h = record { few = few-keys l t room e .0; keys-held = held-keys l t room e; hot-held = hot-ready; flags-fit = h }
+  pass-ready elsewhere h = record { few = few-keys l t room e .0; keys-lent = lent-keys l t room e; hot-lent = hot-ready; flags-fit = h }

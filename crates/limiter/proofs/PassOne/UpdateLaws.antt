@@ -1,12 +1,10 @@
 -- Laws: the hot set's updates of all keys are those of pass one.
-use mathlib.Core.Path.{_≡_, refl, sym, ap, _∙_}
+use mathlib.Core.Path.{_≡_, refl, ap, _∙_}
 use mathlib.Core.Bool.{Bool}
 use mathlib.Core.List.{List, [], _∷_, map, zipWith}
 use Prim.Native.Nat.{ℕ}
-use lib.Ieee.{Float}
-use Rattle.demand.specs.declared.hot_set.HotEntry.{HotEntry}
-use Rattle.demand.specs.HotSet.Set.{Outcome, updateWith, Update, Outcomes, updateBy, updateEach}
-use Rattle.demand.specs.HotSet.Calls.{evictionMargin}
+use Rattle.hot.specs.declared.hot_set.HotEntry.{HotEntry}
+use Rattle.hot.specs.HotSet.Set.{Outcome, updateWith, Update, Outcomes, updateBy, updateEach}
 use Rattle.limiter.specs.declared.Limiter.{Limiter}
 use Rattle.limiter.specs.declared.Parameters.{Parameters}
 use Rattle.limiter.specs.State.{KeyRecord, settingsOf}
@@ -14,22 +12,21 @@ use Rattle.limiter.specs.Ticks.{Others, isElsewhere, updated}
 use Rattle.limiter.specs.Steps.TickSteps.{stayFlags, hotAfter}
 use Rattle.limiter.specs.Steps.PassOneSteps.{updateOf, setOf, staysIf}
 
--- under parameters with the eviction margin that `update_each` has
-module _ (par : Parameters) (margin : par .«eviction_margin» ≡ evictionMargin) (l : Limiter) (o : Others) (now n : ℕ) where
+module _ (par : Parameters) (l : Limiter) (o : Others) (now n : ℕ) where
   -- a key's update
   abbrev pub updateFor : KeyRecord → Update
   updateFor k = updateOf (l .config .alpha) n k (isElsewhere par (settingsOf l) o now n k)
 
   abbrev each : List KeyRecord → List HotEntry → Outcomes
-  each ks es = updateEach evictionMargin (setOf l) now (map updateFor ks) es
+  each ks es = updateEach (par .«eviction_margin») (setOf l) now (map updateFor ks) es
 
   abbrev next : KeyRecord → List HotEntry → Outcome
   next k es = updated par (settingsOf l) o now n k es
 
   -- how many entries there are before it does not count
-  update-is : (k : KeyRecord) (es : List HotEntry) → updateBy evictionMargin (setOf l) now (updateFor k) es ≡ next k es
+  update-is : (k : KeyRecord) (es : List HotEntry) → updateBy (par .«eviction_margin») (setOf l) now (updateFor k) es ≡ next k es
   unfolding updateWith
-  update-is k es = ap (λ (m : Float). updateBy m (setOf l) now (updateFor k) es) (sym margin)
+  update-is k es = refl
 
   pub each-left : (ks : List KeyRecord) (es : List HotEntry) → each ks es .left ≡ hotAfter par (settingsOf l) o now n ks es
   unfolding updateEach hotAfter

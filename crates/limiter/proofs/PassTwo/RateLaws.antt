@@ -2,40 +2,41 @@
 use mathlib.Core.Path.{_≡_, refl, sym, ap, _∙_}
 use mathlib.Core.Bool.{Bool, true, false, cond}
 use mathlib.Core.List.{List, [], _∷_, map}
-use Prim.Native.Nat.{ℕ, _≤_, _<_}
+use Prim.Native.Nat.{ℕ, zero, suc, _*_, _≤_, _<_, zero-le, suc-le-suc}
 use native.Mathlib.Nat.{le-of-suc-le-suc, not-suc-le-zero}
 use native.Mathlib.Omega.{arith}
-use borrow.Author.Tests.{ltb-true, eqb-true}
-use lib.Dec.{ltb, eqb}
+use borrow.Author.Tests.{eqb-true, eq-eqb, ne-eqb}
+use lib.Dec.{eqb}
 use lib.Ieee.{Float, binary64, mul, div}
 use lib.ListN.{length, take, drop, getD}
 use lib.Seq.{getD-drop}
 use Rattle.float.specs.Order.{minimumNumber}
-use Rattle.records.specs.declared.Found.the-variants.{At, Gap, Unfit}
+use Rattle.records.specs.declared.Found.the-variants.{At, Gap}
 use Rattle.records.specs.Records.{findIn}
 use Rattle.questions.proofs.Tests.{contradiction, split, and-intro}
+use Rattle.questions.specs.Lists.{only, present, those}
 use Rattle.questions.specs.Questions.{_asks_, refused, given, passes}
 use Rattle.questions.proofs.Answers.{answer-passed, given-passed}
-use Rattle.gcra.specs.Packed.{unitNanos}
 use Rattle.demand.specs.declared.allocation.View.{View}
 use Rattle.demand.specs.declared.allocation.ShareAnswer.{ShareAnswer}
 use Rattle.demand.specs.declared.allocation.ShareAnswer.the-variants as share-answer
-use Rattle.demand.specs.declared.hot_set.HotEntry.{HotEntry}
+use Rattle.hot.specs.declared.hot_set.HotEntry.{HotEntry}
 use Rattle.demand.specs.Allocation.{isRate, isFloorFactor, isClusterSize, shared, shareAnswer, share}
 use Rattle.demand.specs.Estimators.Estimator.{whole}
-use Rattle.demand.specs.HotSet.Set.{entry, entries, get, isHot, there}
-use Rattle.demand.specs.Peers.State.{PeersState}
-use Rattle.demand.specs.Peers.Readers.{total}
-use Rattle.demand.specs.HotSet.Steps.{EntriesReady}
-use Rattle.demand.proofs.HotSet.Words.{length-entries}
-use Rattle.demand.proofs.HotSet.Map.{place, hit, hit-get, hit-place, at-says, got-gap, never-unfit}
+use Rattle.hot.specs.HotSet.Set.{entry, entries, get, isHot}
+use Rattle.peers.specs.Peers.State.{PeersState}
+use Rattle.peers.specs.Peers.Readers.{total}
+use Rattle.hot.specs.HotSet.Steps.{EntriesReady}
+use Rattle.hot.proofs.HotSet.Words.{length-entries}
+use Rattle.hot.proofs.HotSet.Map.{get-key}
+use Rattle.hot.proofs.HotSet.Table.{nth, nth-is, key-rises, asc-entries, at-within, got-at, got-gap}
 use Rattle.limiter.specs.declared.Limiter.{Limiter}
 use Rattle.limiter.specs.declared.Parameters.{Parameters}
 use Rattle.limiter.specs.declared.pass_two.RateTerms.{RateTerms}
-use Rattle.limiter.specs.State.{KeyRecord, floatOf, settingsOf, keyOf}
+use Rattle.limiter.specs.State.{KeyRecord, floatOf, settingsOf, keyOf, unitsIn}
 use Rattle.limiter.specs.Ticks.{Others, noOthers, peersOthers, isElsewhere, rateOf, passTwo}
-use Rattle.limiter.specs.Steps.TickSteps.{keyRecord}
 use Rattle.limiter.specs.Steps.PassTwoSteps.{termsOf, shareBy, totalAt, hotRate, coldRate, rateBy, withRate, requoted}
+use Rattle.gcra.specs.declared.Units.{Units}
 
 -- ---- the share
 
@@ -100,44 +101,36 @@ module _ (p : RateTerms) (limit : Float) (elsewhere : Bool) (n x : Float) (e : n
 
 -- ---- the total of a hot key
 
--- it stands at the place of the key's entry
+-- it stands at the place of the key's entry, the first that has it
 total-place :
-    (d : Float) (key : ℕ) (es : List HotEntry) (ts : List Float) → hit key es ≡ true → length es ≤ length ts
-    → totalAt key es ts ≡ getD ts (place key es) d
-unfolding totalAt hit place
-total-place d key [] ts h l = contradiction (sym h)
-total-place d key (e ∷ es) [] h l = absurd (not-suc-le-zero l)
-total-place d key (e ∷ es) (t ∷ ts) h l = split (ltb (e .key) key)
-    (λ b.
-    let n : eqb (e .key) key ≡ false =
-    split (eqb (e .key) key) (λ q. absurd (omega (arith, ltb-true (e .key) key b, eqb-true (e .key) key q))) (λ q. q) in
-    rw (n, b) (total-place d key es ts (rw b at h) (le-of-suc-le-suc l)))
-    (λ b. let y : eqb (e .key) key ≡ true = rw b at h in rw (y, b))
+    (d : Float) (key : ℕ) (es : List HotEntry) (ts : List Float) (i : ℕ) → i < length es → length es ≤ length ts → nth es i .key ≡ key
+    → ((j : ℕ) → j < i → nth es j .key < key) → totalAt key es ts ≡ getD ts i d
+unfolding totalAt
+total-place d key [] ts i h l e b = absurd (not-suc-le-zero h)
+total-place d key (x ∷ es) [] i h l e b = absurd (not-suc-le-zero l)
+total-place d key (x ∷ es) (t ∷ ts) zero h l e b = rw (eq-eqb (x .key) key e)
+total-place d key (x ∷ es) (t ∷ ts) (suc i) h l e b =
+    rw (ne-eqb (x .key) key (λ q. omega (arith, b 0 (suc-le-suc zero-le))))
+    (total-place d key es ts i (le-of-suc-le-suc h) (le-of-suc-le-suc l) e (λ j m. b (suc j) (suc-le-suc m)))
 
 -- of totals that are the peers'
 pub total-is :
     (p : PeersState) (key : ℕ) (es : List HotEntry) (ts : List Float) → take (length es) ts ≡ map (λ (e : HotEntry). total (e .key) p) es
     → isHot key es ≡ true → totalAt key es ts ≡ total key p
-unfolding totalAt get
+unfolding totalAt get those only
 total-is p key [] ts e h = contradiction (sym h)
 total-is p key (x ∷ es) [] e h = absurd (let z : _≡_ {A = ℕ} 0 1 = cc in omega arith)
 total-is p key (x ∷ es) (t ∷ ts) e h = split (eqb (x .key) key)
     (λ q. rw q (ap (λ (l : List Float). getD l 0 (whole 0)) e ∙ ap (λ (k : ℕ). total k p) (eqb-true (x .key) key q)))
     (λ q. rw q (total-is p key es ts (ap (λ (l : List Float). drop 1 l) e) (rw q at h)))
 
--- a key is found at one of the entries
-pub found-within : (h : ℕ) (hot : List ℕ) → EntriesReady h hot → (key i : ℕ) → At i ≡ findIn 6 1 h key 0 hot → i < h
-found-within h hot k key i e =
-    let s = at-says h hot k key i (sym e) in
-    omega (arith, hit-place key (entries h hot) (s .0), s .1, length-entries h hot)
-
 -- ---- the key in a record's words
-module _ (p : RateTerms) (r : List ℕ) (h : ℕ) (hot : List ℕ) (k : EntriesReady h hot) (ts : List Float) (elsewhere : Bool) where
+module _ (u : Units) (p : RateTerms) (r : List ℕ) (h : ℕ) (hot : List ℕ) (k : EntriesReady h hot) (ts : List Float) (elsewhere : Bool) where
   abbrev es : List HotEntry
   es = entries h hot
 
   rate-by :
-      rateBy p es ts elsewhere (keyRecord r) ≡ cond (isHot (getD r 0 0) es)
+      rateBy p es ts elsewhere (keyOf u r) ≡ cond (isHot (getD r 0 0) es)
       (hotRate p (floatOf (getD r 1 0)) (floatOf (getD r 3 0)) (totalAt (getD r 0 0) es ts)) (coldRate p elsewhere (floatOf (getD r 1 0)))
   unfolding rateBy keyOf
   rate-by =
@@ -148,11 +141,14 @@ module _ (p : RateTerms) (r : List ℕ) (h : ℕ) (hot : List ℕ) (k : EntriesR
   pub rate-found :
       (d : Float) (i : ℕ) (limit own x : Float) → length es ≤ length ts → At i ≡ findIn 6 1 h (getD r 0 0) 0 hot → limit ≡ floatOf (getD r 1 0)
       → own ≡ floatOf (getD r 3 0)
-      → x ≡ hotRate p limit own (getD ts i d) → x ≡ rateBy p es ts elsewhere (keyRecord r)
+      → x ≡ hotRate p limit own (getD ts i d) → x ≡ rateBy p es ts elsewhere (keyOf u r)
   rate-found d i limit own x l e a b q =
-      let s = at-says h hot k (getD r 0 0) i (sym e) in
-      let y : isHot (getD r 0 0) es ≡ true = ap there (hit-get (getD r 0 0) es (entry []) (s .0)) in
-      let t : totalAt (getD r 0 0) es ts ≡ getD ts i d = total-place d (getD r 0 0) es ts (s .0) l ∙ ap (λ (j : ℕ). getD ts j d) (s .1) in
+      let key = getD r 0 0 in
+      let g = sym (got-at h hot k key i e) in
+      let y : isHot key es ≡ true = ap present g in
+      let w : i < length es = omega (arith, at-within h hot k key i e, length-entries h hot) in
+      let here : nth es i .key ≡ key = ap (λ (x : HotEntry). x .key) (nth-is h hot i (at-within h hot k key i e .0)) ∙ get-key key es (entry (drop (i * 6) hot)) g in
+      let t : totalAt key es ts ≡ getD ts i d = total-place d key es ts i w l here (λ j m. omega (arith, here, key-rises es (asc-entries h hot k) j i m w)) in
       q
       ∙ (λ m. hotRate p (a m) (b m) (sym t m))
       ∙ sym (rate-by ∙ ap (λ (c : Bool). cond c (hotRate p (floatOf (getD r 1 0)) (floatOf (getD r 3 0)) (totalAt (getD r 0 0) es ts))
@@ -161,17 +157,13 @@ module _ (p : RateTerms) (r : List ℕ) (h : ℕ) (hot : List ℕ) (k : EntriesR
   -- one that is not is cold
   pub rate-absent :
       (i : ℕ) (limit x : Float) → Gap i ≡ findIn 6 1 h (getD r 0 0) 0 hot → limit ≡ floatOf (getD r 1 0) → x ≡ coldRate p elsewhere limit
-      → x ≡ rateBy p es ts elsewhere (keyRecord r)
+      → x ≡ rateBy p es ts elsewhere (keyOf u r)
   rate-absent i limit x e a q =
-      let y : isHot (getD r 0 0) es ≡ false = sym (ap there (got-gap h hot k (getD r 0 0) i (sym e))) in
+      let y : isHot (getD r 0 0) es ≡ false = sym (ap present (got-gap h hot k (getD r 0 0) i e)) in
       q
       ∙ ap (coldRate p elsewhere) a
       ∙ sym (rate-by ∙ ap (λ (c : Bool). cond c (hotRate p (floatOf (getD r 1 0)) (floatOf (getD r 3 0)) (totalAt (getD r 0 0) es ts))
       (coldRate p elsewhere (floatOf (getD r 1 0)))) y)
-
-  -- hot entries are never unfit for a search
-  pub rate-fit : Unfit ≡ findIn 6 1 h (getD r 0 0) 0 hot → ⊥
-  rate-fit e = never-unfit h hot k (getD r 0 0) (sym e)
 
 -- ---- the rates that a tick gives
 module _ (par : Parameters) (l : Limiter) (even : Bool) (o : Others) (now n : ℕ) (es : List HotEntry) (ts : List Float)
@@ -189,14 +181,14 @@ module _ (par : Parameters) (l : Limiter) (even : Bool) (o : Others) (now n : �
   -- so that the keys have the quotas of pass two
   pub requoted-is :
       (bs : List Bool) (ks : List KeyRecord) → take (length ks) bs ≡ map elsewhere ks
-      → requoted (termsOf l even n) es ts now bs ks ≡ passTwo par (settingsOf l) o now n unitNanos es ks
+      → requoted (unitsIn l) (termsOf l even n) es ts now bs ks ≡ passTwo par (settingsOf l) o now n (unitsIn l) es ks
   unfolding requoted
   requoted-is [] [] e = refl
   requoted-is [] (k ∷ ks) e = absurd (let z : _≡_ {A = ℕ} 0 1 = cc in omega arith)
   requoted-is (b ∷ bs) [] e = refl
   requoted-is (b ∷ bs) (k ∷ ks) e =
       let q : b ≡ elsewhere k = ap (λ (l : List Bool). getD l 0 false) e in
-      (λ i. withRate (rate-is k b q i) now k ∷ requoted-is bs ks (ap (λ (l : List Bool). drop 1 l) e) i)
+      (λ i. withRate (unitsIn l) (rate-is k b q i) now k ∷ requoted-is bs ks (ap (λ (l : List Bool). drop 1 l) e) i)
 
 -- a plain tick shares evenly
 pub even-share :

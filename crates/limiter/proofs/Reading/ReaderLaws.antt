@@ -11,10 +11,10 @@ use lib.Ieee.{Float, eq, isNan}
 use Rattle.questions.proofs.Tests.{contradiction, both, and-intro}
 use Rattle.questions.specs.Questions.{given, answer, passes, firstNo}
 use Rattle.questions.proofs.Answers.{answer-passed}
-use Rattle.demand.specs.declared.hot_set.HotSet.{HotSet}
-use Rattle.demand.specs.HotSet.Set as hot-set
-use Rattle.demand.specs.HotSet.Calls.{askSet}
-use Rattle.demand.proofs.HotSet.Theorems.{ready-valid}
+use Rattle.hot.specs.declared.hot_set.HotSet.{HotSet}
+use Rattle.hot.specs.HotSet.Set as hot-set
+use Rattle.hot.specs.HotSet.Calls.{askSet}
+use Rattle.hot.proofs.HotSet.Theorems.{ready-valid}
 use Rattle.questions.specs.Lists.{all, first, those}
 use Rattle.questions.proofs.OnlyLaws.{all-only}
 use Rattle.limiter.specs.declared.Cap.{Cap}
@@ -22,18 +22,18 @@ use Rattle.limiter.specs.declared.Limiter.{Limiter}
 use Rattle.limiter.specs.declared.key_record.KeyState.{KeyState}
 use Rattle.limiter.specs.declared.readers.TrackedKey.{TrackedKey}
 use Rattle.limiter.specs.declared.readers.TrackedKey.the-variants as tracked-key
-use Rattle.limiter.specs.State.{KeyRecord, LimiterTables, lengths, isF64, capOf, capFrom, keyWith, stateOf, validKey, valueOf}
+use Rattle.limiter.specs.State.{KeyRecord, LimiterTables, lengths, isF64, capOf, capFrom, keyWith, stateOf, validKey, valueOf, unitsIn}
 use Rattle.limiter.specs.Checks.{storedCap, setCap}
 use Rattle.limiter.specs.Readers.{ofKey, told}
 use Rattle.limiter.specs.Calls.{here, stateQuestions}
-use Rattle.limiter.specs.Steps.KeySteps.{units, keyRecord}
+use Rattle.limiter.specs.Steps.KeySteps.{keyRecord}
 use Rattle.limiter.specs.Steps.CheckSteps.{Ready, keysIn}
 use Rattle.limiter.specs.Steps.ReaderSteps.{withCap, keyFound}
 use Rattle.limiter.proofs.States.StateValidLaws.{sizes-say}
 use Rattle.limiter.proofs.States.WrittenLaws.{room-says}
 use Rattle.limiter.proofs.Validity.SettingsLaws.{not-nan}
 use Rattle.limiter.proofs.Checking.LiftLaws.{Passed, passed, facts, cap-forth, tick-forth, keys-counted, hot-counted, shadows-counted}
-use Rattle.limiter.proofs.Checking.ReadyLaws.{held-hot}
+use Rattle.limiter.proofs.Checking.ReadyLaws.{lent-hot}
 
 -- ---- a cap
 
@@ -68,10 +68,10 @@ all-first p [] x a e = let z : _≡_ {A = ℕ} 0 1 = cc in absurd (omega arith)
 all-first p (y ∷ ys) x a e = let q : x ≡ y = cc in ap p q ∙ both (p y) (all p ys) a .0
 
 -- a key that is found is valid
-pub found-valid : (l : Limiter) (xs : List ℕ) → Ready l xs → (key : ℕ) (r : TrackedKey) → keyFound r ≡ keyWith key (keysIn l xs) → (k : KeyState) → r ≡ tracked-key.Is k → validKey units (keyRecord k) ≡ true
+pub found-valid : (l : Limiter) (xs : List ℕ) → Ready l xs → (key : ℕ) (r : TrackedKey) → keyFound r ≡ keyWith key (keysIn l xs) → (k : KeyState) → r ≡ tracked-key.Is k → validKey (unitsIn l) (keyRecord k) ≡ true
 unfolding those
 found-valid l xs h key r e k q =
-    all-first (validKey units) _ (keyRecord k) (all-only (validKey units) (λ (x : KeyRecord). eqb (x .key) key) (keysIn l xs) (h .good)) (ap keyFound (sym q) ∙ e)
+    all-first (validKey (unitsIn l)) _ (keyRecord k) (all-only (validKey (unitsIn l)) (λ (x : KeyRecord). eqb (x .key) key) (keysIn l xs) (h .good)) (ap keyFound (sym q) ∙ e)
 
 module _ (l : Limiter) (t : LimiterTables) (p : Passed l t []) where
   -- the value that is asked for is given
@@ -108,7 +108,7 @@ module _ (l : Limiter) (t : LimiterTables) (p : Passed l t []) where
       (ready-valid setOf (t .hot)
       (and-intro _ _ (le-leb 1 (l .config .«hot_set_size») (z .some-hot)) (le-leb (l .config .«hot_set_size») 64 (z .most-hot)))
       n
-      (held-hot l t (p .room) (p .ok)))
+      (lent-hot l t (p .room) (p .ok)))
       refl)
 
   -- so that its answer is the limiter's

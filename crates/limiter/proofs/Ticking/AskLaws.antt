@@ -1,5 +1,5 @@
 -- Laws: questions 1 and 2 of the limiter and of the peers, asked of both: 1 of either comes before 2 of either.
-use mathlib.Core.Path.{_≡_, refl, _∙_}
+use mathlib.Core.Path.{_≡_, refl}
 use mathlib.Core.Bool.{Bool, true, false, _&&_}
 use mathlib.Core.List.{List, [], _∷_}
 use Prim.Native.Nat.{ℕ}

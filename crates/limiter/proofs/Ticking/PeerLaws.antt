@@ -11,26 +11,26 @@ use lib.Ieee.{Float}
 use lib.ListN.{length, take, drop, getD, replicate, length-map}
 use lib.Seq.{take-at}
 use Rattle.records.specs.Records.{records, fits}
-use Rattle.records.proofs.RecordLaws.{length-records}
+use Rattle.records.proofs.Words.RecordLaws.{length-records}
 use Rattle.questions.proofs.Tests.{both, and-intro}
-use Rattle.gcra.specs.Packed.{unitNanos}
 use Rattle.questions.specs.Questions.{passes}
 use Rattle.questions.proofs.Answers.{changed-passed}
-use Rattle.demand.specs.declared.hot_set.HotEntry.{HotEntry}
-use Rattle.demand.specs.declared.peer_demand.PeerDemand.{PeerDemand}
-use Rattle.demand.specs.declared.peer_demand.ChangeAnswer.{ChangeAnswer}
+use Rattle.hot.specs.declared.hot_set.HotEntry.{HotEntry}
+use Rattle.peers.specs.declared.peer_demand.PeerDemand.{PeerDemand}
+use Rattle.peers.specs.declared.peer_demand.ChangeAnswer.{ChangeAnswer}
 use Rattle.demand.specs.Allocation.{isClusterSize}
-use Rattle.demand.specs.HotSet.Set.{entry, entries}
-use Rattle.demand.specs.Peers.State as peer-state
-use Rattle.demand.specs.Peers.State.{PeersState, PeerTables}
-use Rattle.demand.specs.Peers.Readers.{told, total, hotElsewhere}
-use Rattle.demand.specs.Peers.Calls.{peersQuestions, eachQuestions, TellsEach}
+use Rattle.hot.specs.HotSet.Set.{entry, entries}
+use Rattle.peers.specs.Peers.State as peer-state
+use Rattle.peers.specs.Peers.State.{PeersState, PeerTables}
+use Rattle.peers.specs.Peers.Readers.{told, total, hotElsewhere}
+use Rattle.peers.specs.Peers.Calls.{peersQuestions, eachQuestions, TellsEach}
 use Rattle.questions.proofs.ListLaws.{map-map}
 use Rattle.limiter.specs.declared.Limiter.{Limiter}
-use Rattle.limiter.specs.State.{KeyRecord, LimiterTables, lengths, haveRoom, isValid, keyOf}
+use Rattle.limiter.specs.State.{KeyRecord, LimiterTables, lengths, haveRoom, isValid, keyOf, unitsIn}
 use Rattle.limiter.specs.Checks.{clusterQuestions}
 use Rattle.limiter.specs.Calls.{bothQuestions}
-use Rattle.limiter.specs.Steps.TickSteps.{keyRecord, keyRecords}
+use Rattle.limiter.specs.Steps.TickSteps.{keyRecords}
+use Rattle.gcra.specs.declared.Units.{Units}
 
 -- ---- questions that passed
 
@@ -42,7 +42,7 @@ size-passed n e = both (isClusterSize n) true e .0
 -- 1 and 2 of both, and 7
 pub record BothPassed (l : Limiter) (t : LimiterTables) (p : PeerDemand) (pt : PeerTables) (n : ℕ) : Type 0 where
   pub room : haveRoom (l .config) (lengths t) ≡ true
-  pub ok : isValid unitNanos l t ≡ true
+  pub ok : isValid (unitsIn l) l t ≡ true
   pub peers : passes (peersQuestions p pt) ≡ true
   pub size : isClusterSize n ≡ true
 
@@ -52,9 +52,9 @@ pub both-passed :
 unfolding passes
 both-passed l t p pt n e =
     let a = both (haveRoom (l .config) (lengths t) && peer-state.haveRoom (peer-state.lengths pt)) _ e in
-    let b = both (isValid unitNanos l t && peer-state.isValid p pt) _ (a .1) in
+    let b = both (isValid (unitsIn l) l t && peer-state.isValid p pt) _ (a .1) in
     let c = both (haveRoom (l .config) (lengths t)) _ (a .0) in
-    let d = both (isValid unitNanos l t) _ (b .0) in
+    let d = both (isValid (unitsIn l) l t) _ (b .0) in
     record {
       room = c .0;
       ok = d .0;
@@ -68,10 +68,10 @@ none-of [] m h = refl
 none-of (x ∷ xs) zero h = absurd (not-suc-le-zero h)
 none-of (x ∷ xs) (suc m) h = ap (λ (bs : List Bool). false ∷ bs) (none-of xs m (le-of-suc-le-suc h))
 
-pub none-elsewhere : (n : ℕ) (keys : List ℕ) → n ≤ 4096 → take n (replicate 4096 false) ≡ map (λ (k : KeyRecord). false) (keyRecords n keys)
-none-elsewhere n keys h =
-    let m : length (keyRecords n keys) ≡ n = length-map (records 22 n keys) keyRecord ∙ length-records 22 n keys in
-    ap (λ (i : ℕ). take i (replicate 4096 false)) (sym m) ∙ none-of (keyRecords n keys) 4096 (omega (arith, m))
+pub none-elsewhere : (u : Units) (n : ℕ) (keys : List ℕ) → n ≤ 4096 → take n (replicate 4096 false) ≡ map (λ (k : KeyRecord). false) (keyRecords u n keys)
+none-elsewhere u n keys h =
+    let m : length (keyRecords u n keys) ≡ n = length-map (records 22 n keys) (keyOf u) ∙ length-records 22 n keys in
+    ap (λ (i : ℕ). take i (replicate 4096 false)) (sym m) ∙ none-of (keyRecords u n keys) 4096 (omega (arith, m))
 
 -- ---- what the peers tell
 module _ (p : PeerDemand) (pt : PeerTables) (ok : passes (peersQuestions p pt) ≡ true) where
@@ -97,12 +97,12 @@ module _ (p : PeerDemand) (pt : PeerTables) (ok : passes (peersQuestions p pt) �
 
   -- the flags of the keys
   pub told-elsewhere :
-      (n : ℕ) (keys : List ℕ) (out : List Bool) (r : ChangeAnswer) (out′ : List Bool) → TellsEach hotElsewhere p pt 22 n keys out r out′
-      → n * 22 ≤ length keys → n ≤ length out → take n out′ ≡ map (λ (k : KeyRecord). hotElsewhere (k .key) state) (keyRecords n keys)
+      (u : Units) (n : ℕ) (keys : List ℕ) (out : List Bool) (r : ChangeAnswer) (out′ : List Bool) → TellsEach hotElsewhere p pt 22 n keys out r out′
+      → n * 22 ≤ length keys → n ≤ length out → take n out′ ≡ map (λ (k : KeyRecord). hotElsewhere (k .key) state) (keyRecords u n keys)
   unfolding keyOf
-  told-elsewhere n keys out r out′ e h g =
+  told-elsewhere u n keys out r out′ e h g =
       each-told hotElsewhere 22 n keys out r out′ e (omega arith) h g
-      ∙ sym (map-map (λ (k : KeyRecord). hotElsewhere (k .key) state) keyRecord (records 22 n keys))
+      ∙ sym (map-map (λ (k : KeyRecord). hotElsewhere (k .key) state) (keyOf u) (records 22 n keys))
 
   -- the totals of the hot keys
   pub told-totals :

@@ -10,18 +10,15 @@ use lib.Dec.{leb, ltb, eqb}
 use lib.ListN.{length, drop, getD, drop-of-length-le}
 use lib.Seq.{drop-cons, drop-drop}
 use Rattle.records.specs.Records.{records, key, before, ascending}
-use Rattle.questions.proofs.Tests.{contradiction, split, both, and-first}
-use Rattle.records.proofs.RecordLaws.{length-records}
-use Rattle.records.proofs.TableLaws.{Wide, wide-records, wide-drop}
+use Rattle.questions.proofs.Tests.{contradiction, split, both, and-first, stop, goes, and-under}
+use Rattle.records.proofs.Words.RecordLaws.{length-records}
+use Rattle.records.proofs.Tables.TableLaws.{Wide, wide-records, wide-drop}
 use Rattle.questions.specs.Lists.{all, any}
-use Rattle.records.specs.Typed.{firstWord}
+use Rattle.records.specs.Typed.{firstWord, areRecords}
 use Rattle.questions.proofs.OnlyLaws.{all-imply}
-use Rattle.records.proofs.AscendingLaws.{asc-ahead, asc-rest}
-use Rattle.records.proofs.RowLaws.{first-at}
-use Rattle.demand.proofs.Peers.Validity.ScanLaws.{stop, goes}
-use Rattle.demand.proofs.Peers.Validity.ScanRunLaws.{before-one}
-use Rattle.limiter.specs.Steps.Scan.{areRecords, isAmong, areAmong, keysBelow, begins, merges, areOf, KeysReady}
-use Rattle.limiter.proofs.Validity.ScanWordLaws.{and-under}
+use Rattle.records.proofs.Order.AscendingLaws.{asc-ahead, asc-rest, before-one}
+use Rattle.records.proofs.Words.RowLaws.{first-at}
+use Rattle.limiter.specs.Steps.Scan.{isAmong, areAmong, keysBelow, begins, merges, areOf, KeysReady}
 
 abbrev isAfter : ℕ → List ℕ → Bool
 isAfter id r = ltb id (firstWord r)

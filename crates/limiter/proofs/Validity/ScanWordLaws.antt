@@ -1,23 +1,22 @@
 -- Question 2 of a key and of a shadow, asked word by word, is question 2 of the record.
 use Prim.Native.Nat.{ℕ, _<_}
 use mathlib.Core.Path.{_≡_, refl, sym, ap, _∙_}
-use mathlib.Core.Bool.{Bool, true, false, true≢false, _&&_, and-true, and-assoc, and-comm}
+use mathlib.Core.Bool.{Bool, true, false, true≢false, cond, _&&_, and-true, and-assoc, and-comm}
 use mathlib.Core.List.{List, [], _∷_}
 use mathlib.Core.Option.{Option, none, some}
 use native.Mathlib.Nat.{pos-of-ne-zero}
 use native.Mathlib.Omega.{arith}
-use borrow.Author.Tests.{ltb-true, lt-ltb, le-ltb, eq-eqb}
+use borrow.Author.Tests.{ltb-true, lt-ltb, le-ltb, eq-eqb, ne-eqb}
 use lib.Dec.{ltb, eqb}
 use lib.ListN.{length}
 use lib.Ieee.{Float, nan, inf, fin, binary64, ofBits, ofInt, lt}
 use lib.Ieee.Scale.{finite}
 use lib.Ieee.Bits.{is-true, ofBits-fits}
 use Rattle.float.specs.Magnitude.{magnitude}
-use Rattle.float.proofs.Patterns.{magnitude-bits}
-use Rattle.float.proofs.Magnitudes.{magnitudes-order}
+use Rattle.float.proofs.Formats.Patterns.{magnitude-bits}
+use Rattle.float.proofs.Formats.Magnitudes.{magnitudes-order}
 use Rattle.records.specs.Records.{same}
-use Rattle.questions.proofs.Tests.{split, and-first, and-second, eqb-self, and-left}
-use Rattle.records.proofs.OrderLaws.{same-eq}
+use Rattle.questions.proofs.Tests.{split, and-first, and-second, eqb-self, and-left, and-under}
 use Rattle.gcra.specs.declared.Units.{Units}
 use Rattle.gcra.specs.Packed.{Accepted, validBurst, validQuota, pack, unpack}
 use Rattle.demand.specs.Allocation.{isRate}
@@ -25,12 +24,13 @@ use Rattle.questions.specs.Lists.{all}
 use Rattle.records.specs.Typed.{isWord}
 use Rattle.records.specs.Fields.{timeWords, timeOf, isTime}
 use Rattle.demand.proofs.Estimating.Literals.{zero-is}
-use Rattle.records.proofs.FieldLaws.{time-words}
-use Rattle.demand.proofs.HotSet.Words.{bits-back}
-use Rattle.demand.proofs.Peers.Validity.ScanLaws.{four-words, words-4, words-6, PassIs}
+use Rattle.records.proofs.Words.FieldLaws.{time-words}
+use Rattle.records.proofs.Tables.TypedLaws.{exact-words}
+use Rattle.hot.proofs.HotSet.Words.{bits-back}
+use Rattle.records.proofs.Tables.ScanLaws.{four-words, words-4, words-6, PassIs}
 use Rattle.limiter.specs.State.{floatWord, floatOf, isF64, tatTime, tatFrom, keyWords, keyOf, validLimit, validKey, shadowWords, shadowOf, validShadow}
-use Rattle.limiter.specs.Steps.Scan.{isLimit, areRates, isMeter, areKeyWords, areShadowWords}
-use Rattle.gcra.proofs.PackedWords.{word-is}
+use Rattle.limiter.specs.Steps.Scan.{isLimit, areRates, isMeter, areKeyWords, areShadowWords, areWords}
+use Rattle.gcra.proofs.Packed.PackedWords.{word-is}
 
 -- ---- a rate: finite, with a clear sign bit, and not 0
 negative-rate : (x : Float) → magnitude x ≡ false → isRate x ≡ false
@@ -63,10 +63,6 @@ by-magnitude b h = sym (rate-bits b ∙ ap (λ (z : Bool). z && magnitude (ofBit
 -- ---- tests
 ruleset ands = (and-assoc, and-comm, and-left)
 
-pub and-under : (a b c : Bool) → (a ≡ true → b ≡ c) → (a && b) ≡ (a && c)
-and-under true b c h = h refl
-and-under false b c h = refl
-
 -- ---- floats and times as words
 magnitude-word : (w : ℕ) → (eqb (floatWord (floatOf w)) w && magnitude (floatOf w)) ≡ magnitude (floatOf w)
 magnitude-word w =
@@ -95,13 +91,18 @@ tatWords flag tat = timeWords (tatTime (tatFrom (timeOf flag tat)))
 tat-words : (flag tat : ℕ) → same (tatWords flag tat) (flag ∷ tat ∷ []) ≡ isTime flag tat
 tat-words flag tat = ap (λ (t : Option ℕ). same (timeWords t) (flag ∷ tat ∷ [])) (tat-there (timeOf flag tat)) ∙ time-words flag tat
 
--- the words of a record that they stand for exactly are words
-exact-words : (words r : List ℕ) → all isWord r ≡ true → same words r ≡ true → all isWord words ≡ true
-exact-words words r h e = ap (all isWord) (same-eq words r e) ∙ h
-
 same-words : (u : Units) (key packed flag tat : ℕ) → same (shadowWords u (shadowOf u (key ∷ packed ∷ flag ∷ tat ∷ []))) (key ∷ packed ∷ flag ∷ tat ∷ []) ≡ (eqb (pack u (unpack u packed)) packed && same (tatWords flag tat) (flag ∷ tat ∷ []))
 unfolding same shadowWords shadowOf
 same-words u key packed flag tat = rw (eqb-self key)
+
+-- ---- which of the two kinds
+pub four-are : (u : Units) (r : List ℕ) → length r ≡ 4 → areShadowWords u r ≡ areWords u r
+unfolding areWords
+four-are u r e = sym (ap (λ (b : Bool). cond b (areShadowWords u r) (areKeyWords u r)) (eq-eqb (length r) 4 e))
+
+pub others-are : (u : Units) (r : List ℕ) → (length r ≡ 4 → ⊥) → areKeyWords u r ≡ areWords u r
+unfolding areWords
+others-are u r h = sym (ap (λ (b : Bool). cond b (areShadowWords u r) (areKeyWords u r)) (ne-eqb (length r) 4 h))
 
 module _ (u : Units) (a : Accepted u) where
   -- ---- a key

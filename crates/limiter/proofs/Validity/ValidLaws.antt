@@ -2,35 +2,33 @@
 use Prim.Native.Nat.{ℕ, _*_, _^_, _≤_, _<_, min}
 use mathlib.Core.Path.{_≡_, refl, sym, ap, _∙_}
 use mathlib.Core.Bool.{Bool, true, false, _&&_, and-assoc}
-use mathlib.Core.List.{List, [], _∷_, map}
+use mathlib.Core.List.{List, map}
 use native.Mathlib.Omega.{arith}
 use borrow.Author.Tests.{leb-true, le-leb, lt-leb}
 use lib.Dec.{leb, eqb}
 use lib.ListN.{length, getD}
 use Rattle.records.specs.Records.{records, ascending, fits}
-use Rattle.questions.proofs.Tests.{both, and-skip, and-left}
-use Rattle.records.proofs.RecordLaws.{length-records, fits-intro}
+use Rattle.questions.proofs.Tests.{both, and-skip, and-left, stop, and-under}
+use Rattle.records.proofs.Words.RecordLaws.{length-records, fits-intro}
 use Rattle.gcra.specs.declared.Units.{Units}
-use Rattle.gcra.specs.Packed.{Accepted, unitNanos}
-use Rattle.gcra.proofs.Encoding.{units-accepted}
-use Rattle.demand.specs.declared.hot_set.HotEntry.{HotEntry}
+use Rattle.gcra.specs.Packed.{Accepted}
+use Rattle.hot.specs.declared.hot_set.HotEntry.{HotEntry}
 use Rattle.demand.specs.Allocation.{isFloorFactor}
-use Rattle.demand.specs.HotSet.Set as hot-set
-use Rattle.demand.specs.HotSet.Set.{entry, entries, validEntry, validEntries}
-use Rattle.demand.specs.HotSet.Steps.{areEntryWords}
+use Rattle.hot.specs.HotSet.Set as hot-set
+use Rattle.hot.specs.HotSet.Set.{entry, entries, validEntry, validEntries}
+use Rattle.hot.specs.HotSet.Steps.{areEntryWords}
 use Rattle.questions.specs.Lists.{all}
-use Rattle.records.specs.Typed.{isWord, exact}
-use Rattle.demand.proofs.HotSet.Scan.{entry-words-pass, scanned-is-valid as entries-scanned}
+use Rattle.records.specs.Typed.{isWord, exact, areRecords}
+use Rattle.hot.proofs.HotSet.Scan.{entry-words-pass, scanned-is-valid as entries-scanned}
 use Rattle.questions.proofs.ListLaws.{all-map, any-map}
-use Rattle.demand.proofs.Peers.Validity.ScanLaws.{stop}
-use Rattle.demand.proofs.Peers.Validity.ValidLaws.{all-words, counted-table}
-use Rattle.records.proofs.TypedLaws.{words-of-exact}
+use Rattle.records.proofs.Tables.ScanLaws.{counted-table, counted-order}
+use Rattle.records.proofs.Tables.TypedLaws.{words-of-exact, all-words}
 use Rattle.limiter.specs.declared.Config.{Config}
 use Rattle.limiter.specs.declared.Limiter.{Limiter}
-use Rattle.limiter.specs.State.{Settings, KeyRecord, ShadowRecord, LimiterTables, lengths, isTracked, keyWords, keyOf, shadowWords, shadowOf, isF64, areSizes, validLimit, isAlpha, validCap, validSettings, settingsOf, settingsWords, validKey, validShadow, validKeys, validHot, validShadows, valid, within, haveRoom, stateOf, areExact, isValid}
-use Rattle.limiter.specs.Steps.Scan.{areWords, areRecords, isAmong, areAmong, areKeys, areOf, isScanned, KeysReady, TableReady, StateReady}
-use Rattle.limiter.proofs.Validity.ScanWordLaws.{and-under, key-words-pass, shadow-words-pass}
-use Rattle.limiter.proofs.Validity.ScanTableLaws.{four-are, others-are}
+use Rattle.limiter.specs.State.{Settings, KeyRecord, ShadowRecord, LimiterTables, lengths, isTracked, keyWords, keyOf, shadowWords, shadowOf, isF64, areSizes, validLimit, isAlpha, validCap, validSettings, settingsOf, settingsWords, validKey, validShadow, validKeys, validHot, validShadows, valid, within, haveRoom, stateOf, areExact, isValid, unitsIn}
+use Rattle.limiter.specs.Steps.Scan.{areWords, isAmong, areAmong, areKeys, areOf, isScanned, KeysReady, TableReady, StateReady}
+use Rattle.limiter.proofs.Validity.ScanWordLaws.{key-words-pass, shadow-words-pass, four-are, others-are}
+use Rattle.limiter.proofs.States.StateValidLaws.{units-of-accepted}
 
 -- ---- a record's key is its first word
 entry-key : (r : List ℕ) → entry r .key ≡ getD r 0 0
@@ -43,7 +41,6 @@ shadow-key u r = refl
 
 -- ---- what `hot_set::are_valid` tells
 pub entries-told : (n : ℕ) (xs : List ℕ) → n * 6 ≤ length xs → all isWord xs ≡ true → (fits (length xs) 6 n && (exact hot-set.words entry (records 6 n xs) && validEntries (entries n xs))) ≡ areRecords areEntryWords (records 6 n xs)
-unfolding areRecords
 entries-told n xs h word =
     and-skip (fits (length xs) 6 n) (exact hot-set.words entry (records 6 n xs) && validEntries (entries n xs)) (fits-intro (length xs) 6 n (omega arith) h)
     ∙ sym (entries-scanned n xs h word)
@@ -80,13 +77,10 @@ all-among u of id ks rs h =
 -- ---- the three tables
 module _ (u : Units) (a : Accepted u) (c : Config) (n : ℕ) (xs : List ℕ) (word : all isWord xs ≡ true) where
   pub keys-scanned : c .«table_size» * 22 ≤ length xs → (exact (keyWords u) (keyOf u) (records 22 n xs) && validKeys u c (map (keyOf u) (records 22 n xs))) ≡ areKeys u (c .«table_size») (records 22 n xs)
-  unfolding validKeys areKeys areRecords
+  unfolding validKeys areKeys
   keys-scanned room =
-      let rs : List (List ℕ) = records 22 n xs in
-      counted-table (keyWords u) (keyOf u) (validKey u) (areWords u) 22 n (c .«table_size») xs
-      (ascending 1 (map (keyWords u) (map (keyOf u) rs))) (ascending 1 rs) room word
-      (λ r e z. key-words-pass u a r e z ∙ others-are u r (λ f. omega (arith, e, f)))
-      (λ e. ap (ascending 1) (words-of-exact (keyWords u) (keyOf u) rs e))
+      counted-order (keyWords u) (keyOf u) (validKey u) (areWords u) 22 n xs word
+      (λ r e z. key-words-pass u a r e z ∙ others-are u r (λ f. omega (arith, e, f))) (c .«table_size») room
 
   module _ (ks : List (List ℕ)) where
     pub hot-scanned : c .«hot_set_size» * 6 ≤ length xs → (exact hot-set.words entry (records 6 n xs) && validHot c (map (keyOf u) ks) (entries n xs)) ≡ areOf areEntryWords (c .«hot_set_size») ks (records 6 n xs)
@@ -96,9 +90,8 @@ module _ (u : Units) (a : Accepted u) (c : Config) (n : ℕ) (xs : List ℕ) (wo
         let es : List HotEntry = map entry rs in
         let tracked : Bool = all (λ (e : HotEntry). isTracked (map (keyOf u) ks) (e .key)) es in
         ap (λ (b : Bool). exact hot-set.words entry rs && (leb (length es) (c .«hot_set_size») && b)) (and-assoc (all validEntry es) (ascending 1 (map hot-set.words es)) tracked)
-        ∙ counted-table hot-set.words entry validEntry areEntryWords 6 n (c .«hot_set_size») xs
-        (ascending 1 (map hot-set.words es) && tracked) (ascending 1 rs && areAmong ks rs) room word
-        entry-words-pass
+        ∙ counted-table hot-set.words entry validEntry areEntryWords 6 n xs word entry-words-pass (c .«hot_set_size»)
+        (ascending 1 (map hot-set.words es) && tracked) (ascending 1 rs && areAmong ks rs) room
         (λ e k. ascending 1 (words-of-exact hot-set.words entry rs e k) && all-among u entry (λ (e : HotEntry). e .key) ks rs entry-key k)
         ∙ ap (λ (b : Bool). leb (length rs) (c .«hot_set_size») && b) (sym (and-assoc (all areEntryWords rs) (ascending 1 rs) (areAmong ks rs)))
 
@@ -106,9 +99,8 @@ module _ (u : Units) (a : Accepted u) (c : Config) (n : ℕ) (xs : List ℕ) (wo
     unfolding validShadows areOf areRecords
     shadows-scanned room =
         let rs : List (List ℕ) = records 4 n xs in
-        counted-table (shadowWords u) (shadowOf u) (validShadow u) (areWords u) 4 n (c .«table_size») xs
-        (ascending 1 (map (shadowWords u) (map (shadowOf u) rs)) && all (λ (s : ShadowRecord). isTracked (map (keyOf u) ks) (s .key)) (map (shadowOf u) rs)) (ascending 1 rs && areAmong ks rs) room word
-        (λ r e z. shadow-words-pass u a r e z ∙ four-are u r e)
+        counted-table (shadowWords u) (shadowOf u) (validShadow u) (areWords u) 4 n xs word (λ r e z. shadow-words-pass u a r e z ∙ four-are u r e) (c .«table_size»)
+        (ascending 1 (map (shadowWords u) (map (shadowOf u) rs)) && all (λ (s : ShadowRecord). isTracked (map (keyOf u) ks) (s .key)) (map (shadowOf u) rs)) (ascending 1 rs && areAmong ks rs) room
         (λ e k. ascending 1 (words-of-exact (shadowWords u) (shadowOf u) rs e k) && all-among u (shadowOf u) (λ (s : ShadowRecord). s .key) ks rs (shadow-key u) k)
         ∙ ap (λ (b : Bool). leb (length rs) (c .«table_size») && b) (sym (and-assoc (all (areWords u) rs) (ascending 1 rs) (areAmong ks rs)))
 
@@ -186,10 +178,10 @@ table-ready test w size n xs room few e =
     let b = both (all test (records w n xs)) (ascending 1 (records w n xs)) e in
     (record { few = omega (arith, leb-true (length (records w n xs)) size few, length-records w n xs); room = room; ascend = b .1 }, b .0)
 
-state-ready : (l : Limiter) (t : LimiterTables) → haveRoom (l .config) (lengths t) ≡ true → isScanned unitNanos l t ≡ true → StateReady l t
+state-ready : (l : Limiter) (t : LimiterTables) → haveRoom (l .config) (lengths t) ≡ true → isScanned (unitsIn l) l t ≡ true → StateReady l t
 unfolding isScanned areKeys areOf
 state-ready l t room e =
-    let u = unitNanos in
+    let u = unitsIn l in
     let size = l .config .«table_size» in
     let hot = l .config .«hot_set_size» in
     let ks : List (List ℕ) = records 22 (l .keys) (t .keys) in
@@ -219,6 +211,6 @@ state-ready l t room e =
       shadowsTracked = s′ .1;
     }
 
-pub asked-ready : (l : Limiter) (t : LimiterTables) → haveRoom (l .config) (lengths t) ≡ true → isValid unitNanos l t ≡ true → ((i : ℕ) → getD (t .keys) i 0 < 2 ^ 64) → ((i : ℕ) → getD (t .hot) i 0 < 2 ^ 64) → ((i : ℕ) → getD (t .shadows) i 0 < 2 ^ 64) → StateReady l t
+pub asked-ready : (l : Limiter) (t : LimiterTables) → haveRoom (l .config) (lengths t) ≡ true → isValid (unitsIn l) l t ≡ true → ((i : ℕ) → getD (t .keys) i 0 < 2 ^ 64) → ((i : ℕ) → getD (t .hot) i 0 < 2 ^ 64) → ((i : ℕ) → getD (t .shadows) i 0 < 2 ^ 64) → StateReady l t
 asked-ready l t room valid wk wh ws =
-    state-ready l t room (scanned-is-valid unitNanos units-accepted l t room (all-words (t .keys) wk) (all-words (t .hot) wh) (all-words (t .shadows) ws) ∙ valid)
+    state-ready l t room (scanned-is-valid (unitsIn l) (units-of-accepted (settingsOf l)) l t room (all-words (t .keys) wk) (all-words (t .hot) wh) (all-words (t .shadows) ws) ∙ valid)

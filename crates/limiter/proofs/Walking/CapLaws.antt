@@ -14,41 +14,41 @@ use lib.ListN.{length, take, drop, getD, length-map, List·getD-map}
 use lib.Seq.{getD-drop}
 use Rattle.float.specs.Magnitude.{magnitude}
 use Rattle.float.specs.Order.{place, totalLess}
-use Rattle.float.proofs.Order.{place-clear, place-set}
+use Rattle.float.proofs.Orders.Order.{place-clear, place-set}
 use Rattle.records.specs.declared.Found.{Found}
 use Rattle.records.specs.declared.Found.the-variants.{At, Gap, Unfit}
 use Rattle.records.specs.Records.{records, table, findIn, ascending}
 use Rattle.records.specs.Records as records
-use Rattle.records.proofs.RecordLaws.{length-records}
+use Rattle.records.proofs.Words.RecordLaws.{length-records}
 use Rattle.questions.proofs.Tests.{split, same-truth}
-use Rattle.gcra.specs.Packed.{unitNanos}
 use Rattle.questions.specs.Questions.{refused, given}
 use Rattle.questions.proofs.Answers.{alone-yes, given-passed}
 use Rattle.demand.specs.declared.demand.Demand.{Demand}
 use Rattle.demand.specs.declared.demand.Times.the-variants as times
 use Rattle.demand.specs.declared.demand.RateAnswer.{RateAnswer}
 use Rattle.demand.specs.declared.demand.RateAnswer.the-variants as rate-answer
-use Rattle.demand.specs.declared.hot_set.HotEntry.{HotEntry}
+use Rattle.hot.specs.declared.hot_set.HotEntry.{HotEntry}
 use Rattle.demand.specs.Estimators.Estimator.{whole, alpha, unbiased, unbiasedFrom}
 use Rattle.demand.specs.Estimators.Calls as estimator-calls
-use Rattle.demand.specs.HotSet.Set.{entry, entries, isHot, there}
-use Rattle.questions.specs.Lists.{all, any, only}
-use Rattle.demand.specs.HotSet.Steps.{EntriesReady}
+use Rattle.hot.specs.HotSet.Set.{entries, isHot}
+use Rattle.questions.specs.Lists.{all, any, only, present}
+use Rattle.hot.specs.HotSet.Steps.{EntriesReady}
 use Rattle.records.specs.Typed.{Tabled}
-use Rattle.questions.proofs.ListLaws.{all-index, map-map}
-use Rattle.questions.proofs.OnlyLaws.{only-yes, only-no, map-only}
-use Rattle.records.proofs.RowLaws.{word-at}
-use Rattle.records.proofs.TabledLaws.{table-same}
-use Rattle.demand.proofs.HotSet.Map.{hit-get, at-says, got-gap, never-unfit}
+use Rattle.questions.proofs.ListLaws.{all-index, all-pass, map-map}
+use Rattle.questions.proofs.OnlyLaws.{only-yes, only-no, only-all, map-only}
+use Rattle.records.proofs.Words.RowLaws.{word-at}
+use Rattle.records.proofs.Tables.TabledLaws.{table-same}
+use Rattle.hot.proofs.HotSet.Table.{got-at, got-gap, never-unfit}
 use Rattle.limiter.specs.declared.Parameters.{Parameters}
 use Rattle.limiter.specs.State.{Settings, Estimate, KeyRecord, floatWord, floatOf, isTracked, keyWords, keyOf, validKey}
 use Rattle.limiter.specs.Ticks.{Others, unbiasedRate, sorted, rankedBefore, victims, capped}
-use Rattle.limiter.specs.Steps.TickSteps.{flagged, below, Cut, staying, top, ratePlace, ratePlaceOf, keyRecord, keyRecords, keyRank, weaker, staysUnder, HeldKeys}
+use Rattle.limiter.specs.Steps.TickSteps.{flagged, below, Cut, staying, top, ratePlace, ratePlaceOf, keyRecords, keyRank, weaker, staysUnder, LentKeys}
 use Rattle.limiter.proofs.States.KeyListLaws.{has, rising, rising-says}
 use Rattle.limiter.proofs.States.RecordValidLaws.{key-says}
 use Rattle.limiter.proofs.States.StateValidLaws.{keyOfKey}
 use Rattle.limiter.proofs.Walking.FlagLaws.{kept-by}
 use Rattle.limiter.proofs.Walking.RankLaws.{ranked, staying-says}
+use Rattle.gcra.specs.declared.Units.{Units}
 
 -- ---- hot keys
 
@@ -59,9 +59,9 @@ isAt (Gap i) = false
 isAt Unfit = false
 
 pub hot-found : (h : ℕ) (hot : List ℕ) (key : ℕ) → EntriesReady h hot → (f : Found) → f ≡ findIn 6 1 h key 0 hot → isAt f ≡ isHot key (entries h hot)
-hot-found h hot key k (At i) e = ap there (sym (hit-get key (entries h hot) (entry []) (at-says h hot k key i (sym e) .0)))
-hot-found h hot key k (Gap i) e = ap there (got-gap h hot k key i (sym e))
-hot-found h hot key k Unfit e = absurd (never-unfit h hot k key (sym e))
+hot-found h hot key k (At i) e = ap present (got-at h hot k key i e)
+hot-found h hot key k (Gap i) e = ap present (got-gap h hot k key i e)
+hot-found h hot key k Unfit e = never-unfit h hot k key e
 
 -- ---- unbiased rates
 
@@ -132,7 +132,7 @@ place-same a b h k = same-truth (eqb a b) (eqb (place a) (place b))
 
 -- ---- a key by its words
 
-module _ (n : ℕ) (xs : List ℕ) (i : ℕ) (h : i < n) where
+module _ (u : Units) (n : ℕ) (xs : List ℕ) (i : ℕ) (h : i < n) where
   abbrev row : List ℕ
   row = getD (records 22 n xs) i []
 
@@ -146,27 +146,27 @@ module _ (n : ℕ) (xs : List ℕ) (i : ℕ) (h : i < n) where
   demand-word j k e l = getD-drop 3 row j 0 ∙ ap (λ (m : ℕ). getD row m 0) e ∙ word-of k l
 
   -- its rank
-  rank-by : (c : ℕ) (es : List HotEntry) → keyRank c es (keyRecord row) ≡ cond (not (isHot (getD xs (i * 22) 0) es)) (ratePlaceOf c (getD xs (i * 22 + 3) 0) (getD xs (i * 22 + 5) 0) (getD xs (i * 22 + 6) 0)) top
+  rank-by : (c : ℕ) (es : List HotEntry) → keyRank c es (keyOf u row) ≡ cond (not (isHot (getD xs (i * 22) 0) es)) (ratePlaceOf c (getD xs (i * 22 + 3) 0) (getD xs (i * 22 + 5) 0) (getD xs (i * 22 + 6) 0)) top
   unfolding keyRank keyOf
   rank-by c es =
-      ap (λ (x : Float). cond (not (isHot (getD row 0 0) es)) (place (floatWord x)) top) (sym (attempts-apart c (keyRecord row .demand)))
+      ap (λ (x : Float). cond (not (isHot (getD row 0 0) es)) (place (floatWord x)) top) (sym (attempts-apart c (keyOf u row .demand)))
       ∙ (λ m. cond (not (isHot (first-of m) es)) (ratePlaceOf c (demand-word 0 3 refl (lit< tt) m) (demand-word 2 5 refl (lit< tt) m) (demand-word 3 6 refl (lit< tt) m)) top)
 
   -- of a hot key, and of one that is not
-  pub rank-hot : (c : ℕ) (es : List HotEntry) → isHot (getD xs (i * 22) 0) es ≡ true → top ≡ keyRank c es (keyRecord row)
+  pub rank-hot : (c : ℕ) (es : List HotEntry) → isHot (getD xs (i * 22) 0) es ≡ true → top ≡ keyRank c es (keyOf u row)
   rank-hot c es e = sym (rank-by c es ∙ ap (λ (b : Bool). cond (not b) (ratePlaceOf c (getD xs (i * 22 + 3) 0) (getD xs (i * 22 + 5) 0) (getD xs (i * 22 + 6) 0)) top) e)
 
-  pub rank-cold : (c : ℕ) (es : List HotEntry) → isHot (getD xs (i * 22) 0) es ≡ false → ratePlaceOf c (getD xs (i * 22 + 3) 0) (getD xs (i * 22 + 5) 0) (getD xs (i * 22 + 6) 0) ≡ keyRank c es (keyRecord row)
+  pub rank-cold : (c : ℕ) (es : List HotEntry) → isHot (getD xs (i * 22) 0) es ≡ false → ratePlaceOf c (getD xs (i * 22 + 3) 0) (getD xs (i * 22 + 5) 0) (getD xs (i * 22 + 6) 0) ≡ keyRank c es (keyOf u row)
   rank-cold c es e = sym (rank-by c es ∙ ap (λ (b : Bool). cond (not b) (ratePlaceOf c (getD xs (i * 22 + 3) 0) (getD xs (i * 22 + 5) 0) (getD xs (i * 22 + 6) 0)) top) e)
 
   -- its demand is finite with a clear sign bit
-  pub rate-finite : all (validKey unitNanos) (keyRecords n xs) ≡ true → magnitude (ofBits binary64 (getD xs (i * 22 + 3) 0)) ≡ true
+  pub rate-finite : all (validKey u) (keyRecords u n xs) ≡ true → magnitude (ofBits binary64 (getD xs (i * 22 + 3) 0)) ≡ true
   unfolding keyOf
   rate-finite a =
       ap (λ (w : ℕ). magnitude (floatOf w)) (sym (demand-word 0 3 refl (lit< tt)))
-      ∙ key-says unitNanos (keyRecord row)
-      (ap (validKey unitNanos) (sym (List·getD-map keyRecord (records 22 n xs) i []))
-      ∙ all-index (validKey unitNanos) (keyRecord []) (keyRecords n xs) a i (omega (arith, length-map (records 22 n xs) keyRecord, length-records 22 n xs)))
+      ∙ key-says u (keyOf u row)
+      (ap (validKey u) (sym (List·getD-map (keyOf u) (records 22 n xs) i []))
+      ∙ all-index (validKey u) (keyOf u []) (keyRecords u n xs) a i (omega (arith, length-map (records 22 n xs) (keyOf u), length-records 22 n xs)))
       .demand .finite
 
 -- ---- the cap
@@ -212,55 +212,49 @@ only-exact f p (x ∷ xs) e =
     (λ q. only-no p x xs q ∙ only-exact f p xs t ∙ ap (map f) (sym (only-no p x xs q)))
 
 -- a key record's first word is its key
-pub first-word : (x : KeyRecord) → records.key 1 (keyWords unitNanos x) ≡ x .key ∷ []
+pub first-word : (u : Units) (x : KeyRecord) → records.key 1 (keyWords u x) ≡ x .key ∷ []
 unfolding keyWords
-first-word x = refl
+first-word u x = refl
 
--- those that pass are all
-only-all : {A : Type 0} (p : A → Bool) (ys : List A) → ((y : A) → p y ≡ true) → only p ys ≡ ys
-unfolding only
-only-all p [] f = refl
-only-all p (y ∷ ys) f = only-yes p y ys (f y) ∙ ap (λ zs. y ∷ zs) (only-all p ys f)
-
-module _ (n : ℕ) (xs : List ℕ) (k : HeldKeys n xs) (c most : ℕ) (es : List HotEntry) where
+module _ (u : Units) (n : ℕ) (xs : List ℕ) (k : LentKeys u n xs) (c most : ℕ) (es : List HotEntry) where
   abbrev rows : List (List ℕ)
   rows = records 22 n xs
 
   abbrev keys : List KeyRecord
-  keys = keyRecords n xs
+  keys = keyRecords u n xs
 
   abbrev left : List ℕ → Bool
-  left x = staysUnder c most es keys (keyRecord x)
+  left x = staysUnder c most es keys (keyOf u x)
 
   many : length keys ≡ n
-  many = length-map rows keyRecord ∙ length-records 22 n xs
+  many = length-map rows (keyOf u) ∙ length-records 22 n xs
 
   rise : rising keyOfKey keys ≡ true
-  rise = rising-says keyOfKey (keyWords unitNanos) first-word keys (ap (ascending 1) (sym (k .exact)) ∙ k .ascends)
+  rise = rising-says keyOfKey (keyWords u) (first-word u) keys (ap (ascending 1) (sym (k .exact)) ∙ k .ascends)
 
   -- no more keys than the most: all stay
   pub cap-none : n ≤ most → Tabled n (only left rows) xs xs
   unfolding staysUnder isTracked any
   cap-none h =
       let z : length keys - most ≡ 0 = omega (arith, many) in
-      let e : only left rows ≡ rows = only-all left rows (λ x. ap (λ (m : ℕ). not (isTracked (take m (sorted (weaker c) (only (λ (y : KeyRecord). not (isHot (y .key) es)) keys))) (keyRecord x .key))) z) in
+      let e : only left rows ≡ rows = only-all left rows (all-pass left [] rows (λ i l. ap (λ (m : ℕ). not (isTracked (take m (sorted (weaker c) (only (λ (y : KeyRecord). not (isHot (y .key) es)) keys))) (keyOf u (getD rows i []) .key))) z)) in
       record { count = sym (ap length e ∙ length-records 22 n xs); words = sym (ap (λ (rs : List (List ℕ)). table rs xs) e ∙ table-same 22 n xs (k .fit)) }
 
   -- else those that the cut leaves
-  pub cap-done : (ranks : List ℕ) (limit lower : ℕ) (flags : List Bool) (m : ℕ) (ys : List ℕ) → take n ranks ≡ map (λ (x : List ℕ). keyRank c es (keyRecord x)) rows → Cut top (n - most) (take n ranks) limit → lower ≡ below limit (take n ranks) → take n flags ≡ staying limit (n - most - lower) (take n ranks) → Tabled m (flagged flags rows) xs ys → Tabled m (only left rows) xs ys
-  cap-done ranks limit lower flags m ys e u b f t =
-      let w : take n ranks ≡ map (keyRank c es) keys = e ∙ sym (map-map (keyRank c es) keyRecord rows) in
+  pub cap-done : (ranks : List ℕ) (limit lower : ℕ) (flags : List Bool) (m : ℕ) (ys : List ℕ) → take n ranks ≡ map (λ (x : List ℕ). keyRank c es (keyOf u x)) rows → Cut top (n - most) (take n ranks) limit → lower ≡ below limit (take n ranks) → take n flags ≡ staying limit (n - most - lower) (take n ranks) → Tabled m (flagged flags rows) xs ys → Tabled m (only left rows) xs ys
+  cap-done ranks limit lower flags m ys e cut b f t =
+      let w : take n ranks ≡ map (keyRank c es) keys = e ∙ sym (map-map (keyRank c es) (keyOf u) rows) in
       let g : take n flags ≡ map left rows =
       f
       ∙ (λ i. staying limit (n - most - b i) (take n ranks))
       ∙ (λ i. staying limit (sym many i - most - below limit (w i)) (w i))
-      ∙ cap-flags c most es keys rise limit (subst (λ (v : ℕ). Cut top (v - most) (map (keyRank c es) keys) limit) (sym many) (subst (λ (ws : List ℕ). Cut top (n - most) ws limit) w u))
-      ∙ map-map (staysUnder c most es keys) keyRecord rows in
+      ∙ cap-flags c most es keys rise limit (subst (λ (v : ℕ). Cut top (v - most) (map (keyRank c es) keys) limit) (sym many) (subst (λ (ws : List ℕ). Cut top (n - most) ws limit) w cut))
+      ∙ map-map (staysUnder c most es keys) (keyOf u) rows in
       kept-by 22 n left flags m xs ys g t
 
   -- they are the words of the keys that `capped` leaves
-  pub cap-leaves : only left rows ≡ map (keyWords unitNanos) (only (staysUnder c most es keys) keys)
+  pub cap-leaves : only left rows ≡ map (keyWords u) (only (staysUnder c most es keys) keys)
   cap-leaves =
-      only-exact (λ (x : List ℕ). keyWords unitNanos (keyRecord x)) left rows (k .exact ∙ map-map (keyWords unitNanos) keyRecord rows)
-      ∙ sym (map-map (keyWords unitNanos) keyRecord (only left rows))
-      ∙ ap (map (keyWords unitNanos)) (map-only keyRecord (staysUnder c most es keys) rows)
+      only-exact (λ (x : List ℕ). keyWords u (keyOf u x)) left rows (k .exact ∙ map-map (keyWords u) (keyOf u) rows)
+      ∙ sym (map-map (keyWords u) (keyOf u) (only left rows))
+      ∙ ap (map (keyWords u)) (map-only (keyOf u) (staysUnder c most es keys) rows)

@@ -1,22 +1,22 @@
 -- Laws: records kept by their flags, written to the front of their table one after the other.
 use mathlib.Core.Path.{_≡_, refl, sym, ap, _∙_}
 use mathlib.Core.Bool.{Bool, true, false, cond}
-use mathlib.Core.List.{List, [], _∷_, _++_, append-nil, append-assoc, map}
+use mathlib.Core.List.{List, [], _∷_, _++_, append-nil, map}
 use Prim.Native.Nat.{ℕ, zero, suc, _+_, _-_, _*_, _≤_, _<_}
 use native.Mathlib.Nat.{le-of-suc-le-suc, not-suc-le-zero, mul-le-mul-right}
 use native.Mathlib.Numerals.{add-one}
 use native.Mathlib.Omega.{arith}
 use lib.ListN.{length, take, drop, getD, length-append, length-take}
-use lib.Seq.{slice, length-slice, take-at, drop-drop, drop-append-add}
+use lib.Seq.{slice, length-slice}
 use Rattle.records.specs.Words.{copyWithin, copied, paste}
 use Rattle.records.specs.Records.{records, flat, table}
-use Rattle.records.proofs.WordLaws.{copied-is}
-use Rattle.records.proofs.RecordLaws.{row, record-at, flat-append, length-records}
-use Rattle.records.proofs.SpliceLaws.{slice-is}
-use Rattle.records.proofs.TableLaws.{Wide, wide-records, length-flat, length-table}
+use Rattle.records.proofs.Words.WordLaws.{copied-is}
+use Rattle.records.proofs.Words.RecordLaws.{row, record-at, length-records}
+use Rattle.records.proofs.Changes.SpliceLaws.{slice-is}
+use Rattle.records.proofs.Tables.TableLaws.{Wide, wide-records, length-flat, length-table}
 use Rattle.questions.specs.Lists.{only}
 use Rattle.records.specs.Typed.{Tabled}
-use Rattle.records.proofs.KeepLaws.{drop-past, paste-more}
+use Rattle.records.proofs.Changes.KeepLaws.{drop-past, paste-more}
 use Rattle.limiter.specs.Steps.TickSteps.{flagged}
 
 -- ---- the elements whose flag is set

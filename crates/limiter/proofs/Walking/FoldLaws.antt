@@ -15,21 +15,22 @@ use lib.Seq.{drop-cons, getD-drop, set-getD, sets-eq}
 use Rattle.float.specs.Magnitude.{magnitude}
 use Rattle.records.specs.Words.{paste}
 use Rattle.records.specs.Records.{records}
-use Rattle.records.proofs.RecordLaws.{length-records}
-use Rattle.records.proofs.TableLaws.{Wide}
-use Rattle.records.proofs.TypedLaws.{wide-map}
-use Rattle.gcra.specs.Packed.{unitNanos}
+use Rattle.records.proofs.Words.RecordLaws.{length-records}
+use Rattle.records.proofs.Tables.TableLaws.{Wide}
+use Rattle.records.proofs.Tables.TypedLaws.{wide-map}
 use Rattle.questions.proofs.ListLaws.{all-index, map-map}
 use Rattle.demand.specs.Estimators.Estimator.{alpha, foldedBy, tickedFrom}
 use Rattle.demand.specs.Estimators.Estimator as estimator
-use Rattle.demand.proofs.HotSet.Words.{bits-back}
+use Rattle.hot.proofs.HotSet.Words.{bits-back}
 use Rattle.limiter.specs.declared.Parameters.{Parameters}
 use Rattle.limiter.specs.declared.ticks.Alpha.{Alpha}
-use Rattle.limiter.specs.State.{Settings, Estimate, KeyRecord, validKey, floatOf, floatWord, estimateWords, estimateOf, keyWords}
+use Rattle.limiter.specs.State.{Settings, Estimate, KeyRecord, validKey, floatOf, floatWord, estimateWords, estimateOf, keyWords, keyOf}
 use Rattle.limiter.specs.Ticks.{Others, folded, foldedKey}
-use Rattle.limiter.specs.Steps.TickSteps.{keyRecord, keyRecords, HeldKeys, HeldKey, foldedFor, foldedRow, alphaOf, AreAlphas}
+use Rattle.limiter.specs.Steps.TickSteps.{keyRecords, LentKeys, LentKey, foldedFor, foldedRow, alphaOf, AreAlphas}
 use Rattle.limiter.proofs.States.RecordValidLaws.{held, GoodEstimate}
 use Rattle.limiter.proofs.Walking.RowLaws.{getD-mapped, Mapping, map-here}
+use Rattle.limiter.proofs.States.WrittenLaws.{key-long}
+use Rattle.gcra.specs.declared.Units.{Units}
 
 -- ---- numbers
 
@@ -102,11 +103,6 @@ module _ (at : ℕ) (t : List ℕ) (h : at + 4 ≤ length t) where
 
 -- ---- one estimator of a key
 
--- a key has 22 words
-pub key-long : (k : KeyRecord) → length (keyWords unitNanos k) ≡ 22
-unfolding keyWords
-key-long k = refl
-
 -- a key with four estimates
 abbrev pub withEstimates : KeyRecord → (d q n s : Estimate) → KeyRecord
 withEstimates k d q n s = record { key = k .key; limit = k .limit; demand = d; requests = q; denials = n; shadowDenials = s; gcra = k .gcra }
@@ -119,24 +115,24 @@ again-same : (e : Estimate) → GoodEstimate e → again e ≡ e
 again-same e g = (λ i. record { rate = ofBits-toBits binary64 (e .rate) (held (e .rate) (g .rate)) i; attempts = e .attempts; last = e .last; since = e .since })
 
 -- the estimate at a place in the words of a key
-module _ (at : ℕ) (within : at + 4 ≤ 22) (K : Estimate → KeyRecord) (pasted : (d e : Estimate) → paste at (estimateWords e) (keyWords unitNanos (K d)) ≡ keyWords unitNanos (K e)) (there : (d : Estimate) → estimateOf (drop at (keyWords unitNanos (K d))) ≡ again d) (first-word : (d : Estimate) → getD (keyWords unitNanos (K d)) at 0 ≡ floatWord (d .rate)) (d : Estimate) (g : GoodEstimate d) where
-  slot-ready : (r : List ℕ) → r ≡ keyWords unitNanos (K d) → (at + 4 ≤ length r) × (magnitude (ofBits binary64 (getD r at 0)) ≡ true)
+module _ (u : Units) (at : ℕ) (within : at + 4 ≤ 22) (K : Estimate → KeyRecord) (pasted : (d e : Estimate) → paste at (estimateWords e) (keyWords u (K d)) ≡ keyWords u (K e)) (there : (d : Estimate) → estimateOf (drop at (keyWords u (K d))) ≡ again d) (first-word : (d : Estimate) → getD (keyWords u (K d)) at 0 ≡ floatWord (d .rate)) (d : Estimate) (g : GoodEstimate d) where
+  slot-ready : (r : List ℕ) → r ≡ keyWords u (K d) → (at + 4 ≤ length r) × (magnitude (ofBits binary64 (getD r at 0)) ≡ true)
   slot-ready r e = (
-    omega (arith, ap length e, key-long (K d)),
+    omega (arith, ap length e, key-long u (K d)),
     ap (λ (x : List ℕ). magnitude (ofBits binary64 (getD x at 0))) e
         ∙ ap (λ (w : ℕ). magnitude (ofBits binary64 w)) (first-word d)
         ∙ ap magnitude (ofBits-toBits binary64 (d .rate) (held (d .rate) (g .rate)))
         ∙ g .finite,
   )
 
-  slot-folded : (r r′ : List ℕ) (b c now : ℕ) → r ≡ keyWords unitNanos (K d) → b ≡ c → r′ ≡ paste at (estimateWords (folded b now (estimateOf (drop at r)))) r → r′ ≡ keyWords unitNanos (K (folded c now d))
+  slot-folded : (r r′ : List ℕ) (b c now : ℕ) → r ≡ keyWords u (K d) → b ≡ c → r′ ≡ paste at (estimateWords (folded b now (estimateOf (drop at r)))) r → r′ ≡ keyWords u (K (folded c now d))
   slot-folded r r′ b c now e t p =
       p
       ∙ (λ i. paste at (estimateWords (folded (t i) now (estimateOf (drop at (e i))))) (e i))
-      ∙ ap (λ (x : Estimate). paste at (estimateWords (folded c now x)) (keyWords unitNanos (K d))) (there d ∙ again-same d g)
+      ∙ ap (λ (x : Estimate). paste at (estimateWords (folded c now x)) (keyWords u (K d))) (there d ∙ again-same d g)
       ∙ pasted d (folded c now d)
 
-module _ (k : KeyRecord) (d q n s : Estimate) (r : List ℕ) (e : r ≡ keyWords unitNanos (withEstimates k d q n s)) where
+module _ (u : Units) (k : KeyRecord) (d q n s : Estimate) (r : List ℕ) (e : r ≡ keyWords u (withEstimates k d q n s)) where
   abbrev demandSlot : Estimate → KeyRecord
   demandSlot x = withEstimates k x q n s
 
@@ -151,35 +147,35 @@ module _ (k : KeyRecord) (d q n s : Estimate) (r : List ℕ) (e : r ≡ keyWords
 
   pub ready-3 : GoodEstimate d → (7 ≤ length r) × (magnitude (ofBits binary64 (getD r 3 0)) ≡ true)
   unfolding keyWords paste
-  ready-3 g = slot-ready 3 (lit≤ tt) demandSlot (λ x y. refl) (λ x. refl) (λ x. refl) d g r e
+  ready-3 g = slot-ready u 3 (lit≤ tt) demandSlot (λ x y. refl) (λ x. refl) (λ x. refl) d g r e
 
-  pub folded-3 : GoodEstimate d → (r′ : List ℕ) (b c now : ℕ) → b ≡ c → r′ ≡ paste 3 (estimateWords (folded b now (estimateOf (drop 3 r)))) r → r′ ≡ keyWords unitNanos (withEstimates k (folded c now d) q n s)
+  pub folded-3 : GoodEstimate d → (r′ : List ℕ) (b c now : ℕ) → b ≡ c → r′ ≡ paste 3 (estimateWords (folded b now (estimateOf (drop 3 r)))) r → r′ ≡ keyWords u (withEstimates k (folded c now d) q n s)
   unfolding keyWords paste
-  folded-3 g r′ b c now = slot-folded 3 (lit≤ tt) demandSlot (λ x y. refl) (λ x. refl) (λ x. refl) d g r r′ b c now e
+  folded-3 g r′ b c now = slot-folded u 3 (lit≤ tt) demandSlot (λ x y. refl) (λ x. refl) (λ x. refl) d g r r′ b c now e
 
   pub ready-7 : GoodEstimate q → (11 ≤ length r) × (magnitude (ofBits binary64 (getD r 7 0)) ≡ true)
   unfolding keyWords paste
-  ready-7 g = slot-ready 7 (lit≤ tt) requestSlot (λ x y. refl) (λ x. refl) (λ x. refl) q g r e
+  ready-7 g = slot-ready u 7 (lit≤ tt) requestSlot (λ x y. refl) (λ x. refl) (λ x. refl) q g r e
 
-  pub folded-7 : GoodEstimate q → (r′ : List ℕ) (b c now : ℕ) → b ≡ c → r′ ≡ paste 7 (estimateWords (folded b now (estimateOf (drop 7 r)))) r → r′ ≡ keyWords unitNanos (withEstimates k d (folded c now q) n s)
+  pub folded-7 : GoodEstimate q → (r′ : List ℕ) (b c now : ℕ) → b ≡ c → r′ ≡ paste 7 (estimateWords (folded b now (estimateOf (drop 7 r)))) r → r′ ≡ keyWords u (withEstimates k d (folded c now q) n s)
   unfolding keyWords paste
-  folded-7 g r′ b c now = slot-folded 7 (lit≤ tt) requestSlot (λ x y. refl) (λ x. refl) (λ x. refl) q g r r′ b c now e
+  folded-7 g r′ b c now = slot-folded u 7 (lit≤ tt) requestSlot (λ x y. refl) (λ x. refl) (λ x. refl) q g r r′ b c now e
 
   pub ready-11 : GoodEstimate n → (15 ≤ length r) × (magnitude (ofBits binary64 (getD r 11 0)) ≡ true)
   unfolding keyWords paste
-  ready-11 g = slot-ready 11 (lit≤ tt) denialSlot (λ x y. refl) (λ x. refl) (λ x. refl) n g r e
+  ready-11 g = slot-ready u 11 (lit≤ tt) denialSlot (λ x y. refl) (λ x. refl) (λ x. refl) n g r e
 
-  pub folded-11 : GoodEstimate n → (r′ : List ℕ) (b c now : ℕ) → b ≡ c → r′ ≡ paste 11 (estimateWords (folded b now (estimateOf (drop 11 r)))) r → r′ ≡ keyWords unitNanos (withEstimates k d q (folded c now n) s)
+  pub folded-11 : GoodEstimate n → (r′ : List ℕ) (b c now : ℕ) → b ≡ c → r′ ≡ paste 11 (estimateWords (folded b now (estimateOf (drop 11 r)))) r → r′ ≡ keyWords u (withEstimates k d q (folded c now n) s)
   unfolding keyWords paste
-  folded-11 g r′ b c now = slot-folded 11 (lit≤ tt) denialSlot (λ x y. refl) (λ x. refl) (λ x. refl) n g r r′ b c now e
+  folded-11 g r′ b c now = slot-folded u 11 (lit≤ tt) denialSlot (λ x y. refl) (λ x. refl) (λ x. refl) n g r r′ b c now e
 
   pub ready-15 : GoodEstimate s → (19 ≤ length r) × (magnitude (ofBits binary64 (getD r 15 0)) ≡ true)
   unfolding keyWords paste
-  ready-15 g = slot-ready 15 (lit≤ tt) shadowSlot (λ x y. refl) (λ x. refl) (λ x. refl) s g r e
+  ready-15 g = slot-ready u 15 (lit≤ tt) shadowSlot (λ x y. refl) (λ x. refl) (λ x. refl) s g r e
 
-  pub folded-15 : GoodEstimate s → (r′ : List ℕ) (b c now : ℕ) → b ≡ c → r′ ≡ paste 15 (estimateWords (folded b now (estimateOf (drop 15 r)))) r → r′ ≡ keyWords unitNanos (withEstimates k d q n (folded c now s))
+  pub folded-15 : GoodEstimate s → (r′ : List ℕ) (b c now : ℕ) → b ≡ c → r′ ≡ paste 15 (estimateWords (folded b now (estimateOf (drop 15 r)))) r → r′ ≡ keyWords u (withEstimates k d q n (folded c now s))
   unfolding keyWords paste
-  folded-15 g r′ b c now = slot-folded 15 (lit≤ tt) shadowSlot (λ x y. refl) (λ x. refl) (λ x. refl) s g r r′ b c now e
+  folded-15 g r′ b c now = slot-folded u 15 (lit≤ tt) shadowSlot (λ x y. refl) (λ x. refl) (λ x. refl) s g r r′ b c now e
 
 -- ---- all keys
 
@@ -188,37 +184,37 @@ exact-at : {A : Type 0} (f : A → A) (d : A) (xs : List A) (i : ℕ) → i < le
 exact-at f d xs i h e = ap (λ zs. getD zs i d) e ∙ getD-mapped f d d xs i h
 
 -- record i of valid keys is that of one
-pub held-row : (n : ℕ) (xs : List ℕ) (i : ℕ) → HeldKeys n xs → i < n → HeldKey (getD (records 22 n xs) i [])
-held-row n xs i k h =
+pub lent-row : (u : Units) (n : ℕ) (xs : List ℕ) (i : ℕ) → LentKeys u n xs → i < n → LentKey u (getD (records 22 n xs) i [])
+lent-row u n xs i k h =
     let rs : List (List ℕ) = records 22 n xs in
     let l : i < length rs = omega (arith, length-records 22 n xs) in
-    let e : rs ≡ map (λ (x : List ℕ). keyWords unitNanos (keyRecord x)) rs = k .exact ∙ map-map (keyWords unitNanos) keyRecord rs in
+    let e : rs ≡ map (λ (x : List ℕ). keyWords u (keyOf u x)) rs = k .exact ∙ map-map (keyWords u) (keyOf u) rs in
     record {
-      exact = exact-at (λ (x : List ℕ). keyWords unitNanos (keyRecord x)) [] rs i l e;
+      exact = exact-at (λ (x : List ℕ). keyWords u (keyOf u x)) [] rs i l e;
       valid =
-          ap (validKey unitNanos) (sym (List·getD-map keyRecord rs i []))
-          ∙ all-index (validKey unitNanos) (keyRecord []) (keyRecords n xs) (k .valids) i (omega (arith, length-map rs keyRecord));
+          ap (validKey u) (sym (List·getD-map (keyOf u) rs i []))
+          ∙ all-index (validKey u) (keyOf u []) (keyRecords u n xs) (k .valids) i (omega (arith, length-map rs (keyOf u)));
     }
 
 -- and so it is where it is lent
-pub lent-key : (n : ℕ) (gs : List (List ℕ)) (xs t : List ℕ) (i : ℕ) → Mapping 22 n gs xs t i → HeldKeys n xs → i < n → HeldKey (midOf (i * 22) (i * 22 + 22 - i * 22) t)
-lent-key n gs xs t i m k h = subst (λ (r : List ℕ). HeldKey r) (sym (map-here 22 n gs xs t i m h)) (held-row n xs i k h)
+pub lent-key : (u : Units) (n : ℕ) (gs : List (List ℕ)) (xs t : List ℕ) (i : ℕ) → Mapping 22 n gs xs t i → LentKeys u n xs → i < n → LentKey u (midOf (i * 22) (i * 22 + 22 - i * 22) t)
+lent-key u n gs xs t i m k h = subst (λ (r : List ℕ). LentKey u r) (sym (map-here 22 n gs xs t i m h)) (lent-row u n xs i k h)
 
 -- a folded key has 22 words
-pub folded-wide : (c d now n : ℕ) (xs : List ℕ) → Wide 22 (map (foldedRow c d now) (records 22 n xs))
-folded-wide c d now n xs = wide-map (foldedRow c d now) 22 (λ r. key-long (foldedFor c d now (keyRecord r))) (records 22 n xs)
+pub folded-wide : (u : Units) (c d now n : ℕ) (xs : List ℕ) → Wide 22 (map (foldedRow u c d now) (records 22 n xs))
+folded-wide u c d now n xs = wide-map (foldedRow u c d now) 22 (λ r. key-long u (foldedFor c d now (keyOf u r))) (records 22 n xs)
 
 -- as many, and each in its place
-pub folded-many : (c d now n : ℕ) (xs : List ℕ) → length (map (foldedRow c d now) (records 22 n xs)) ≡ n
-folded-many c d now n xs = length-map (records 22 n xs) (foldedRow c d now) ∙ length-records 22 n xs
+pub folded-many : (u : Units) (c d now n : ℕ) (xs : List ℕ) → length (map (foldedRow u c d now) (records 22 n xs)) ≡ n
+folded-many u c d now n xs = length-map (records 22 n xs) (foldedRow u c d now) ∙ length-records 22 n xs
 
-pub folded-at : (c d now n : ℕ) (xs : List ℕ) (i : ℕ) → i < n → foldedRow c d now (getD (records 22 n xs) i []) ≡ getD (map (foldedRow c d now) (records 22 n xs)) i []
-folded-at c d now n xs i h = sym (getD-mapped (foldedRow c d now) [] [] (records 22 n xs) i (omega (arith, length-records 22 n xs)))
+pub folded-at : (u : Units) (c d now n : ℕ) (xs : List ℕ) (i : ℕ) → i < n → foldedRow u c d now (getD (records 22 n xs) i []) ≡ getD (map (foldedRow u c d now) (records 22 n xs)) i []
+folded-at u c d now n xs i h = sym (getD-mapped (foldedRow u c d now) [] [] (records 22 n xs) i (omega (arith, length-records 22 n xs)))
 
 -- what `fold_keys` leaves are the words of the folded keys
-pub folded-rows : (c d now n : ℕ) (xs : List ℕ) → map (foldedRow c d now) (records 22 n xs) ≡ map (keyWords unitNanos) (map (foldedFor c d now) (keyRecords n xs))
-folded-rows c d now n xs =
-    sym (ap (map (keyWords unitNanos)) (map-map (foldedFor c d now) keyRecord (records 22 n xs)) ∙ map-map (keyWords unitNanos) (λ (x : List ℕ). foldedFor c d now (keyRecord x)) (records 22 n xs))
+pub folded-rows : (u : Units) (c d now n : ℕ) (xs : List ℕ) → map (foldedRow u c d now) (records 22 n xs) ≡ map (keyWords u) (map (foldedFor c d now) (keyRecords u n xs))
+folded-rows u c d now n xs =
+    sym (ap (map (keyWords u)) (map-map (foldedFor c d now) (keyOf u) (records 22 n xs)) ∙ map-map (keyWords u) (λ (x : List ℕ). foldedFor c d now (keyOf u x)) (records 22 n xs))
 
 -- as a tick folds them
 pub folded-key-is : (par : Parameters) (s : Settings) (o : Others) (now n : ℕ) (k : KeyRecord) → foldedKey par s o now n k ≡ foldedFor (s .config .«demand_time_constant») (par .«denial_time_constant») now k

@@ -3,7 +3,7 @@ use mathlib.Core.Path.{_≡_, refl, ap}
 use mathlib.Core.Bool.{cond}
 use mathlib.Core.List.{List, [], _∷_, map}
 use Prim.Native.Nat.{ℕ}
-use Rattle.demand.specs.declared.hot_set.HotEntry.{HotEntry}
+use Rattle.hot.specs.declared.hot_set.HotEntry.{HotEntry}
 use Rattle.limiter.specs.declared.Parameters.{Parameters}
 use Rattle.limiter.specs.State.{Settings, KeyRecord}
 use Rattle.limiter.specs.Ticks.{Others, Settled, foldedKey, updated, stays, passOne}

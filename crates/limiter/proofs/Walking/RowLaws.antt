@@ -14,9 +14,9 @@ use lib.Seq.{take-all, take-suc, drop-drop, drop-cons, drop-length, length-take-
 use Rattle.records.specs.Words.{paste}
 use Rattle.records.specs.Records.{records, flat, table, splice, insertAt, insertable, inserted}
 use Rattle.questions.proofs.Tests.{and-intro}
-use Rattle.records.proofs.RecordLaws.{row, record-at, length-records, fits-intro, flat-append}
-use Rattle.records.proofs.TableLaws.{Wide, wide-take, length-flat, length-table, records-table}
-use Rattle.records.proofs.KeepLaws.{drop-past, paste-more}
+use Rattle.records.proofs.Words.RecordLaws.{row, record-at, length-records, fits-intro, flat-append}
+use Rattle.records.proofs.Tables.TableLaws.{Wide, wide-take, length-flat, length-table, records-table}
+use Rattle.records.proofs.Changes.KeepLaws.{drop-past, paste-more}
 
 -- ---- read one after the other
 

@@ -6,7 +6,7 @@ use native.Mathlib.Omega.{arith}
 use borrow.Author.Tests.{le-leb, lt-leb}
 use borrow.Author.Needs.{needs}
 use lib.Dec.{leb}
-use Rattle.demand.proofs.Peers.Validity.ScanLaws.{stop, goes}
+use Rattle.questions.proofs.Tests.{stop, goes}
 use Rattle.limiter.specs.State.{within}
 use Rattle.limiter.proofs.have_room.Statement.{statement}
 use Rattle.limiter.proofs.have_room.Tie as tie

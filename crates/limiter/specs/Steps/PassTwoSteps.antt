@@ -8,21 +8,21 @@ use lib.Ieee.{Float, binary64, mul, div}
 use lib.ListN.{length}
 use Rattle.float.specs.Order.{minimumNumber}
 use Rattle.records.specs.Records.{records, table}
-use Rattle.gcra.specs.Packed.{unitNanos}
 use Rattle.gcra.specs.Rate.{perSecond, setQuota}
-use Rattle.demand.specs.declared.hot_set.HotEntry.{HotEntry}
+use Rattle.gcra.specs.declared.Units.{Units}
+use Rattle.hot.specs.declared.hot_set.HotEntry.{HotEntry}
 use Rattle.demand.specs.Estimators.Estimator.{whole}
 use Rattle.demand.specs.Allocation.{isFloorFactor, isClusterSize, shared}
-use Rattle.demand.specs.HotSet.Set.{entries, isHot}
+use Rattle.hot.specs.HotSet.Set.{isHot}
 use Rattle.questions.specs.Lists.{only}
-use Rattle.demand.specs.HotSet.Steps.{EntriesReady}
+use Rattle.hot.specs.HotSet.Steps.{EntriesReady}
 use Rattle.limiter.specs.declared.Limiter.{Limiter}
 use Rattle.limiter.specs.declared.LastTick.the-variants.{At}
 use Rattle.limiter.specs.declared.pass_two.RateTerms.{RateTerms}
-use Rattle.limiter.specs.State.{KeyRecord, LimiterState, LimiterTables, capOf, isTracked, keyWords, valueOf}
+use Rattle.limiter.specs.State.{KeyRecord, LimiterState, LimiterTables, capOf, isTracked, keyWords, valueOf, unitsIn, keyOf}
 use Rattle.limiter.specs.Checks.{capOrNone}
 use Rattle.limiter.specs.Calls.{Holds}
-use Rattle.limiter.specs.Steps.TickSteps.{keyRecord, staysUnder, HeldKeys, shadowKey}
+use Rattle.limiter.specs.Steps.TickSteps.{staysUnder, LentKeys, shadowKey}
 
 -- ---- the rate of a key
 
@@ -54,7 +54,7 @@ totalAt key [] ts = whole 0
 totalAt key (e ∷ es) [] = whole 0
 totalAt key (e ∷ es) (t ∷ ts) = cond (eqb (e .key) key) t (totalAt key es ts)
 
--- the rate of a hot key, and of one that is not; of the latter less where a peer holds it hot
+-- the rate of a hot key, and of one that is not; of the latter no more where it is hot elsewhere
 unfoldable pub hotRate : RateTerms → (limit own total : Float) → Float
 hotRate p limit own total = minimumNumber (shareBy p limit own total) (mul binary64 limit (p .cap))
 
@@ -73,8 +73,8 @@ rateBy p es ts elsewhere k =
 -- ---- the quotas
 
 -- a key with the quota of a rate
-abbrev pub withRate : (rate : Float) (now : ℕ) → KeyRecord → KeyRecord
-withRate rate now k =
+abbrev pub withRate : Units → (rate : Float) (now : ℕ) → KeyRecord → KeyRecord
+withRate u rate now k =
     record {
       key = k .key;
       limit = k .limit;
@@ -82,27 +82,27 @@ withRate rate now k =
       requests = k .requests;
       denials = k .denials;
       shadowDenials = k .shadowDenials;
-      gcra = setQuota (k .gcra) (perSecond unitNanos rate (k .limit .burst)) now;
+      gcra = setQuota (k .gcra) (perSecond u rate (k .limit .burst)) now;
     }
 
 -- a record's words with the quota of a rate
-abbrev pub quotaRow : (now : ℕ) (rate : Float) → List ℕ → List ℕ
-quotaRow now rate r = keyWords unitNanos (withRate rate now (keyRecord r))
+abbrev pub quotaRow : Units → (now : ℕ) (rate : Float) → List ℕ → List ℕ
+quotaRow u now rate r = keyWords u (withRate u rate now (keyOf u r))
 
 -- the keys with the quotas of their rates, each by its flag
-unfoldable pub requoted : RateTerms → List HotEntry → List Float → (now : ℕ) → List Bool → List KeyRecord → List KeyRecord
-requoted p es ts now [] ks = []
-requoted p es ts now (b ∷ bs) [] = []
-requoted p es ts now (b ∷ bs) (k ∷ ks) = withRate (rateBy p es ts b k) now k ∷ requoted p es ts now bs ks
+unfoldable pub requoted : Units → RateTerms → List HotEntry → List Float → (now : ℕ) → List Bool → List KeyRecord → List KeyRecord
+requoted u p es ts now [] ks = []
+requoted u p es ts now (b ∷ bs) [] = []
+requoted u p es ts now (b ∷ bs) (k ∷ ks) = withRate u (rateBy p es ts b k) now k ∷ requoted u p es ts now bs ks
 
 -- ---- after pass one
 
 -- what pass one leaves: n keys with their flags, h hot entries with their totals, and the shadows as they were
 pub record Finishing (l : Limiter) (keys : List ℕ) (n : ℕ) (hot : List ℕ) (h : ℕ) (shadows : List ℕ) (flags : List Bool) (totals : List Float)
     (size : ℕ) : Type 0 where
-  pub keys-held : HeldKeys n keys
+  pub keys-lent : LentKeys (unitsIn l) n keys
   pub keys-few : n ≤ 4096
-  pub hot-held : EntriesReady h hot
+  pub hot-lent : EntriesReady h hot
   pub shadows-fit : l .shadows * 4 ≤ length shadows
   pub shadows-few : l .shadows ≤ 4096
   pub flags-fit : n ≤ length flags
@@ -115,7 +115,7 @@ abbrev pub keysLeft : Limiter → List HotEntry → List KeyRecord → List KeyR
 keysLeft l es ks = only (staysUnder (l .config .«demand_time_constant») (l .config .«max_tracked_keys») es ks) ks
 
 abbrev pub shadowsLeft : Limiter → List KeyRecord → List ℕ → List (List ℕ)
-shadowsLeft l ks shadows = only (λ (r : List ℕ). isTracked ks (shadowKey r)) (records 4 (l .shadows) shadows)
+shadowsLeft l ks shadows = only (λ (r : List ℕ). isTracked ks (shadowKey (unitsIn l) r)) (records 4 (l .shadows) shadows)
 
 -- quotas are set, then the cap is kept, then shadows go with their keys
 pub record Finished (l : Limiter) (keys : List ℕ) (es : List HotEntry) (h : ℕ) (shadows : List ℕ) (set : List KeyRecord) (now : ℕ) (r : Limiter)
@@ -129,7 +129,7 @@ pub record Finished (l : Limiter) (keys : List ℕ) (es : List HotEntry) (h : �
         hot = h;
         shadows = length (shadowsLeft l (keysLeft l es set) shadows);
       }
-  pub keys-left : keys′ ≡ table (map (keyWords unitNanos) (keysLeft l es set)) (table (map (keyWords unitNanos) set) keys)
+  pub keys-left : keys′ ≡ table (map (keyWords (unitsIn l)) (keysLeft l es set)) (table (map (keyWords (unitsIn l)) set) keys)
   pub shadows-left : shadows′ ≡ table (shadowsLeft l (keysLeft l es set) shadows) shadows
 
 -- the value and the tables after a tick

@@ -4,20 +4,19 @@ use mathlib.Core.Path.{_≡_}
 use mathlib.Core.Bool.{Bool, true, cond, not, _&&_, _||_}
 use mathlib.Core.List.{List, [], _∷_, map}
 use lib.Dec.{ltb, eqb}
-use lib.Ieee.{Float}
 use lib.ListN.{length, take}
 use Rattle.float.specs.Order.{place}
 use Rattle.records.specs.Records.{records, ascending}
-use Rattle.gcra.specs.Packed.{unitNanos}
-use Rattle.demand.specs.declared.hot_set.HotEntry.{HotEntry}
+use Rattle.hot.specs.declared.hot_set.HotEntry.{HotEntry}
 use Rattle.demand.specs.Estimators.Estimator.{alpha}
-use Rattle.demand.specs.HotSet.Set.{isHot}
+use Rattle.hot.specs.HotSet.Set.{isHot}
 use Rattle.questions.specs.Lists.{all, only}
 use Rattle.limiter.specs.declared.ticks.Alpha.{Alpha}
 use Rattle.limiter.specs.declared.ticks.Alphas.{Alphas}
 use Rattle.limiter.specs.declared.Parameters.{Parameters}
 use Rattle.limiter.specs.State.{Settings, KeyRecord, floatWord, floatOf, isTracked, keyWords, keyOf, shadowOf, validKey}
 use Rattle.limiter.specs.Ticks.{Others, updated, stays, folded, unbiasedRate, sorted, rankedBefore}
+use Rattle.gcra.specs.declared.Units.{Units}
 
 -- the elements whose flag is set
 unfoldable pub flagged : {A : Type 0} → List Bool → List A → List A
@@ -48,12 +47,9 @@ staying limit room (w ∷ ws) =
 
 -- ---- the cap on keys
 
--- the key that a record's words stand for
-abbrev pub keyRecord : List ℕ → KeyRecord
-keyRecord r = keyOf unitNanos r
-
-abbrev pub keyRecords : (n : ℕ) → List ℕ → List KeyRecord
-keyRecords n xs = map keyRecord (records 22 n xs)
+-- the keys that n records' words stand for
+abbrev pub keyRecords : Units → (n : ℕ) → List ℕ → List KeyRecord
+keyRecords u n xs = map (keyOf u) (records 22 n xs)
 
 -- no rank: the greatest word
 abbrev pub top : ℕ
@@ -83,10 +79,10 @@ unfoldable pub staysUnder : (c most : ℕ) → List HotEntry → List KeyRecord 
 staysUnder c most es ks k = not (isTracked (victimsOf c most es ks) (k .key))
 
 -- valid keys at the front of their table, in words that are exactly theirs
-pub record HeldKeys (n : ℕ) (xs : List ℕ) : Type 0 where
+pub record LentKeys (u : Units) (n : ℕ) (xs : List ℕ) : Type 0 where
   pub fit : n * 22 ≤ length xs
-  pub exact : records 22 n xs ≡ map (keyWords unitNanos) (keyRecords n xs)
-  pub valids : all (validKey unitNanos) (keyRecords n xs) ≡ true
+  pub exact : records 22 n xs ≡ map (keyWords u) (keyRecords u n xs)
+  pub valids : all (validKey u) (keyRecords u n xs) ≡ true
   pub ascends : ascending 1 (records 22 n xs) ≡ true
 
 -- ---- the fold of a key's estimators
@@ -119,19 +115,19 @@ foldedFor c d now k =
     }
 
 -- a record's words after the fold
-abbrev pub foldedRow : (c d now : ℕ) → List ℕ → List ℕ
-foldedRow c d now r = keyWords unitNanos (foldedFor c d now (keyRecord r))
+abbrev pub foldedRow : Units → (c d now : ℕ) → List ℕ → List ℕ
+foldedRow u c d now r = keyWords u (foldedFor c d now (keyOf u r))
 
 -- the words of one valid key
-pub record HeldKey (r : List ℕ) : Type 0 where
-  pub exact : r ≡ keyWords unitNanos (keyRecord r)
-  pub valid : validKey unitNanos (keyRecord r) ≡ true
+pub record LentKey (u : Units) (r : List ℕ) : Type 0 where
+  pub exact : r ≡ keyWords u (keyOf u r)
+  pub valid : validKey u (keyOf u r) ≡ true
 
 -- ---- shadows
 
 -- the key of a shadow's record
-abbrev pub shadowKey : List ℕ → ℕ
-shadowKey r = shadowOf unitNanos r .key
+abbrev pub shadowKey : Units → List ℕ → ℕ
+shadowKey u r = shadowOf u r .key
 
 -- ---- pass one over keys that are folded: which stay, and the hot entries then
 module _ (par : Parameters) (s : Settings) (o : Others) (now n : ℕ) where

@@ -1,4 +1,4 @@
--- `replay::main` is safe. The lengths of the two large buffers are cited: to count them out takes too long.
+-- `replay::main` is safe. The length of the input's buffer is cited: to count it out takes too long.
 use mathlib.Core.Path.{sym}
 use Prim.Native.Nat.{ℕ}
 use lib.ListN.{length-replicate}
@@ -9,14 +9,10 @@ use Rattle.replay.proofs.main.Tie as tie
 slice-aggregate-start : tie.Need-slice-aggregate-start
 slice-aggregate-start c = sym (length-replicate {A = ℕ} 3145729 0)
 
-slice-aggregate-start-2 : tie.Need-slice-aggregate-start-2
-slice-aggregate-start-2 c = sym (length-replicate {A = ℕ} 1372566 0)
-
 pub main-spec : {M : Type 1} → statement M
 main-spec =
     tie.close
     (tie.spec
     slice-aggregate-start
-    slice-aggregate-start-2
     (λ c κs. search needs)
     (λ c. search needs))

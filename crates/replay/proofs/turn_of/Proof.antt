@@ -4,13 +4,7 @@ use Rattle.replay.proofs.turn_of.Statement.{statement}
 use Rattle.replay.proofs.turn_of.Tie as tie
 
 same-length : tie.Need-same-length
-same-length c =
-    let after = c .before .before .before .before .before .before .before .before .before .before .before .before
-    .before .before .before .before .before .before .before .before .before .before in
-    let answered = after .before .before in
-    let n = answered .before .before .before .before .before .before .before .before .before .before .before .before
-    .before .before .before .next-line in
-    search (needs, n)
+same-length c = search (needs, c .before .before .before .before .before .before .before .before .before .before .before .before .before .before .before .before .before .before .input)
 
 pub turn-of-spec : {M : Type 1} → statement M
 turn-of-spec =
@@ -23,14 +17,4 @@ turn-of-spec =
     (λ c κs. search needs)
     (λ c κs. search needs)
     same-length
-    (λ c. search needs)
-    (λ c. search needs)
-    (λ c. search needs)
-    (λ c. search needs)
-    (λ c. search needs)
-    (λ c. search needs)
-    (λ c. search needs)
-    (λ c. search needs)
-    (λ c. search needs)
-    (λ c. search needs)
     (λ c. search needs))

@@ -16,11 +16,11 @@ use Rattle.gcra.specs.declared.Gcra.{Gcra}
 use Rattle.gcra.specs.Packed.{Accepted, maxBurst, validQuota}
 use Rattle.gcra.specs.Rate.{carried, sameQuota}
 use Rattle.gcra.specs.Meter.{isAllow, tatWord, decision, check}
-use Rattle.gcra.proofs.Validity.{valid-quota}
-use Rattle.gcra.proofs.Checks.{check-deny, check-fits}
-use Rattle.gcra.proofs.Count.{full, within, Allowed, allows}
-use Rattle.gcra.proofs.Rates.{equal-same, by-quota, set-fits}
-use Rattle.gcra.proofs.Carry.{carry-keeps}
+use Rattle.gcra.proofs.Packed.Validity.{valid-quota}
+use Rattle.gcra.proofs.Meter.Checks.{check-deny, check-fits}
+use Rattle.gcra.proofs.Meter.Count.{full, within, Allowed, allows}
+use Rattle.gcra.proofs.Rate.Rates.{equal-same, by-quota, set-fits}
+use Rattle.gcra.proofs.Rate.Carry.{carry-keeps}
 use Rattle.run.specs.Seen.{Seen, goesOn, change, changes, share, shares, last, allowedIn, burstOf, bound, KeepsToTheBound, Onward, stays, Kept, largestBurst, isSmall, Small, Premises}
 use Rattle.run.proofs.Count.Slots.{Carries, carried-over}
 use Rattle.run.proofs.Count.Turns.{Gate, unchecked, checked, Turn, absent, drops, makes, keeps, sets, Turns, carriedTo, gate-quota, Fits}

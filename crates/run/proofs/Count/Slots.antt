@@ -4,7 +4,7 @@ use Prim.Native.Nat.{ℕ, zero, suc, _+_, _-_, _*_, _/_, _≤_, _<_}
 use mathlib.Core.Path.{_≡_, refl}
 use native.Mathlib.Omega.{arith}
 use native.Mathlib.Nat.{lt-div-mul-add}
-use Rattle.gcra.proofs.Count.{within}
+use Rattle.gcra.proofs.Meter.Count.{within}
 
 -- what a change of quota keeps of the slots ahead of the reading: it loses less than one, of B or fewer
 abbrev pub Carries : (B T T′ t y y′ : ℕ) → Type 0

@@ -20,10 +20,10 @@ use Rattle.gcra.specs.Rate.{quotientNanos, perSecond, debtSlots, slotNanos, car
 use Rattle.demand.specs.Decay.Weight.{next, weight}
 use Rattle.demand.specs.Estimators.Estimator.{alpha, folded as estimator-folded, tickedFrom, unbiasedFrom}
 use Rattle.demand.specs.Allocation.{isRate, isFloorFactor, isClusterSize, shared}
-use Rattle.demand.specs.HotSet.Set.{words as hotset-words, entry as hotset-entry, entries, validSize, valid as hotset-valid, get as hotset-get, put, validEntry, validEntries, remove, weaker, admit, promoteFrom, promote, belowThreshold, updateWith}
+use Rattle.hot.specs.HotSet.Set.{words as hotset-words, entry as hotset-entry, entries, validSize, valid as hotset-valid, get as hotset-get, put, validEntry, validEntries, remove, weaker, admit, promoteFrom, promote, belowThreshold, updateWith}
 use Rattle.records.specs.Fields.{isTime}
 use Rattle.questions.specs.Lists.{only, all, any, those, replaced}
-use Rattle.limiter.specs.State.{isTracked, settingsWords, keyWords, isAlpha, areSizes, validLimit, validSettings, validKey, validKeys, validHot, validShadows, valid as state-valid, within}
+use Rattle.limiter.specs.State.{isTracked, settingsWords, keyWords, isAlpha, areSizes, validLimit, validSettings, validKey, validKeys, validHot, validShadows, valid as state-valid, within, unitsFor, parametersFor}
 use Rattle.limiter.specs.Checks.{newKeyFactor, coldQuota, entry as checks-entry, checkIn, recordTally, hasPlace, countersFit}
 use Rattle.limiter.specs.Ticks.{folded as ticks-folded, unbiasedRate, passOne, rateOf, victims, capped, tickWith}
 use Rattle.run.proofs.Standing.AnswerCases.{checkFrom, changeFrom}
@@ -92,5 +92,5 @@ unfolding seen-of-key moves shownBy repliedTo checkFrom changeFrom span climb ie
     isClusterSize shared hotset-words hotset-entry entries validSize hotset-valid hotset-get put remove weaker admit promoteFrom promote
     belowThreshold updateWith isTime only all any those replaced isTracked settingsWords keyWords isAlpha areSizes validLimit validSettings validKey
     validEntry validEntries validKeys validHot validShadows state-valid within newKeyFactor coldQuota checks-entry checkIn recordTally hasPlace
-    countersFit ticks-folded unbiasedRate passOne rateOf victims capped tickWith asked made trace
+    countersFit ticks-folded unbiasedRate passOne rateOf victims capped tickWith parametersFor unitsFor asked made trace
 reached = record { four = refl; at-most-four = refl; premises = omega arith }

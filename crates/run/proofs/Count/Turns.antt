@@ -15,8 +15,8 @@ use Rattle.gcra.specs.declared.Gcra.{Gcra}
 use Rattle.gcra.specs.Packed.{validQuota}
 use Rattle.gcra.specs.Rate.{carried, sameQuota, setQuota}
 use Rattle.gcra.specs.Meter.{isAllow, tatWord, decision, check}
-use Rattle.gcra.proofs.Checks.{check-quota, check-fits, check-raises}
-use Rattle.gcra.proofs.Rates.{by-quota, set-fits}
+use Rattle.gcra.proofs.Meter.Checks.{check-quota, check-fits, check-raises}
+use Rattle.gcra.proofs.Rate.Rates.{by-quota, set-fits}
 use Rattle.run.specs.Seen.{Seen, goesOn, lowered, change, NeverLowered}
 
 -- ---- turns

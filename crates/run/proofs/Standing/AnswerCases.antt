@@ -14,21 +14,21 @@ use Rattle.gcra.specs.declared.RateAnswer.{RateAnswer}
 use Rattle.gcra.specs.declared.RateAnswer.the-variants as rate-answer
 use Rattle.questions.specs.Questions.{Answer, refused, given}
 use Rattle.gcra.specs.Calls.{checkAnswer, quotaAnswer, rateAnswer}
-use Rattle.demand.specs.declared.hot_set.SinceAnswer.{SinceAnswer}
-use Rattle.demand.specs.declared.hot_set.SinceAnswer.the-variants as since-answer
-use Rattle.demand.specs.declared.peer_demand.ChangeAnswer.{ChangeAnswer}
-use Rattle.demand.specs.declared.peer_demand.ChangeAnswer.the-variants as change-answer
+use Rattle.hot.specs.declared.hot_set.SinceAnswer.{SinceAnswer}
+use Rattle.hot.specs.declared.hot_set.SinceAnswer.the-variants as since-answer
+use Rattle.peers.specs.declared.peer_demand.ChangeAnswer.{ChangeAnswer}
+use Rattle.peers.specs.declared.peer_demand.ChangeAnswer.the-variants as change-answer
 use Rattle.demand.specs.declared.answers.FlagAnswer.{FlagAnswer}
 use Rattle.demand.specs.declared.answers.FlagAnswer.the-variants as flag-answer
 use Rattle.demand.specs.declared.answers.LenAnswer.{LenAnswer}
 use Rattle.demand.specs.declared.answers.LenAnswer.the-variants as len-answer
-use Rattle.demand.specs.declared.peer_demand.Heard.{Heard}
-use Rattle.demand.specs.declared.peer_demand.HeardAnswer.{HeardAnswer}
-use Rattle.demand.specs.declared.peer_demand.HeardAnswer.the-variants as heard-answer
-use Rattle.demand.specs.declared.peer_demand.TotalAnswer.{TotalAnswer}
-use Rattle.demand.specs.declared.peer_demand.TotalAnswer.the-variants as total-answer
-use Rattle.demand.specs.HotSet.Calls.{sinceAnswer}
-use Rattle.demand.specs.Peers.Calls.{changeAnswer, heardAnswer, totalAnswer}
+use Rattle.peers.specs.declared.peer_demand.Heard.{Heard}
+use Rattle.peers.specs.declared.peer_demand.HeardAnswer.{HeardAnswer}
+use Rattle.peers.specs.declared.peer_demand.HeardAnswer.the-variants as heard-answer
+use Rattle.peers.specs.declared.peer_demand.TotalAnswer.{TotalAnswer}
+use Rattle.peers.specs.declared.peer_demand.TotalAnswer.the-variants as total-answer
+use Rattle.hot.specs.HotSet.Calls.{sinceAnswer}
+use Rattle.peers.specs.Peers.Calls.{changeAnswer, heardAnswer, totalAnswer}
 use Rattle.demand.specs.Answers.{flagAnswer, lenAnswer}
 use Rattle.limiter.specs.declared.Limit.{Limit}
 use Rattle.limiter.specs.declared.Config.{Config}

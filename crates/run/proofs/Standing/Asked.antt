@@ -4,15 +4,14 @@ use mathlib.Core.Path.{_≡_, refl, sym, ap, _∙_, subst}
 use mathlib.Core.Bool.{Bool, true, false, cond, _&&_, and-false}
 use mathlib.Core.List.{List, [], _∷_, _++_}
 use Rattle.questions.proofs.Tests.{split, both}
-use Rattle.gcra.specs.Packed.{unitNanos}
 use Rattle.questions.specs.Questions.{Question, _asks_, refused, answer, passes, changed, firstNo}
-use Rattle.demand.specs.Peers.State as peer-state
+use Rattle.peers.specs.Peers.State as peer-state
 use Rattle.limiter.specs.declared.Config.{Config}
 use Rattle.limiter.specs.State as limiter-state
-use Rattle.limiter.specs.State.{haveRoom, lengths}
+use Rattle.limiter.specs.State.{haveRoom, lengths, unitsOf}
 use Rattle.image.specs.Image.{State, valid}
 use Rattle.image.specs.Calls.{here}
-use Rattle.run.specs.Run.{Held, Lent, lend, lentBy}
+use Rattle.run.specs.Run.{Memory, Lent, lend, lentBy}
 use Rattle.run.proofs.Standing.Stands.{Stands, same-config, limiter-lent, peers-lent}
 
 -- ---- a call's questions: some on its arguments alone, 1 and 2, and the others on a state
@@ -94,13 +93,13 @@ module _ {S : Type 0} {room v room′ v′ : Bool} {y y′ : S} (g : Agrees room
 
 -- ---- what is lent of holdings that stand for a state
 
-module _ (h : Held) (s : State) (n : Lent) where
+module _ (h : Memory) (s : State) (n : Lent) where
   -- the first n words, as they answer by the lengths k: of the limiter
   abbrev pub LimiterAgrees : Lent → Type 0
   LimiterAgrees k =
-      Agrees (haveRoom (h .limiter .config) (lengths (lend n h .tables))) (limiter-state.isValid unitNanos (h .limiter) (lend n h .tables))
-      (limiter-state.stateOf unitNanos (h .limiter) (lend n h .tables)) (haveRoom (s .limiter .settings .config) (k .limiter))
-      (limiter-state.valid unitNanos (s .limiter)) (s .limiter)
+      Agrees (haveRoom (h .limiter .config) (lengths (lend n h .tables))) (limiter-state.isValid (limiter-state.unitsIn (h .limiter)) (h .limiter) (lend n h .tables))
+      (limiter-state.stateOf (limiter-state.unitsIn (h .limiter)) (h .limiter) (lend n h .tables)) (haveRoom (s .limiter .settings .config) (k .limiter))
+      (limiter-state.valid (unitsOf (s .limiter .settings)) (s .limiter)) (s .limiter)
 
   -- of the peers
   abbrev pub PeersAgree : Lent → Type 0
@@ -112,21 +111,21 @@ module _ (h : Held) (s : State) (n : Lent) where
   abbrev pub BothAgree : Lent → Type 0
   BothAgree k =
       Agrees (haveRoom (h .limiter .config) (lengths (lend n h .tables)) && peer-state.haveRoom (peer-state.lengths (lend n h .peerTables)))
-      (limiter-state.isValid unitNanos (h .limiter) (lend n h .tables) && peer-state.isValid (h .peers) (lend n h .peerTables))
+      (limiter-state.isValid (limiter-state.unitsIn (h .limiter)) (h .limiter) (lend n h .tables) && peer-state.isValid (h .peers) (lend n h .peerTables))
       (here (h .limiter) (lend n h .tables) (h .peers) (lend n h .peerTables))
       (haveRoom (s .limiter .settings .config) (k .limiter) && peer-state.haveRoom (k .peers)) (valid s) s
 
 -- by the words that there are
-module _ {h : Held} {s : State} (n : Lent) (st : Stands h s) where
+module _ {h : Memory} {s : State} (n : Lent) (st : Stands h s) where
   -- the limiter's
   limiter-agrees-there : LimiterAgrees h s n (lentBy (lend n h))
-  unfolding limiter-state.isValid
+  unfolding limiter-state.isValid limiter-state.stateOf
   limiter-agrees-there =
       record {
         rooms = ap (λ (k : Config). haveRoom k (lengths (lend n h .tables))) (same-config (st .limiter));
         rest =
             λ room. let x = limiter-lent (n .limiter) room (st .limiter) in
-            ((λ i. x .exact i && limiter-state.valid unitNanos (x .reads i)), x .reads);
+            ((λ i. x .exact i && limiter-state.valid (unitsOf (x .reads i .settings)) (x .reads i)), x .reads);
       }
 
   -- the peers'
@@ -153,7 +152,7 @@ module _ {h : Held} {s : State} (n : Lent) (st : Stands h s) where
       }
 
 -- by the lent lengths, where there are as many words
-module _ {h : Held} {s : State} (n : Lent) (enough : lentBy (lend n h) ≡ n) (st : Stands h s) where
+module _ {h : Memory} {s : State} (n : Lent) (enough : lentBy (lend n h) ≡ n) (st : Stands h s) where
   -- the limiter's
   pub limiter-agrees : LimiterAgrees h s n n
   limiter-agrees = subst (LimiterAgrees h s n) enough (limiter-agrees-there n st)

@@ -3,22 +3,21 @@ use mathlib.Core.Path.{_≡_, refl, ap, subst}
 use mathlib.Core.Bool.{Bool, true, cond, _&&_}
 use mathlib.Core.List.{List, _++_}
 use Rattle.questions.proofs.Tests.{both}
-use Rattle.gcra.specs.Packed.{unitNanos}
 use Rattle.questions.specs.Questions.{Question, answer, passes, changed}
 use Rattle.questions.proofs.Answers.{changed-passed}
-use Rattle.gcra.proofs.Encoding.{units-accepted}
-use Rattle.demand.specs.Peers.State as peer-state
+use Rattle.peers.specs.Peers.State as peer-state
 use Rattle.limiter.specs.declared.Limiter.{Limiter}
 use Rattle.limiter.specs.declared.Changed.{Changed}
 use Rattle.limiter.specs.State as limiter-state
-use Rattle.limiter.specs.State.{parametersOf, settingsOf, LimiterState, LimiterTables, lengths, haveRoom, valueOf}
+use Rattle.limiter.specs.State.{parametersOf, settingsOf, LimiterState, LimiterTables, lengths, haveRoom, valueOf, unitsOf, unitsIn}
 use Rattle.limiter.specs.Checks.{clusterQuestions}
 use Rattle.limiter.specs.Ticks.{tick, tickWith, tickWithShares, noOthers, peersOthers}
 use Rattle.limiter.specs.Calls as limiter
 use Rattle.limiter.specs.Calls.{Ticking, stateQuestions, bothQuestions, here}
 use Rattle.limiter.proofs.Calls.TickValidLaws.{tick-valid}
 use Rattle.limiter.proofs.States.WrittenLaws.{written-holds}
-use Rattle.run.specs.Run.{Held, Change, Query, What, Told, Reply, Does, Tells, Acts, lend, returned}
+use Rattle.limiter.proofs.States.StateValidLaws.{units-of-accepted}
+use Rattle.run.specs.Run.{Memory, Change, Query, What, Told, Reply, Does, Tells, Acts, lend, returned}
 use Rattle.run.specs.Typed.{typed, typedWhat}
 use Rattle.run.specs.Demand3.{CanCall}
 use Rattle.run.proofs.Standing.AnswerCases.{checkFrom, tracedFrom, changeFrom, ratesFrom, keyQuotaFrom, limitFrom, sinceFrom, heardFrom, quotaFrom, rateFrom, configFrom, flagFrom, lenFrom, totalFrom, check-back, traced-back, change-back, rates-back, key-quota-back, limit-back, since-back, heard-back, quota-back, rate-back, config-back, flag-back, len-back, total-back}
@@ -31,26 +30,26 @@ tickResult qs y l = record { answer = changeFrom (answer qs tt); limiter = chang
 
 -- where the questions pass only of a valid state with room for it
 can-tick : (qs : List Question) (y : LimiterState) (l : Limiter) (t : LimiterTables)
-    → (passes qs ≡ true → (limiter-state.valid unitNanos y ≡ true) × (haveRoom (y .settings .config) (lengths t) ≡ true))
-    → Ticking qs y l t (tickResult qs y l) (changed qs t (limiter-state.written unitNanos y t))
+    → (passes qs ≡ true → (limiter-state.valid (unitsOf (y .settings)) y ≡ true) × (haveRoom (y .settings .config) (lengths t) ≡ true))
+    → Ticking qs y l t (tickResult qs y l) (changed qs t (limiter-state.written (unitsOf (y .settings)) y t))
 can-tick qs y l t keeps =
     record {
       answered = change-back _;
       limiter = refl;
       held =
-          λ e. let k = keeps e in subst (limiter.Holds y t) (changed-passed (limiter-state.written unitNanos y t) t qs e)
+          λ e. let k = keeps e in subst (limiter.Holds y t) (changed-passed (limiter-state.written (unitsOf (y .settings)) y t) t qs e)
           (written-holds y t (k .0) (k .1));
-      unmoved = λ e. ap (λ (b : Bool). cond b (limiter-state.written unitNanos y t) t) e;
+      unmoved = λ e. ap (λ (b : Bool). cond b (limiter-state.written (unitsOf (y .settings)) y t) t) e;
     }
 
 -- a lent state that passes question 2 is valid
-lent-valid : (l : Limiter) (t : LimiterTables) → limiter-state.isValid unitNanos l t ≡ true → limiter-state.valid unitNanos (here l t) ≡ true
+lent-valid : (l : Limiter) (t : LimiterTables) → limiter-state.isValid (unitsIn l) l t ≡ true → limiter-state.valid (unitsIn l) (here l t) ≡ true
 unfolding limiter-state.isValid
-lent-valid l t e = both (limiter-state.areExact unitNanos l t) _ e .1
+lent-valid l t e = both (limiter-state.areExact (unitsIn l) l t) _ e .1
 
 -- ---- each call that changes
 
-can-do : (p : Held) (c : Change) → typed c ≡ true → (r : Reply) × (p′ : Held) × Does p c r p′
+can-do : (p : Memory) (c : Change) → typed c ≡ true → (r : Reply) × (p′ : Memory) × Does p c r p′
 unfolding typed passes tickWith limiter-state.stateOf
 can-do p (Change.check key now m) w =
     (_, _, Does.checks {r = record { answer = checkFrom _; limiter = _ }} (record { answered = check-back _; limiter = refl; words = refl }))
@@ -72,25 +71,25 @@ can-do p (Change.tick now m) w = (
   _,
   _,
   Does.ticks
-      (can-tick (stateQuestions (p .limiter) (p .tables) ++ clusterQuestions m) (tick (parametersOf (settingsOf (p .limiter))) unitNanos now m (here (p .limiter) (p .tables))) (p .limiter)
+      (can-tick (stateQuestions (p .limiter) (p .tables) ++ clusterQuestions m) (tick (parametersOf (settingsOf (p .limiter))) (unitsIn (p .limiter)) now m (here (p .limiter) (p .tables))) (p .limiter)
       (p .tables)
       (λ e.
       let a = both (haveRoom (p .limiter .config) (lengths (p .tables))) _ e in
-      let b = both (limiter-state.isValid unitNanos (p .limiter) (p .tables)) _ (a .1) in
-      (tick-valid (parametersOf (settingsOf (p .limiter))) unitNanos units-accepted (noOthers m) now m (here (p .limiter) (p .tables)) w (lent-valid (p .limiter) (p .tables) (b .0)), a .0))),
+      let b = both (limiter-state.isValid (unitsIn (p .limiter)) (p .limiter) (p .tables)) _ (a .1) in
+      (tick-valid (parametersOf (settingsOf (p .limiter))) (unitsIn (p .limiter)) (units-of-accepted (settingsOf (p .limiter))) (noOthers m) now m (here (p .limiter) (p .tables)) w (lent-valid (p .limiter) (p .tables) (b .0)), a .0))),
 )
 can-do p (Change.tick-with-shares now m) w = (
   _,
   _,
   Does.ticks-with-shares
       (can-tick (bothQuestions (p .limiter) (p .tables) (p .peers) (p .peerTables) ++ clusterQuestions m)
-      (tickWithShares (parametersOf (settingsOf (p .limiter))) unitNanos (peer-state.stateOf (p .peers) (p .peerTables)) now m (here (p .limiter) (p .tables))) (p .limiter) (p .tables)
+      (tickWithShares (parametersOf (settingsOf (p .limiter))) (unitsIn (p .limiter)) (peer-state.stateOf (p .peers) (p .peerTables)) now m (here (p .limiter) (p .tables))) (p .limiter) (p .tables)
       (λ e.
       let a = both (haveRoom (p .limiter .config) (lengths (p .tables)) && peer-state.haveRoom (peer-state.lengths (p .peerTables))) _ e in
-      let b = both (limiter-state.isValid unitNanos (p .limiter) (p .tables) && peer-state.isValid (p .peers) (p .peerTables)) _ (a .1) in (
-        tick-valid (parametersOf (settingsOf (p .limiter))) unitNanos units-accepted (peersOthers (here (p .limiter) (p .tables) .settings) (peer-state.stateOf (p .peers) (p .peerTables)) m) now m
+      let b = both (limiter-state.isValid (unitsIn (p .limiter)) (p .limiter) (p .tables) && peer-state.isValid (p .peers) (p .peerTables)) _ (a .1) in (
+        tick-valid (parametersOf (settingsOf (p .limiter))) (unitsIn (p .limiter)) (units-of-accepted (settingsOf (p .limiter))) (peersOthers (here (p .limiter) (p .tables) .settings) (peer-state.stateOf (p .peers) (p .peerTables)) m) now m
             (here (p .limiter) (p .tables)) w
-            (lent-valid (p .limiter) (p .tables) (both (limiter-state.isValid unitNanos (p .limiter) (p .tables)) _ (b .0) .0)),
+            (lent-valid (p .limiter) (p .tables) (both (limiter-state.isValid (unitsIn (p .limiter)) (p .limiter) (p .tables)) _ (b .0) .0)),
         both (haveRoom (p .limiter .config) (lengths (p .tables))) _ (a .0) .0,
       ))),
 )
@@ -105,7 +104,7 @@ can-do p (Change.expire now maxAge) w =
 
 -- ---- each call that reads
 
-can-tell : (p : Held) (c : Query) → (r : Told) × Tells p c r
+can-tell : (p : Memory) (c : Query) → (r : Told) × Tells p c r
 can-tell p (Query.key-rates key) = (_, Tells.tells-rates {r = ratesFrom _} (rates-back _))
 can-tell p (Query.quota key) = (_, Tells.tells-quota {r = keyQuotaFrom _} (key-quota-back _))
 can-tell p (Query.limit key) = (_, Tells.tells-limit {r = limitFrom _} (limit-back _))
@@ -133,11 +132,11 @@ can-tell p (Query.save out) = (_, Tells.saves {r = lenFrom _} (record { answered
 
 -- ---- a call as a whole
 
-can-act : (p : Held) (c : What) → typedWhat c ≡ true → (r : Reply) × (p′ : Held) × Acts p c r p′
+can-act : (p : Memory) (c : What) → typedWhat c ≡ true → (r : Reply) × (p′ : Memory) × Acts p c r p′
 can-act p (What.changes c) w = let z = can-do p c w in (z .0, z .1, Acts.does (z .2))
 can-act p (What.reads c) w = let z = can-tell p c in (Reply.tells (z .0), p, Acts.does-tell (z .1))
 
-pub can-step : (h : Held) → CanCall h
+pub can-step : (h : Memory) → CanCall h
 can-step h c w enough =
     let z = can-act (lend (c .lent) h) (c .what) w in
     (z .0, returned (z .1) h, record { enough = enough; after = z .1; acts = z .2; back = refl })

@@ -4,29 +4,27 @@ use Prim.Native.Nat.{ℕ}
 use mathlib.Core.Path.{_≡_, refl, sym, ap, _∙_, subst}
 use mathlib.Core.Bool.{Bool, true, false, cond, _&&_}
 use mathlib.Core.List.{List, map}
-use lib.Dec.{leb}
 use lib.Ieee.{Float}
 use mathlib.Core.Option.{Option}
 use Rattle.records.specs.Records.{records}
 use Rattle.questions.proofs.Tests.{split, both}
-use Rattle.gcra.specs.Packed.{unitNanos}
 use Rattle.questions.specs.Questions.{Question, Answer, passes, changed}
-use Rattle.gcra.proofs.Encoding.{units-accepted}
 use Rattle.questions.proofs.Answers.{changed-passed}
-use Rattle.demand.specs.declared.peer_demand.PeerDemand.{PeerDemand}
-use Rattle.demand.specs.HotSet.Set as hot-set
-use Rattle.demand.specs.Peers.State as peer-state
-use Rattle.demand.specs.Peers.State.{PeersState, PeerTables, peersSize, snapshotKeysSize, contestedSize, withCounts}
+use Rattle.peers.specs.declared.peer_demand.PeerDemand.{PeerDemand}
+use Rattle.hot.specs.HotSet.Set as hot-set
+use Rattle.peers.specs.Peers.State as peer-state
+use Rattle.peers.specs.Peers.State.{PeersState, PeerTables, withCounts}
 use Rattle.records.specs.Typed.{exact}
 use Rattle.limiter.specs.declared.Limiter.{Limiter}
 use Rattle.limiter.specs.declared.Changed.{Changed}
 use Rattle.limiter.specs.State as limiter-state
-use Rattle.limiter.specs.State.{Settings, LimiterState, LimiterTables, lengths, haveRoom, keyWords, keyOf, shadowWords, shadowOf, valueOf}
+use Rattle.limiter.specs.State.{Settings, LimiterState, LimiterTables, lengths, haveRoom, keyWords, keyOf, shadowWords, shadowOf, valueOf, unitsOf, unitsFor, unitsIn}
 use Rattle.limiter.specs.Calls.{Acts, Holds, Ticking}
 use Rattle.limiter.specs.Checks.{setCap}
 use Rattle.limiter.proofs.States.WrittenLaws.{cap-back, last-tick-back, read-back, written-valid, lengths-written}
-use Rattle.image.proofs.StoreLaws as stores
-use Rattle.run.proofs.Standing.Stands.{LimiterStands, PeersStand, putTables, putPeers, limiter-back, peers-back, keys-counted, hot-counted, shadows-counted}
+use Rattle.peers.proofs.Peers.Theorems as peer-laws
+use Rattle.run.proofs.Standing.Stands.{LimiterStands, PeersStand, putTables, putPeers, limiter-back, peers-back, keys-counted, hot-counted, shadows-counted, same-config}
+use Rattle.limiter.proofs.States.StateValidLaws.{units-of-accepted}
 use Rattle.run.proofs.Standing.Asked.{asking, Agrees, same-answer, same-passes, same-state, same-changed}
 
 -- ---- any change
@@ -52,20 +50,20 @@ module _ {Value Tables S : Type 0} {Stand : Value → Tables → S → Type 0} {
 
 -- a state that can be written: it is valid and there is room for it
 pub record Lasting (y : LimiterState) (t : LimiterTables) : Type 0 where
-  pub valid : limiter-state.valid unitNanos y ≡ true
+  pub valid : limiter-state.valid (unitsOf (y .settings)) y ≡ true
   pub room : haveRoom (y .settings .config) (lengths t) ≡ true
 
 -- what is written stands for it
-pub written-stands : (y : LimiterState) (t : LimiterTables) → limiter-state.valid unitNanos y ≡ true
-    → LimiterStands (valueOf y) (limiter-state.written unitNanos y t) y
+pub written-stands : (y : LimiterState) (t : LimiterTables) → limiter-state.valid (unitsOf (y .settings)) y ≡ true
+    → LimiterStands (valueOf y) (limiter-state.written (unitsOf (y .settings)) y t) y
 unfolding limiter-state.isValid
 written-stands y t v =
     record {
       valid = v;
-      reads = read-back unitNanos units-accepted y t v;
+      reads = read-back (unitsOf (y .settings)) (units-of-accepted (y .settings)) y t v;
       exact =
-          both (limiter-state.areExact unitNanos (valueOf y) (limiter-state.written unitNanos y t)) _
-          (written-valid unitNanos units-accepted y t v) .0;
+          both (limiter-state.areExact (unitsOf (y .settings)) (valueOf y) (limiter-state.written (unitsOf (y .settings)) y t)) _
+          (written-valid (unitsOf (y .settings)) (units-of-accepted (y .settings)) y t v) .0;
     }
 
 module _ {A : Type 0} {said : Answer A} {qs : List Question} {value : A} {y : LimiterState} {l l′ : Limiter} {t t′ : LimiterTables} where
@@ -76,13 +74,13 @@ module _ {A : Type 0} {said : Answer A} {qs : List Question} {value : A} {y : Li
       record {
         done = λ e.
             let k = keeps e in
-            let w = limiter-state.written unitNanos y t in
+            let w = limiter-state.written (unitsOf (y .settings)) y t in
             subst (λ (a : Limiter). LimiterStands a (putTables whole t′) y) (changed-passed (valueOf y) l qs e ∙ sym (c .limiter))
             (subst (λ (b : LimiterTables). LimiterStands (valueOf y) (putTables whole b) y) (changed-passed w t qs e ∙ sym (c .words))
-            (limiter-back whole (ap (haveRoom (y .settings .config)) (lengths-written unitNanos units-accepted y t (k .valid) (k .room)) ∙ k .room)
+            (limiter-back whole (ap (haveRoom (y .settings .config)) (lengths-written (unitsOf (y .settings)) (units-of-accepted (y .settings)) y t (k .valid) (k .room)) ∙ k .room)
             (written-stands y t (k .valid))));
         kept = λ e.
-            (c .limiter ∙ ap (λ (b : Bool). cond b (valueOf y) l) e, c .words ∙ ap (λ (b : Bool). cond b (limiter-state.written unitNanos y t) t) e);
+            (c .limiter ∙ ap (λ (b : Bool). cond b (valueOf y) l) e, c .words ∙ ap (λ (b : Bool). cond b (limiter-state.written (unitsOf (y .settings)) y t) t) e);
       }
 
 module _ {qs : List Question} {y : LimiterState} {l : Limiter} {r : Changed} {t t′ : LimiterTables} where
@@ -106,27 +104,29 @@ withSettings z x = record { settings = z; keys = x .keys; hot = x .hot; shadows 
 
 -- stand for the state with those settings
 settings-stand :
-    {l : Limiter} {t : LimiterTables} {x : LimiterState} (z : Settings) → limiter-state.valid unitNanos (withSettings z x) ≡ true
-    → LimiterStands l t x
+    {l : Limiter} {t : LimiterTables} {x : LimiterState} (z : Settings) → limiter-state.valid (unitsOf z) (withSettings z x) ≡ true
+    → z .config ≡ x .settings .config → LimiterStands l t x
     → LimiterStands (valueOf (withSettings z x)) t (withSettings z x)
 unfolding limiter-state.stateOf limiter-state.areExact hot-set.entries
-settings-stand {l} {t} {x} z v s =
+settings-stand {l} {t} {x} z v c s =
+    -- the units are those that the tables stand under
+    let u : unitsOf z ≡ unitsIn l = ap unitsFor (c ∙ sym (same-config s)) in
     record {
       valid = v;
       reads =
           (λ i. record {
             settings = record { config = z .config; cap = cap-back (z .cap) i; lastTick = last-tick-back (z .lastTick) i };
             keys =
-                (ap (λ (m : ℕ). map (keyOf unitNanos) (records 22 m (t .keys))) (keys-counted s) ∙ ap (λ (y : LimiterState). y .keys) (s .reads)) i;
+                ((λ j. map (keyOf (u j)) (records 22 (keys-counted s j) (t .keys))) ∙ ap (λ (y : LimiterState). y .keys) (s .reads)) i;
             hot = (ap (λ (m : ℕ). map hot-set.entry (records 6 m (t .hot))) (hot-counted s) ∙ ap (λ (y : LimiterState). y .hot) (s .reads)) i;
             shadows =
-                (ap (λ (m : ℕ). map (shadowOf unitNanos) (records 4 m (t .shadows))) (shadows-counted s)
+                ((λ j. map (shadowOf (u j)) (records 4 (shadows-counted s j) (t .shadows)))
                 ∙ ap (λ (y : LimiterState). y .shadows) (s .reads)) i;
           });
       exact =
-          (λ i. exact (keyWords unitNanos) (keyOf unitNanos) (records 22 (keys-counted s i) (t .keys))
+          (λ i. exact (keyWords (u i)) (keyOf (u i)) (records 22 (keys-counted s i) (t .keys))
           && (exact hot-set.words hot-set.entry (records 6 (hot-counted s i) (t .hot))
-          && exact (shadowWords unitNanos) (shadowOf unitNanos) (records 4 (shadows-counted s i) (t .shadows))))
+          && exact (shadowWords (u i)) (shadowOf (u i)) (records 4 (shadows-counted s i) (t .shadows))))
           ∙ s .exact;
     }
 
@@ -140,7 +140,7 @@ cap-leaves {qs} {l} {l′} {t} {y} whole x c keeps =
       done = λ e.
           let k = keeps e in
           subst (λ (a : Limiter). LimiterStands a (putTables whole t) (setCap x y)) (changed-passed (valueOf (setCap x y)) l qs e ∙ sym c)
-          (limiter-back whole (k .1 .room) (settings-stand (setCap x y .settings) (k .1 .valid) (k .0)));
+          (limiter-back whole (k .1 .room) (settings-stand (setCap x y .settings) (k .1 .valid) refl (k .0)));
       kept = λ e. (c ∙ ap (λ (b : Bool). cond b (valueOf (setCap x y)) l) e, refl);
     }
 
@@ -149,20 +149,7 @@ cap-leaves {qs} {l} {l′} {t} {y} whole x c keeps =
 module _ (y : PeersState) (t : PeerTables) (e : peer-state.valid y ≡ true) where
   -- what is written stands for the state
   pub peers-written-stand : (p : PeerDemand) → PeersStand (withCounts p y) (peer-state.written y t) y
-  unfolding peer-state.isValid
-  peers-written-stand p =
-      record {
-        valid = e;
-        reads = stores.peers-back y e t p;
-        exact = both (peer-state.areExact (withCounts p y) (peer-state.written y t)) _ (stores.peers-back-valid y e t p) .0;
-      }
-
-  -- the tables stay as long
-  peers-room-written : peer-state.haveRoom (peer-state.lengths t) ≡ true → peer-state.haveRoom (peer-state.lengths (peer-state.written y t)) ≡ true
-  unfolding peer-state.lengths peer-state.haveRoom
-  peers-room-written room =
-      let l = stores.peers-lengths y e t room in
-      (λ i. leb peersSize (l .peers i) && (leb snapshotKeysSize (l .snapshotKeys i) && leb contestedSize (l .contested i))) ∙ room
+  peers-written-stand p = record { valid = e; reads = peer-laws.read-back p y t e; exact = peer-laws.written-exact p y t e }
 
 -- a state that can be written
 pub record PeersLasting (y : PeersState) (t : PeerTables) : Type 0 where
@@ -179,7 +166,7 @@ changes-leave {qs} {y} {p} {p′} {t} {t′} whole value words keeps =
           let k = keeps e in
           subst (λ (a : PeerDemand). PeersStand a (putPeers whole t′) y) (changed-passed (withCounts p y) p qs e ∙ sym value)
           (subst (λ (b : PeerTables). PeersStand (withCounts p y) (putPeers whole b) y) (changed-passed (peer-state.written y t) t qs e ∙ sym words)
-          (peers-back whole (peers-room-written y t (k .valid) (k .room)) (peers-written-stand y t (k .valid) p)));
+          (peers-back whole (peer-laws.written-valid p y t (k .valid) (k .room) .room) (peers-written-stand y t (k .valid) p)));
       kept = λ e. (value ∙ ap (λ (b : Bool). cond b (withCounts p y) p) e, words ∙ ap (λ (b : Bool). cond b (peer-state.written y t) t) e);
     }
 
@@ -195,7 +182,7 @@ module _ {S : Type 0} {room v room′ v′ : Bool} {y y′ : S} (g : Agrees room
       record {
         answered = c .answered ∙ same-answer g front rest value;
         limiter = c .limiter ∙ same-changed g front rest l (λ (x : S). valueOf (after x));
-        words = c .words ∙ same-changed g front rest t (λ (x : S). limiter-state.written unitNanos (after x) t);
+        words = c .words ∙ same-changed g front rest t (λ (x : S). limiter-state.written (unitsOf (after x .settings)) (after x) t);
       }
 
   -- `Ticking`

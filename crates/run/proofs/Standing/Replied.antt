@@ -7,22 +7,21 @@ use lib.ListN.{length, drop}
 use Rattle.records.specs.Records.{records, table, fits}
 use Rattle.gcra.specs.declared.Decision.{Decision}
 use Rattle.questions.specs.Questions.{Question, _asks_, Answer, answer, changed, firstNo}
-use Rattle.gcra.specs.Packed.{unitNanos}
-use Rattle.demand.specs.declared.peer_demand.ChangeAnswer.{ChangeAnswer}
+use Rattle.peers.specs.declared.peer_demand.ChangeAnswer.{ChangeAnswer}
 use Rattle.demand.specs.declared.answers.LenAnswer.{LenAnswer}
-use Rattle.demand.specs.HotSet.Set.{get, isHot, sinceOf}
-use Rattle.demand.specs.Peers.State as peer-state
-use Rattle.demand.specs.Peers.State.{PeersState}
-use Rattle.demand.specs.Peers.Readers as readers
-use Rattle.demand.specs.Peers.Calls.{peersQuestions, reportQuestionsOf, TellsEach}
+use Rattle.hot.specs.HotSet.Set.{get, isHot, sinceOf}
+use Rattle.peers.specs.Peers.State as peer-state
+use Rattle.peers.specs.Peers.State.{PeersState}
+use Rattle.peers.specs.Peers.Readers as readers
+use Rattle.peers.specs.Peers.Calls.{peersQuestions, reportQuestionsOf, TellsEach}
 use Rattle.limiter.specs.declared.Limit.{Limit}
 use Rattle.limiter.specs.State as limiter-state
-use Rattle.limiter.specs.State.{parametersOf, KeyRecord, LimiterState, isTracked}
+use Rattle.limiter.specs.State.{parametersOf, KeyRecord, LimiterState, isTracked, unitsOf}
 use Rattle.limiter.specs.Checks.{newKeyFactor, coldQuota, ownLimit, keyDecision, shadowDecision, checkEach, limitQuestions, clusterQuestions, checkQuestions, checkInQuestions, tracedQuestions, recordQuestions}
 use Rattle.limiter.specs.Readers.{told, ratesOf, hotDemand, mostDenied, deniedRate, shadowDeniedRate}
 use Rattle.limiter.specs.Calls.{answerWords, outputQuestions, eachQuestions, here, stateQuestions, Lists}
 use Rattle.image.specs.Image.{State, image}
-use Rattle.run.specs.Run.{Held, Lent, Change, Query, What, Call, Told, Reply, Does, Tells, Acts, Step, lend, lentBy}
+use Rattle.run.specs.Run.{Memory, Lent, Change, Query, What, Call, Told, Reply, Does, Tells, Acts, Step, lend, lentBy}
 use Rattle.run.specs.Trace.{parametersIn, onLimiter, onPeers, onBoth, asked}
 use Rattle.run.proofs.Standing.Stands.{Stands}
 use Rattle.run.proofs.Standing.Asked.{same-answer, same-first-no, same-changed, limiter-agrees, peers-agree, both-agree}
@@ -32,7 +31,7 @@ use Rattle.run.proofs.Standing.AnswerCases.{checkFrom, tracedFrom, chan
 
 -- what the definitions decide of one check
 abbrev pub decisionOf : Lent → (key : ℕ) → Limit → (now m : ℕ) → Change → State → Answer Decision
-decisionOf n key z now m c s = answer (asked n c s) (keyDecision unitNanos (s .limiter) key z now m)
+decisionOf n key z now m c s = answer (asked n c s) (keyDecision (unitsOf (s .limiter .settings)) (s .limiter) key z now m)
 
 -- of a change
 unfoldable pub repliedTo : Lent → Change → State → Reply
@@ -42,11 +41,11 @@ repliedTo n (Change.check-traced key z y now m) s =
     Reply.traced
     (tracedFrom
     (answer (asked n (Change.check-traced key z y now m) s)
-    (record { decision = keyDecision unitNanos (s .limiter) key z now m; shadow = shadowDecision unitNanos (s .limiter) key z y now m })))
+    (record { decision = keyDecision (unitsOf (s .limiter .settings)) (s .limiter) key z now m; shadow = shadowDecision (unitsOf (s .limiter .settings)) (s .limiter) key z y now m })))
 repliedTo n (Change.check-each list count m out) s =
     Reply.decided-each (changeFrom (answer (asked n (Change.check-each list count m out) s) tt))
     (changed (asked n (Change.check-each list count m out) s) out
-    (table (map answerWords (checkEach unitNanos m (records 2 count list) (s .limiter) .answers)) out))
+    (table (map answerWords (checkEach (unitsOf (s .limiter .settings)) m (records 2 count list) (s .limiter) .answers)) out))
 repliedTo n (Change.tally key y z now m) s = Reply.done (changeFrom (answer (asked n (Change.tally key y z now m) s) tt))
 repliedTo n (Change.set-cap z) s = Reply.done (changeFrom (answer (asked n (Change.set-cap z) s) tt))
 repliedTo n (Change.tick now m) s = Reply.done (changeFrom (answer (asked n (Change.tick now m) s) tt))
@@ -79,7 +78,7 @@ toldTo n (Query.hot-since key) s = Told.since (sinceFrom (answer (onLimiter n s)
 toldTo n (Query.is-hot key) s = Told.flag (flagFrom (answer (onLimiter n s) (isHot key (s .limiter .hot))))
 toldTo n (Query.is-tracked key) s = Told.flag (flagFrom (answer (onLimiter n s) (isTracked (s .limiter .keys) key)))
 toldTo n (Query.new-key-quota z m) s =
-    Told.new-quota (quotaFrom (answer (onLimiter n s ++ (limitQuestions z ++ clusterQuestions m)) (coldQuota unitNanos (s .limiter .settings) z m)))
+    Told.new-quota (quotaFrom (answer (onLimiter n s ++ (limitQuestions z ++ clusterQuestions m)) (coldQuota (unitsOf (s .limiter .settings)) (s .limiter .settings) z m)))
 toldTo n (Query.new-key-factor m) s = Told.factor (rateFrom (answer (onLimiter n s ++ clusterQuestions m) (newKeyFactor (s .limiter .settings) m)))
 toldTo n Query.config s = Told.config (configFrom (answer (onLimiter n s) (s .limiter .settings .config)))
 toldTo n Query.tracked-keys s = Told.size (lenFrom (answer (onLimiter n s) (length (s .limiter .keys))))
@@ -110,28 +109,28 @@ replied n (What.reads c) s = Reply.tells (toldTo n c s)
 
 -- ---- the program's reply is that
 
-module _ {h : Held} {s : State} (n : Lent) (enough : lentBy (lend n h) ≡ n) (st : Stands h s) where
+module _ {h : Memory} {s : State} (n : Lent) (enough : lentBy (lend n h) ≡ n) (st : Stands h s) where
   -- of each call that changes
-  does-reply : (c : Change) {r : Reply} {h′ : Held} → Does (lend n h) c r h′ → r ≡ repliedTo n c s
-  unfolding asked repliedTo
+  does-reply : (c : Change) {r : Reply} {h′ : Memory} → Does (lend n h) c r h′ → r ≡ repliedTo n c s
+  unfolding asked repliedTo limiter-state.stateOf
   does-reply (Change.check key now m) (Does.checks {r = r} c) =
       ap Reply.decided
       (check-said (r .answer)
       (c .answered
-      ∙ same-answer (limiter-agrees n enough st) [] (λ (y : LimiterState). checkQuestions unitNanos y key now m)
-      (λ (y : LimiterState). keyDecision unitNanos y key (ownLimit y) now m)))
+      ∙ same-answer (limiter-agrees n enough st) [] (λ (y : LimiterState). checkQuestions (unitsOf (y .settings)) y key now m)
+      (λ (y : LimiterState). keyDecision (unitsOf (y .settings)) y key (ownLimit y) now m)))
   does-reply (Change.check-in key z now m) (Does.checks-in {r = r} c) =
       ap Reply.decided
       (check-said (r .answer)
       (c .answered
-      ∙ same-answer (limiter-agrees n enough st) [] (λ (y : LimiterState). checkInQuestions unitNanos y key z now m)
-      (λ (y : LimiterState). keyDecision unitNanos y key z now m)))
+      ∙ same-answer (limiter-agrees n enough st) [] (λ (y : LimiterState). checkInQuestions (unitsOf (y .settings)) y key z now m)
+      (λ (y : LimiterState). keyDecision (unitsOf (y .settings)) y key z now m)))
   does-reply (Change.check-traced key z y now m) (Does.checks-traced {r = r} c) =
       ap Reply.traced
       (traced-said (r .answer)
       (c .answered
-      ∙ same-answer (limiter-agrees n enough st) [] (λ (x : LimiterState). tracedQuestions unitNanos x key z y now m)
-      (λ (x : LimiterState). record { decision = keyDecision unitNanos x key z now m; shadow = shadowDecision unitNanos x key z y now m })))
+      ∙ same-answer (limiter-agrees n enough st) [] (λ (x : LimiterState). tracedQuestions (unitsOf (x .settings)) x key z y now m)
+      (λ (x : LimiterState). record { decision = keyDecision (unitsOf (x .settings)) x key z now m; shadow = shadowDecision (unitsOf (x .settings)) x key z y now m })))
   does-reply (Change.check-each list count m out) (Does.checks-each {r = r} c) =
       let front : List Question = (1 asks fits (length list) 2 count) ∷ [] in
       (λ i. Reply.decided-each
@@ -140,12 +139,12 @@ module _ {h : Held} {s : State} (n : Lent) (enough : lentBy (lend n h) ≡ n) (s
       ∙ same-answer (limiter-agrees n enough st) front (λ (y : LimiterState). eachQuestions count m out) (λ (y : LimiterState). tt)) i)
       ((c .output
       ∙ same-changed (limiter-agrees n enough st) front (λ (y : LimiterState). eachQuestions count m out) out
-      (λ (y : LimiterState). table (map answerWords (checkEach unitNanos m (records 2 count list) y .answers)) out)) i))
+      (λ (y : LimiterState). table (map answerWords (checkEach (unitsOf (y .settings)) m (records 2 count list) y .answers)) out)) i))
   does-reply (Change.tally key y z now m) (Does.tallies {r = r} c) =
       ap Reply.done
       (change-said (r .answer)
       (c .answered
-      ∙ same-answer (limiter-agrees n enough st) [] (λ (x : LimiterState). recordQuestions unitNanos x key y z now m) (λ (x : LimiterState). tt)))
+      ∙ same-answer (limiter-agrees n enough st) [] (λ (x : LimiterState). recordQuestions (unitsOf (x .settings)) x key y z now m) (λ (x : LimiterState). tt)))
   does-reply (Change.set-cap z) (Does.sets-cap {r = r} c) =
       ap Reply.done (change-said (r .answer)
       (c .answered ∙ same-answer (limiter-agrees n enough st) [] (λ (x : LimiterState). []) (λ (x : LimiterState). tt)))
@@ -235,7 +234,7 @@ module _ {h : Held} {s : State} (n : Lent) (enough : lentBy (lend n h) ≡ n) (s
       (quota-said r
       (c
       ∙ same-answer (limiter-agrees n enough st) [] (λ (y : LimiterState). limitQuestions z ++ clusterQuestions m)
-      (λ (y : LimiterState). coldQuota unitNanos (y .settings) z m)))
+      (λ (y : LimiterState). coldQuota (unitsOf (y .settings)) (y .settings) z m)))
   tells-same (Query.new-key-factor m) (Tells.tells-factor {r = r} c) =
       ap Told.factor
       (rate-said r
@@ -267,10 +266,10 @@ module _ {h : Held} {s : State} (n : Lent) (enough : lentBy (lend n h) ≡ n) (s
       ((c .output ∙ same-changed g [] rest out (λ (y : State). image y ++ drop (length (image y)) out)) i))
 
   -- of either
-  acts-reply : (c : What) {r : Reply} {h′ : Held} → Acts (lend n h) c r h′ → r ≡ replied n c s
+  acts-reply : (c : What) {r : Reply} {h′ : Memory} → Acts (lend n h) c r h′ → r ≡ replied n c s
   acts-reply (What.changes c) (Acts.does d) = does-reply c d
   acts-reply (What.reads c) (Acts.does-tell d) = ap Reply.tells (tells-same c d)
 
 -- of a call as a whole
-pub steps-reply : {h h′ : Held} {s : State} {c : Call} {r : Reply} → Stands h s → Step h c r h′ → r ≡ replied (c .lent) (c .what) s
+pub steps-reply : {h h′ : Memory} {s : State} {c : Call} {r : Reply} → Stands h s → Step h c r h′ → r ≡ replied (c .lent) (c .what) s
 steps-reply {c = c} st step = acts-reply (c .lent) (step .enough) st (c .what) (step .acts)

@@ -5,21 +5,20 @@ use mathlib.Core.Bool.{true, _&&_}
 use mathlib.Core.List.{List, _++_}
 use lib.ListN.{length, take, drop}
 use Rattle.questions.proofs.Tests.{both, and-intro}
-use Rattle.gcra.specs.Packed.{unitNanos}
 use Rattle.demand.specs.declared.answers.LenAnswer.the-variants as len-answer
 use Rattle.questions.specs.Lists.{all}
-use Rattle.demand.specs.Peers.State as peer-state
-use Rattle.demand.specs.Peers.State.{PeerTables, newPeers}
+use Rattle.peers.specs.Peers.State as peer-state
+use Rattle.peers.specs.Peers.State.{PeerTables, newPeers}
 use Rattle.limiter.specs.declared.Config.{Config}
 use Rattle.limiter.specs.State as limiter-state
-use Rattle.limiter.specs.State.{LimiterTables, lengths}
+use Rattle.limiter.specs.State.{LimiterTables, lengths, unitsOf}
 use Rattle.image.specs.declared.Loaded.{Loaded}
 use Rattle.image.specs.declared.LoadAnswer.{LoadAnswer}
 use Rattle.image.specs.declared.LoadAnswer.the-variants as load-answer
 use Rattle.image.specs.Image.{State, valid, image}
 use Rattle.image.specs.Calls.{here, haveRoom, valuesOf, Loads}
-use Rattle.image.proofs.LoadLaws as images
-use Rattle.run.specs.Run.{Held, Resume, Move, Shown, Resumes, SavesAt, Unbroken, Resumed, lend}
+use Rattle.image.proofs.Loading.LoadLaws as images
+use Rattle.run.specs.Run.{Memory, Resume, Move, Shown, Resumes, SavesAt, Unbroken, Resumed, lend}
 use Rattle.run.specs.Typed.{typedMove}
 use Rattle.run.specs.Trace.{stateAfter}
 use Rattle.run.specs.Demand3.{Room, Served}
@@ -29,30 +28,30 @@ use Rattle.run.proofs.Standing.Left.{written-stands, peers-written-stan
 use Rattle.run.proofs.Standing.Shows.{same-image, shownBy, run-shows, unbroken-shows}
 
 -- what the program holds after a load
-abbrev loadedInto : Loaded → LimiterTables → PeerTables → Held
+abbrev loadedInto : Loaded → LimiterTables → PeerTables → Memory
 loadedInto x t pt = record { limiter = x .limiter; tables = t; peers = x .peers; peerTables = pt }
 
 -- holdings stand for a valid state
-stands-valid : {h : Held} {s : State} → Stands h s → valid s ≡ true
+stands-valid : {h : Memory} {s : State} → Stands h s → valid s ≡ true
 unfolding valid
 stands-valid st = and-intro _ _ (st .limiter .valid) (st .peers .valid)
 
 -- what a load wrote stands for the state that it read
 written-state : (y : State) (t : LimiterTables) (pt : PeerTables) → valid y ≡ true
-    → Stands (loadedInto (valuesOf y) (limiter-state.written unitNanos (y .limiter) t) (peer-state.written (y .peers) pt)) y
+    → Stands (loadedInto (valuesOf y) (limiter-state.written (unitsOf (y .limiter .settings)) (y .limiter) t) (peer-state.written (y .peers) pt)) y
 unfolding valid
 written-state y t pt v =
-    let b = both (limiter-state.valid unitNanos (y .limiter)) (peer-state.valid (y .peers)) v in
+    let b = both (limiter-state.valid (unitsOf (y .limiter .settings)) (y .limiter)) (peer-state.valid (y .peers)) v in
     record { limiter = written-stands (y .limiter) t (b .0); peers = peers-written-stand (y .peers) pt (b .1) newPeers }
 
-module _ {h : Held} {s : State} (w : Resume) (st : Stands h s) where
+module _ {h : Memory} {s : State} (w : Resume) (st : Stands h s) where
   -- what the save is lent
-  abbrev part : Held
+  abbrev part : Memory
   part = lend (w .lent) h
 
   -- where it has room it reads the state, and passes question 2
   reads : (limiter-state.haveRoom (h .limiter .config) (lengths (part .tables)) && peer-state.haveRoom (peer-state.lengths (part .peerTables))) ≡ true
-      → ((limiter-state.isValid unitNanos (h .limiter) (part .tables) && peer-state.isValid (h .peers) (part .peerTables)) ≡ valid s) ×
+      → ((limiter-state.isValid (limiter-state.unitsIn (h .limiter)) (h .limiter) (part .tables) && peer-state.isValid (h .peers) (part .peerTables)) ≡ valid s) ×
       (here (h .limiter) (part .tables) (h .peers) (part .peerTables) ≡ s)
   reads room = let g = both-agree-there (w .lent) st in g .rest (sym (g .rooms) ∙ room)
 
@@ -76,8 +75,8 @@ module _ {h : Held} {s : State} (w : Resume) (st : Stands h s) where
         (λ i. limiter-state.haveRoom (h .limiter .config) (room .enough i .limiter) && peer-state.haveRoom (room .enough i .peers)) ∙ room .lent
 
     -- question 2 passes
-    lent-valid : (limiter-state.isValid unitNanos (h .limiter) (part .tables) ≡ true) × (peer-state.isValid (h .peers) (part .peerTables) ≡ true)
-    lent-valid = both (limiter-state.isValid unitNanos (h .limiter) (part .tables)) _ (reads lent-room .0 ∙ stands-valid st)
+    lent-valid : (limiter-state.isValid (limiter-state.unitsIn (h .limiter)) (h .limiter) (part .tables) ≡ true) × (peer-state.isValid (h .peers) (part .peerTables) ≡ true)
+    lent-valid = both (limiter-state.isValid (limiter-state.unitsIn (h .limiter)) (h .limiter) (part .tables)) _ (reads lent-room .0 ∙ stands-valid st)
 
     -- and 16
     fits : length (image (here (h .limiter) (part .tables) (h .peers) (part .peerTables))) ≤ length (w .out)
@@ -115,26 +114,26 @@ module _ {h : Held} {s : State} (w : Resume) (st : Stands h s) where
             _,
             Resumes.saved-and-loaded can-save
                 (subst (λ (bs : List ℕ). Loads bs (w .tables) (w .peerTables) (load-answer.Is (valuesOf s))
-                (limiter-state.written unitNanos (s .limiter) (w .tables)) (peer-state.written (s .peers) (w .peerTables)))
+                (limiter-state.written (unitsOf (s .limiter .settings)) (s .limiter) (w .tables)) (peer-state.written (s .peers) (w .peerTables)))
                 (sym (saved-image can-save)) (images.can-load s (stands-valid st) (w .tables) (w .peerTables) load-room)),
           );
         }
 
 -- a resumption keeps the state
-pub resumes-stand : (h h′ : Held) (s : State) (w : Resume) → Stands h s → Resumes h w h′ → Stands h′ s
+pub resumes-stand : (h h′ : Memory) (s : State) (w : Resume) → Stands h s → Resumes h w h′ → Stands h′ s
 resumes-stand h h′ s w st (Resumes.saved-and-loaded {t = t} {pt = pt} saves loads) =
     let z = images.loaded s (stands-valid st) (w .tables) (w .peerTables) (load-of w st saves loads) in
-    subst (λ (a : Held). Stands a s) (sym (λ i. loadedInto (z .0 i) (z .1 i) (z .2 i)))
+    subst (λ (a : Memory). Stands a s) (sym (λ i. loadedInto (z .0 i) (z .1 i) (z .2 i)))
     (written-state s (w .tables) (w .peerTables) (stands-valid st))
 
 -- the resumed run shows what the definitions do
 pub resumed-shows :
-    {h last : Held} {s : State} (ms : List Move) {ys : List Shown} → all typedMove ms ≡ true → Stands h s → Resumed h ms ys last
+    {h last : Memory} {s : State} (ms : List Move) {ys : List Shown} → all typedMove ms ≡ true → Stands h s → Resumed h ms ys last
     → (ys ≡ shownBy s ms) × Stands last (stateAfter s ms)
 resumed-shows ms w st u = run-shows Resumes resumes-stand ms w st u
 
 -- so it shows what the unbroken run does
 pub resumed-same :
-    {h a b : Held} {s : State} (ms : List Move) {xs ys : List Shown} → all typedMove ms ≡ true → Stands h s → Unbroken h ms xs a → Resumed h ms ys b
+    {h a b : Memory} {s : State} (ms : List Move) {xs ys : List Shown} → all typedMove ms ≡ true → Stands h s → Unbroken h ms xs a → Resumed h ms ys b
     → ys ≡ xs
 resumed-same ms w st u v = resumed-shows ms w st v .0 ∙ sym (unbroken-shows ms w st u .0)

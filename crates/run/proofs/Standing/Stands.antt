@@ -10,24 +10,23 @@ use lib.Dec.{leb}
 use lib.ListN.{length, take, drop, take-append-drop, length-map}
 use lib.Seq.{take-append-le}
 use Rattle.records.specs.Records.{records}
-use Rattle.records.proofs.RecordLaws.{length-records}
+use Rattle.records.proofs.Words.RecordLaws.{length-records}
 use Rattle.questions.proofs.Tests.{both}
-use Rattle.gcra.specs.Packed.{unitNanos}
-use Rattle.demand.specs.declared.peer_demand.PeerDemand.{PeerDemand}
-use Rattle.demand.specs.HotSet.Set as hot-set
-use Rattle.demand.specs.Peers.Records.{peerWords, snapshotKeyWords, contestedWords, peerOf, snapshotKeyOf, contestedOf}
-use Rattle.demand.specs.Peers.State as peer-state
-use Rattle.demand.specs.Peers.State.{PeersState, PeerTables, PeerLengths}
+use Rattle.peers.specs.declared.peer_demand.PeerDemand.{PeerDemand}
+use Rattle.hot.specs.HotSet.Set as hot-set
+use Rattle.peers.specs.Peers.Records.{peerWords, snapshotKeyWords, contestedWords, peerOf, snapshotKeyOf, contestedOf}
+use Rattle.peers.specs.Peers.State as peer-state
+use Rattle.peers.specs.Peers.State.{PeersState, PeerTables, PeerLengths}
 use Rattle.records.specs.Typed.{exact}
-use Rattle.demand.proofs.Peers.Reports.KeptLaws as peers-kept
-use Rattle.records.proofs.RunLaws.{records-take}
+use Rattle.peers.proofs.Peers.Reports.KeptLaws as peers-kept
+use Rattle.records.proofs.Changes.RunLaws.{records-take}
 use Rattle.limiter.specs.declared.Limiter.{Limiter}
 use Rattle.limiter.specs.State as limiter-state
-use Rattle.limiter.specs.State.{LimiterState, LimiterTables, Lengths, lengths, haveRoom, keyWords, keyOf, shadowWords, shadowOf}
+use Rattle.limiter.specs.State.{LimiterState, LimiterTables, Lengths, lengths, haveRoom, keyWords, keyOf, shadowWords, shadowOf, unitsOf, unitsIn}
 use Rattle.limiter.proofs.States.StateValidLaws.{sizes-say, valid-says, few-shadows}
 use Rattle.limiter.proofs.States.WrittenLaws.{room-says}
 use Rattle.image.specs.Image.{State}
-use Rattle.run.specs.Run.{Held, putBack}
+use Rattle.run.specs.Run.{Memory, putBack}
 
 -- ---- words that are lent
 
@@ -46,9 +45,9 @@ back-same n xs e = ap (λ (k : ℕ). take n xs ++ drop k xs) e ∙ take-append-d
 -- ---- the limiter
 
 pub record LimiterStands (l : Limiter) (t : LimiterTables) (x : LimiterState) : Type 0 where
-  pub valid : limiter-state.valid unitNanos x ≡ true
-  pub reads : limiter-state.stateOf unitNanos l t ≡ x
-  pub exact : limiter-state.areExact unitNanos l t ≡ true
+  pub valid : limiter-state.valid (unitsOf (x .settings)) x ≡ true
+  pub reads : limiter-state.stateOf (unitsIn l) l t ≡ x
+  pub exact : limiter-state.areExact (unitsIn l) l t ≡ true
 
 -- the first words of its tables
 abbrev pub lentTables : Lengths → LimiterTables → LimiterTables
@@ -75,7 +74,7 @@ module _ {l : Limiter} {t : LimiterTables} {x : LimiterState} (s : LimiterStands
   pub keys-counted : length (x .keys) ≡ l .keys
   unfolding limiter-state.stateOf
   keys-counted =
-      ap (λ (y : LimiterState). length (y .keys)) (sym (s .reads)) ∙ length-map (records 22 (l .keys) (t .keys)) (keyOf unitNanos)
+      ap (λ (y : LimiterState). length (y .keys)) (sym (s .reads)) ∙ length-map (records 22 (l .keys) (t .keys)) (keyOf (unitsIn l))
       ∙ length-records 22 (l .keys) (t .keys)
 
   -- as many hot entries
@@ -89,19 +88,19 @@ module _ {l : Limiter} {t : LimiterTables} {x : LimiterState} (s : LimiterStands
   pub shadows-counted : length (x .shadows) ≡ l .shadows
   unfolding limiter-state.stateOf
   shadows-counted =
-      ap (λ (y : LimiterState). length (y .shadows)) (sym (s .reads)) ∙ length-map (records 4 (l .shadows) (t .shadows)) (shadowOf unitNanos)
+      ap (λ (y : LimiterState). length (y .shadows)) (sym (s .reads)) ∙ length-map (records 4 (l .shadows) (t .shadows)) (shadowOf (unitsIn l))
       ∙ length-records 4 (l .shadows) (t .shadows)
 
   -- question 1's room is enough
   roomy-fits : (n : Lengths) → haveRoom (x .settings .config) n ≡ true → Fits l n
   roomy-fits n room =
-      let v = valid-says unitNanos x (s .valid) in
+      let v = valid-says (unitsOf (x .settings)) x (s .valid) in
       let z = sizes-say (x .settings .config) (v .settings .config .sizes) in
       let r = room-says (x .settings .config) n room in
       record {
         keys = omega (arith, keys-counted, v .few, r .for-keys);
         hot = omega (arith, hot-counted, v .hot-few, r .for-hot);
-        shadows = omega (arith, shadows-counted, few-shadows unitNanos x v, v .few, r .for-shadows);
+        shadows = omega (arith, shadows-counted, few-shadows (unitsOf (x .settings)) x v, v .few, r .for-shadows);
       }
 
 -- tables whose records in use are the same read the same
@@ -117,15 +116,15 @@ reads-same {l} {t} {t′} {x} a b c s =
           sym
           (λ i. record {
             settings = limiter-state.settingsOf l;
-            keys = map (keyOf unitNanos) (a i);
+            keys = map (keyOf (unitsIn l)) (a i);
             hot = map hot-set.entry (b i);
-            shadows = map (shadowOf unitNanos) (c i);
+            shadows = map (shadowOf (unitsIn l)) (c i);
           })
           ∙ s .reads;
       exact =
           sym
-          (λ i. exact (keyWords unitNanos) (keyOf unitNanos) (a i)
-          && (exact hot-set.words hot-set.entry (b i) && exact (shadowWords unitNanos) (shadowOf unitNanos) (c i)))
+          (λ i. exact (keyWords (unitsIn l)) (keyOf (unitsIn l)) (a i)
+          && (exact hot-set.words hot-set.entry (b i) && exact (shadowWords (unitsIn l)) (shadowOf (unitsIn l)) (c i)))
           ∙ s .exact;
     }
 
@@ -254,6 +253,6 @@ peers-back {p} {t} {x} whole room s =
 
 -- ---- both
 
-pub record Stands (h : Held) (s : State) : Type 0 where
+pub record Stands (h : Memory) (s : State) : Type 0 where
   pub limiter : LimiterStands (h .limiter) (h .tables) (s .limiter)
   pub peers : PeersStand (h .peers) (h .peerTables) (s .peers)

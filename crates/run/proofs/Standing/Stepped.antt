@@ -8,31 +8,31 @@ use lib.Dec.{leb, ltb}
 use lib.ListN.{length}
 use Rattle.records.specs.Records.{records, fits}
 use Rattle.questions.proofs.Tests.{both}
-use Rattle.gcra.specs.Packed.{unitNanos}
 use Rattle.questions.specs.Questions.{Question, _asks_, passes, changed}
-use Rattle.gcra.proofs.Encoding.{units-accepted}
-use Rattle.demand.specs.declared.peer_demand.PeerDemand.{PeerDemand}
-use Rattle.demand.specs.declared.peer_demand.DemandReport.{DemandReport}
+use Rattle.peers.specs.declared.peer_demand.PeerDemand.{PeerDemand}
+use Rattle.peers.specs.declared.peer_demand.DemandReport.{DemandReport}
 use Rattle.questions.specs.Lists.{all}
-use Rattle.demand.specs.Peers.State as peer-state
-use Rattle.demand.specs.Peers.State.{PeersState, PeerTables}
+use Rattle.peers.specs.Peers.State as peer-state
+use Rattle.peers.specs.Peers.State.{PeersState, PeerTables}
 use Rattle.records.specs.Typed.{isWord}
-use Rattle.demand.specs.Peers.Changes as peer-changes
-use Rattle.demand.specs.Peers.Calls.{Widths, fitsWidths, hasDemands, hasPlace, reportQuestionsOf}
-use Rattle.demand.proofs.Peers.Reports.ReportValidLaws.{apply-valid}
-use Rattle.demand.proofs.Peers.Departures.DepartureLaws.{forget-valid, leave-valid, expire-valid}
+use Rattle.peers.specs.Peers.Changes as peer-changes
+use Rattle.peers.specs.Peers.Calls.{Widths, fitsWidths, hasDemands, hasPlace, reportQuestionsOf}
+use Rattle.peers.proofs.Peers.Reports.ReportValidLaws.{apply-valid}
+use Rattle.peers.proofs.Peers.Departures.DepartureLaws.{forget-valid, leave-valid, expire-valid}
 use Rattle.limiter.specs.declared.Limit.{Limit}
 use Rattle.limiter.specs.declared.Limiter.{Limiter}
 use Rattle.limiter.specs.State as limiter-state
-use Rattle.limiter.specs.State.{parametersOf, Settings, LimiterState, LimiterTables, haveRoom, isF64, valueOf}
+use Rattle.limiter.specs.State.{parametersOf, Settings, LimiterState, LimiterTables, haveRoom, isF64, valueOf, unitsOf, unitsFor}
 use Rattle.limiter.specs.Checks.{ownLimit, keyDecision, shadowDecision, checkIn, checkTraced, recordTally, setCap, checkEach, clusterQuestions, checkQuestions, checkInQuestions, tracedQuestions, recordQuestions}
 use Rattle.limiter.specs.Ticks.{noOthers, peersOthers, tickWith, tick, tickWithShares}
 use Rattle.limiter.specs.Calls.{eachQuestions}
 use Rattle.limiter.proofs.Calls.CheckValidLaws.{Given, check-valid, check-in-valid, traced-valid, record-valid, check-each-valid, pairs-fit, set-cap-valid}
 use Rattle.limiter.proofs.Calls.TickValidLaws.{tick-valid}
 use Rattle.limiter.proofs.LimiterTheorems.{each-settings}
+use Rattle.limiter.proofs.States.StateValidLaws.{units-of-accepted}
+use Rattle.limiter.specs.declared.Config.{Config}
 use Rattle.image.specs.Image.{State}
-use Rattle.run.specs.Run.{Held, Lent, Change, What, Call, Reply, Does, Acts, Step, withLimiter, withPeers, lend, lentBy, returned}
+use Rattle.run.specs.Run.{Memory, Lent, Change, What, Call, Reply, Does, Acts, Step, withLimiter, withPeers, lend, lentBy, returned}
 use Rattle.run.specs.Typed.{typedReport, typed, typedWhat}
 use Rattle.run.specs.Trace.{limiterOnly, peersOnly, onPeers, asked, made, after}
 use Rattle.run.proofs.Standing.Stands.{LimiterStands, PeersStand, Stands, putTables, putPeers, back-same, limiter-lent}
@@ -60,19 +60,19 @@ widths sender now x hs hn hx =
 
 -- a state of which one part alone is changed
 limiter-alone :
-    {h : Held} (s : State) (y : LimiterState) (b : Bool) → LimiterStands (h .limiter) (h .tables) (cond b y (s .limiter))
+    {h : Memory} (s : State) (y : LimiterState) (b : Bool) → LimiterStands (h .limiter) (h .tables) (cond b y (s .limiter))
     → PeersStand (h .peers) (h .peerTables) (s .peers) → Stands h (cond b (limiterOnly s y) s)
 limiter-alone s y true l p = record { limiter = l; peers = p }
 limiter-alone s y false l p = record { limiter = l; peers = p }
 
 -- and likewise the other
 peers-alone :
-    {h : Held} (s : State) (y : PeersState) (b : Bool) → LimiterStands (h .limiter) (h .tables) (s .limiter)
+    {h : Memory} (s : State) (y : PeersState) (b : Bool) → LimiterStands (h .limiter) (h .tables) (s .limiter)
     → PeersStand (h .peers) (h .peerTables) (cond b y (s .peers)) → Stands h (cond b (peersOnly s y) s)
 peers-alone s y true l p = record { limiter = l; peers = p }
 peers-alone s y false l p = record { limiter = l; peers = p }
 
-module _ {h : Held} {s : State} (n : Lent) (enough : lentBy (lend n h) ≡ n) (st : Stands h s) where
+module _ {h : Memory} {s : State} (n : Lent) (enough : lentBy (lend n h) ≡ n) (st : Stands h s) where
   -- the lent tables put back as they are
   limiter-still : LimiterStands (h .limiter) (putTables (h .tables) (lend n h .tables)) (s .limiter)
   limiter-still =
@@ -118,8 +118,8 @@ module _ {h : Held} {s : State} (n : Lent) (enough : lentBy (lend n h) ≡ n) (s
 
   -- the room that question 1 finds, for a state with the same settings
   lasts : {y : LimiterState} → haveRoom (s .limiter .settings .config) (n .limiter) ≡ true → y .settings .config ≡ s .limiter .settings .config
-      → limiter-state.valid unitNanos y ≡ true → Lasting y (lend n h .tables)
-  lasts room e v = record { valid = v; room = (λ i. haveRoom (e i) (enough i .limiter)) ∙ room }
+      → limiter-state.valid (unitsOf (s .limiter .settings)) y ≡ true → Lasting y (lend n h .tables)
+  lasts {y} room e v = record { valid = subst (λ (k : Config). limiter-state.valid (unitsFor k) y ≡ true) (sym e) v; room = (λ i. haveRoom (e i) (enough i .limiter)) ∙ room }
 
   -- for any state of the peers
   peers-last : {y : PeersState} → peer-state.haveRoom (n .peers) ≡ true → peer-state.valid y ≡ true → PeersLasting y (lend n h .peerTables)
@@ -136,7 +136,7 @@ module _ {h : Held} {s : State} (n : Lent) (enough : lentBy (lend n h) ≡ n) (s
   pt = lend n h .peerTables
 
   -- the limiter's state is valid
-  abbrev x-valid : limiter-state.valid unitNanos (s .limiter) ≡ true
+  abbrev x-valid : limiter-state.valid (unitsOf (s .limiter .settings)) (s .limiter) ≡ true
   x-valid = st .limiter .valid
 
   -- a change of the peers, by its questions past 2
@@ -157,72 +157,72 @@ module _ {h : Held} {s : State} (n : Lent) (enough : lentBy (lend n h) ≡ n) (s
 
   -- a report's questions past 2, and its validity
   reported-valid :
-      (sender now : ℕ) (z : DemandReport) → Widths sender now z → all fitsWidths (z .keys) ≡ true
+      (jump sender now : ℕ) (z : DemandReport) → Widths sender now z → all fitsWidths (z .keys) ≡ true
       → passes (reportQuestionsOf (s .peers) sender z) ≡ true
-      → peer-state.valid (peer-changes.apply peer-changes.implausibleJump sender z now (s .peers)) ≡ true
+      → peer-state.valid (peer-changes.apply jump sender z now (s .peers)) ≡ true
   unfolding passes
-  reported-valid sender now z ws fit e =
+  reported-valid jump sender now z ws fit e =
       let a = both (leb (z .count) 64) _ e in
       let b = both (hasDemands z) _ (a .1) in
-      apply-valid peer-changes.implausibleJump sender now z (s .peers) ws fit (leb-true (z .count) 64 (a .0)) (b .0)
+      apply-valid jump sender now z (s .peers) ws fit (leb-true (z .count) 64 (a .0)) (b .0)
       (both (hasPlace sender (s .peers .peers)) true (b .1) .0) (st .peers .valid)
 
   -- ---- each call that changes
-  pub does-stand : (c : Change) {r : Reply} {h′ : Held} → typed c ≡ true → Does (lend n h) c r h′
+  pub does-stand : (c : Change) {r : Reply} {h′ : Memory} → typed c ≡ true → Does (lend n h) c r h′
       → Stands (returned h′ h) (after n (What.changes c) s)
-  unfolding typed asked made checkIn checkTraced recordTally tickWith
+  unfolding typed asked made checkIn checkTraced recordTally tickWith limiter-state.stateOf
   does-stand (Change.check key now m) w (Does.checks c) =
       let b = both (isWord key) (isWord now) w in
       limiter-steps
       (acts-leave (h .tables)
-      (acts-there (limiter-agrees n enough st) [] (λ (y : LimiterState). checkQuestions unitNanos y key now m)
-      (λ (y : LimiterState). keyDecision unitNanos y key (ownLimit y) now m)
-      (λ (y : LimiterState). checkIn unitNanos y key (ownLimit y) now m) c)
+      (acts-there (limiter-agrees n enough st) [] (λ (y : LimiterState). checkQuestions (unitsOf (y .settings)) y key now m)
+      (λ (y : LimiterState). keyDecision (unitsOf (y .settings)) y key (ownLimit y) now m)
+      (λ (y : LimiterState). checkIn (unitsOf (y .settings)) y key (ownLimit y) now m) c)
       (λ e. lasts (passes-room [] _ _ e) refl
-      (check-valid unitNanos units-accepted x x-valid key now m (b .0) (b .1) (passes-rest [] _ _ (checkQuestions unitNanos x key now m) e))))
+      (check-valid (unitsOf (x .settings)) (units-of-accepted (x .settings)) x x-valid key now m (b .0) (b .1) (passes-rest [] _ _ (checkQuestions (unitsOf (x .settings)) x key now m) e))))
   does-stand (Change.check-in key z now m) w (Does.checks-in c) =
       let a = both (isWord key) _ w in
       let b = both (isWord now) _ (a .1) in
       limiter-steps
       (acts-leave (h .tables)
-      (acts-there (limiter-agrees n enough st) [] (λ (y : LimiterState). checkInQuestions unitNanos y key z now m)
-      (λ (y : LimiterState). keyDecision unitNanos y key z now m)
-      (λ (y : LimiterState). checkIn unitNanos y key z now m) c)
+      (acts-there (limiter-agrees n enough st) [] (λ (y : LimiterState). checkInQuestions (unitsOf (y .settings)) y key z now m)
+      (λ (y : LimiterState). keyDecision (unitsOf (y .settings)) y key z now m)
+      (λ (y : LimiterState). checkIn (unitsOf (y .settings)) y key z now m) c)
       (λ e. lasts (passes-room [] _ _ e) refl
-      (check-in-valid unitNanos units-accepted x x-valid key z now m (given key z now (a .0) (b .0) (b .1))
-      (passes-rest [] _ _ (checkInQuestions unitNanos x key z now m) e))))
+      (check-in-valid (unitsOf (x .settings)) (units-of-accepted (x .settings)) x x-valid key z now m (given key z now (a .0) (b .0) (b .1))
+      (passes-rest [] _ _ (checkInQuestions (unitsOf (x .settings)) x key z now m) e))))
   does-stand (Change.check-traced key z y now m) w (Does.checks-traced c) =
       let a = both (isWord key) _ w in
       let b = both (isWord now) _ (a .1) in
       limiter-steps
       (acts-leave (h .tables)
-      (acts-there (limiter-agrees n enough st) [] (λ (x′ : LimiterState). tracedQuestions unitNanos x′ key z y now m)
-      (λ (x′ : LimiterState). record { decision = keyDecision unitNanos x′ key z now m; shadow = shadowDecision unitNanos x′ key z y now m })
-      (λ (x′ : LimiterState). checkTraced unitNanos x′ key z y now m) c)
+      (acts-there (limiter-agrees n enough st) [] (λ (x′ : LimiterState). tracedQuestions (unitsOf (x′ .settings)) x′ key z y now m)
+      (λ (x′ : LimiterState). record { decision = keyDecision (unitsOf (x′ .settings)) x′ key z now m; shadow = shadowDecision (unitsOf (x′ .settings)) x′ key z y now m })
+      (λ (x′ : LimiterState). checkTraced (unitsOf (x′ .settings)) x′ key z y now m) c)
       (λ e.
       lasts (passes-room [] _ _ e) refl
-      (traced-valid unitNanos units-accepted x x-valid key z now m (given key z now (a .0) (b .0) (b .1)) y
-      (passes-rest [] _ _ (tracedQuestions unitNanos x key z y now m) e))))
+      (traced-valid (unitsOf (x .settings)) (units-of-accepted (x .settings)) x x-valid key z now m (given key z now (a .0) (b .0) (b .1)) y
+      (passes-rest [] _ _ (tracedQuestions (unitsOf (x .settings)) x key z y now m) e))))
   does-stand (Change.check-each list count m out) w (Does.checks-each c) =
       limiter-steps
       (acts-leave (h .tables)
       (acts-there (limiter-agrees n enough st) ((1 asks fits (length list) 2 count) ∷ []) (λ (y : LimiterState). eachQuestions count m out)
       (λ (y : LimiterState). tt)
-      (λ (y : LimiterState). checkEach unitNanos m (records 2 count list) y .left) (c .acts))
+      (λ (y : LimiterState). checkEach (unitsOf (y .settings)) m (records 2 count list) y .left) (c .acts))
       (λ e.
       lasts (passes-room ((1 asks fits (length list) 2 count) ∷ []) _ _ e)
-      (ap (λ (z : Settings). z .config) (each-settings m (records 2 count list) x))
-      (check-each-valid unitNanos units-accepted m (records 2 count list) x (pairs-fit count list w) x-valid)))
+      (ap (λ (z : Settings). z .config) (each-settings (unitsOf (x .settings)) m (records 2 count list) x))
+      (check-each-valid (unitsOf (x .settings)) (units-of-accepted (x .settings)) m (records 2 count list) x (pairs-fit count list w) x-valid)))
   does-stand (Change.tally key y z now m) w (Does.tallies c) =
       let a = both (isWord key) _ w in
       let b = both (isWord now) _ (a .1) in
       limiter-steps
       (acts-leave (h .tables)
-      (acts-there (limiter-agrees n enough st) [] (λ (x′ : LimiterState). recordQuestions unitNanos x′ key y z now m) (λ (x′ : LimiterState). tt)
-      (λ (x′ : LimiterState). recordTally unitNanos x′ key y z now m) c)
+      (acts-there (limiter-agrees n enough st) [] (λ (x′ : LimiterState). recordQuestions (unitsOf (x′ .settings)) x′ key y z now m) (λ (x′ : LimiterState). tt)
+      (λ (x′ : LimiterState). recordTally (unitsOf (x′ .settings)) x′ key y z now m) c)
       (λ e. lasts (passes-room [] _ _ e) refl
-      (record-valid unitNanos units-accepted x x-valid key z now m (given key z now (a .0) (b .0) (b .1)) y
-      (passes-rest [] _ _ (recordQuestions unitNanos x key y z now m) e))))
+      (record-valid (unitsOf (x .settings)) (units-of-accepted (x .settings)) x x-valid key z now m (given key z now (a .0) (b .0) (b .1)) y
+      (passes-rest [] _ _ (recordQuestions (unitsOf (x .settings)) x key y z now m) e))))
   does-stand (Change.set-cap z) w (Does.sets-cap c) =
       limiter-steps
       (cap-leaves (h .tables) z
@@ -230,28 +230,28 @@ module _ {h : Held} {s : State} (n : Lent) (enough : lentBy (lend n h) ≡ n) (s
       (λ e.
       let room = passes-room [] _ _ e in (
         limiter-lent (n .limiter) ((λ i. haveRoom (x .settings .config) (enough i .limiter)) ∙ room) (st .limiter),
-        lasts room refl (set-cap-valid unitNanos z x w x-valid),
+        lasts room refl (set-cap-valid (unitsOf (x .settings)) z x w x-valid),
       )))
   does-stand (Change.tick now m) w (Does.ticks c) =
       limiter-steps
       (ticking-leaves (h .tables)
-      (ticking-there (limiter-agrees n enough st) [] (λ (y : LimiterState). clusterQuestions m) (λ (y : LimiterState). tick (parametersOf (y .settings)) unitNanos now m y) c)
-      (λ e. lasts (passes-room [] _ _ e) refl (tick-valid (parametersOf (x .settings)) unitNanos units-accepted (noOthers m) now m x w x-valid)))
+      (ticking-there (limiter-agrees n enough st) [] (λ (y : LimiterState). clusterQuestions m) (λ (y : LimiterState). tick (parametersOf (y .settings)) (unitsOf (y .settings)) now m y) c)
+      (λ e. lasts (passes-room [] _ _ e) refl (tick-valid (parametersOf (x .settings)) (unitsOf (x .settings)) (units-of-accepted (x .settings)) (noOthers m) now m x w x-valid)))
   does-stand (Change.tick-with-shares now m) w (Does.ticks-with-shares c) =
       limiter-steps
       (ticking-leaves (h .tables)
       (ticking-there (both-agree n enough st) [] (λ (y : State). clusterQuestions m)
-      (λ (y : State). tickWithShares (parametersOf (y .limiter .settings)) unitNanos (y .peers) now m (y .limiter)) c)
+      (λ (y : State). tickWithShares (parametersOf (y .limiter .settings)) (unitsOf (y .limiter .settings)) (y .peers) now m (y .limiter)) c)
       (λ e.
       lasts (both (haveRoom (x .settings .config) (n .limiter)) (peer-state.haveRoom (n .peers)) (passes-room [] _ _ e) .0) refl
-      (tick-valid (parametersOf (x .settings)) unitNanos units-accepted (peersOthers (x .settings) (s .peers) m) now m x w x-valid)))
+      (tick-valid (parametersOf (x .settings)) (unitsOf (x .settings)) (units-of-accepted (x .settings)) (peersOthers (x .settings) (s .peers) m) now m x w x-valid)))
   does-stand (Change.report sender z now) w (Does.reports c) =
       let a = both (isWord sender) _ w in
       let b = both (isWord now) _ (a .1) in
       let ws = widths sender now z (a .0) (b .0) (b .1) in
       peers-change (λ (y : PeersState). reportQuestionsOf y sender z)
       (peer-changes.apply peer-changes.implausibleJump sender z now) (c .value) (c .words)
-      (λ e. reported-valid sender now z (ws .0) (ws .1) e)
+      (λ e. reported-valid peer-changes.implausibleJump sender now z (ws .0) (ws .1) e)
   does-stand (Change.forget peer) w (Does.forgets c) =
       peers-change (λ (y : PeersState). []) (peer-changes.forget peer) (c .value) (c .words) (λ e. forget-valid peer (s .peers) (st .peers .valid))
   does-stand (Change.leave peer now hold) w (Does.leaves c) =
@@ -262,12 +262,12 @@ module _ {h : Held} {s : State} (n : Lent) (enough : lentBy (lend n h) ≡ n) (s
       (λ e. expire-valid now maxAge (s .peers) (st .peers .valid))
 
   -- a call of either kind
-  acts-stand : (c : What) {r : Reply} {h′ : Held} → typedWhat c ≡ true → Acts (lend n h) c r h′ → Stands (returned h′ h) (after n c s)
+  acts-stand : (c : What) {r : Reply} {h′ : Memory} → typedWhat c ≡ true → Acts (lend n h) c r h′ → Stands (returned h′ h) (after n c s)
   acts-stand (What.changes c) w (Acts.does d) = does-stand c w d
   acts-stand (What.reads c) w (Acts.does-tell d) = still
 
 -- ---- a call as a whole
-pub steps-stand : {h h′ : Held} {s : State} {c : Call} {r : Reply} → Stands h s → typedWhat (c .what) ≡ true → Step h c r h′
+pub steps-stand : {h h′ : Memory} {s : State} {c : Call} {r : Reply} → Stands h s → typedWhat (c .what) ≡ true → Step h c r h′
     → Stands h′ (after (c .lent) (c .what) s)
 steps-stand {h} {h′} {s} {c} st w step =
-    subst (λ (a : Held). Stands a (after (c .lent) (c .what) s)) (sym (step .back)) (acts-stand (c .lent) (step .enough) st (c .what) w (step .acts))
+    subst (λ (a : Memory). Stands a (after (c .lent) (c .what) s)) (sym (step .back)) (acts-stand (c .lent) (step .enough) st (c .what) w (step .acts))

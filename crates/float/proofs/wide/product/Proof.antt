@@ -1,7 +1,7 @@
 -- `float::wide::product` meets its contract.
 use native.Mathlib.Omega.{arith}
 use borrow.Author.Needs.{needs}
-use Rattle.float.proofs.Products.{sizes, upper-is, lower-is}
+use Rattle.float.proofs.Formats.Products.{sizes, upper-is, lower-is}
 use Rattle.float.proofs.wide.product.Statement.{statement}
 use Rattle.float.proofs.wide.product.Tie as tie
 

@@ -2,7 +2,7 @@
 use mathlib.Core.Path.{sym, ap, _∙_}
 use borrow.Author.Needs.{needs}
 use Rattle.gcra.specs.declared.Tat.the-variants.{At}
-use Rattle.gcra.proofs.Rates.{same-keeps, other-carries, carried-unset, carried-at}
+use Rattle.gcra.proofs.Rate.Rates.{same-keeps, other-carries, carried-unset, carried-at}
 use Rattle.gcra.proofs.Gcra.changed.Statement.{statement}
 use Rattle.gcra.proofs.Gcra.changed.Tie as tie
 

@@ -2,7 +2,7 @@
 use mathlib.Core.Path.{_≡_, sym, _∙_}
 use borrow.Author.Needs.{needs}
 use Rattle.gcra.specs.Meter.{attempt, paceOf, tatAt}
-use Rattle.gcra.proofs.Checks.{checked-allow, checked-deny}
+use Rattle.gcra.proofs.Meter.Checks.{checked-allow, checked-deny}
 use Rattle.gcra.proofs.Gcra.checked.Statement.{statement}
 use Rattle.gcra.proofs.Gcra.checked.Tie as tie
 

@@ -9,7 +9,7 @@ use Rattle.gcra.specs.Meter.{attempt, paceOf, tatAt, retryAfter, decisio
 use Rattle.gcra.specs.Packed.{unitNanos, validQuota}
 use Rattle.questions.proofs.Tests.{told-no, told-yes}
 use Rattle.questions.proofs.Answers.{alone-no}
-use Rattle.gcra.proofs.Checks.{stepped-decision, deny-is}
+use Rattle.gcra.proofs.Meter.Checks.{stepped-decision, deny-is}
 use Rattle.gcra.proofs.Gcra.retry_after.Statement.{statement}
 use Rattle.gcra.proofs.Gcra.retry_after.Tie as tie
 

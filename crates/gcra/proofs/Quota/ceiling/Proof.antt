@@ -7,7 +7,7 @@ use Rattle.gcra.specs.Calls.{quotaCeiling}
 use Rattle.gcra.specs.Packed.{ceiling}
 use Rattle.questions.specs.Questions.{answer}
 use Rattle.questions.proofs.Tests.{told-no, told-yes}
-use Rattle.gcra.proofs.Validity.{valid-quota}
+use Rattle.gcra.proofs.Packed.Validity.{valid-quota}
 use Rattle.gcra.proofs.Quota.ceiling.Statement.{statement}
 use Rattle.gcra.proofs.Quota.ceiling.Tie as tie
 

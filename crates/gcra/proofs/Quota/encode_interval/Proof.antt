@@ -1,6 +1,6 @@
 -- `gcra::Quota::encode_interval` meets its contract: each way out is the unit that the tests found.
 use borrow.Author.Needs.{needs}
-use Rattle.gcra.proofs.Encoding.{first-unit, second-unit, third-unit}
+use Rattle.gcra.proofs.Packed.Encoding.{first-unit, second-unit, third-unit}
 use Rattle.gcra.proofs.Quota.encode_interval.Statement.{statement}
 use Rattle.gcra.proofs.Quota.encode_interval.Tie as tie
 

@@ -2,7 +2,7 @@
 use native.Mathlib.Omega.{arith}
 use borrow.Author.Needs.{needs}
 use Rattle.gcra.specs.Packed.{valueOf, unitOf}
-use Rattle.gcra.proofs.Encoding.{value-small}
+use Rattle.gcra.proofs.Packed.Encoding.{value-small}
 use Rattle.gcra.proofs.Quota.interval_of.Statement.{statement}
 use Rattle.gcra.proofs.Quota.interval_of.Tie as tie
 

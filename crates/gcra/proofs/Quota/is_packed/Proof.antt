@@ -1,6 +1,6 @@
 -- `gcra::Quota::is_packed` meets its contract.
 use native.Mathlib.Omega.{arith}
-use Rattle.gcra.proofs.PackedWords.{no-burst, no-unit, by-nanos, by-coarser}
+use Rattle.gcra.proofs.Packed.PackedWords.{no-burst, no-unit, by-nanos, by-coarser}
 use Rattle.gcra.proofs.Quota.is_packed.Statement.{statement}
 use Rattle.gcra.proofs.Quota.is_packed.Tie as tie
 

@@ -3,8 +3,8 @@ use borrow.Author.Needs.{needs}
 use Rattle.gcra.specs.Calls.{quotaPack}
 use Rattle.questions.proofs.Tests.{told-no, told-yes}
 use Rattle.questions.proofs.Answers.{alone-no, alone-yes}
-use Rattle.gcra.proofs.Encoding.{units-accepted}
-use Rattle.gcra.proofs.Validity.{valid-quota}
+use Rattle.gcra.proofs.Packed.Encoding.{units-accepted}
+use Rattle.gcra.proofs.Packed.Validity.{valid-quota}
 use Rattle.gcra.proofs.Quota.pack.Statement.{statement}
 use Rattle.gcra.proofs.Quota.pack.Tie as tie
 

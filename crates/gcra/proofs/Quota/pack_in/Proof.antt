@@ -3,7 +3,7 @@ use Prim.Native.Nat.{_^_, _<_}
 use native.Mathlib.Omega.{arith}
 use borrow.Author.Needs.{needs}
 use Rattle.gcra.specs.Packed.{pack}
-use Rattle.gcra.proofs.Encoding.{encode-takes}
+use Rattle.gcra.proofs.Packed.Encoding.{encode-takes}
 use Rattle.gcra.proofs.Quota.pack_in.Statement.{statement}
 use Rattle.gcra.proofs.Quota.pack_in.Tie as tie
 

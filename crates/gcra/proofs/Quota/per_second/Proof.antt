@@ -4,7 +4,7 @@ use Rattle.gcra.specs.Calls.{quotaPerSecond}
 use Rattle.gcra.specs.Rate.{perSecond}
 use Rattle.questions.proofs.Tests.{told-no, told-yes}
 use Rattle.questions.proofs.Answers.{alone-no, alone-yes}
-use Rattle.gcra.proofs.Rates.{second-is}
+use Rattle.gcra.proofs.Rate.Rates.{second-is}
 use Rattle.gcra.proofs.Quota.per_second.Statement.{statement}
 use Rattle.gcra.proofs.Quota.per_second.Tie as tie
 

@@ -4,7 +4,7 @@ use mathlib.Core.Bool.{true}
 use lib.Ieee.Scale.{finite}
 use borrow.Author.Needs.{needs}
 use Rattle.questions.proofs.Tests.{told-no, told-yes}
-use Rattle.gcra.proofs.Rates.{zero-is, one-is, not-finite, from-one, above-zero, not-above}
+use Rattle.gcra.proofs.Rate.Rates.{zero-is, one-is, not-finite, from-one, above-zero, not-above}
 use Rattle.gcra.proofs.Quota.quotient_nanos.Statement.{statement}
 use Rattle.gcra.proofs.Quota.quotient_nanos.Tie as tie
 

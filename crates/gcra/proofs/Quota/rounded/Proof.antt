@@ -5,7 +5,7 @@ use borrow.Author.Needs.{needs}
 use Rattle.gcra.specs.Packed.{width, rounded, Accepted, maxInterval, encode}
 use Rattle.gcra.specs.declared.Units.{Units}
 use Rattle.gcra.specs.declared.Encoded.{Encoded}
-use Rattle.gcra.proofs.Encoding.{encode-takes, value-small}
+use Rattle.gcra.proofs.Packed.Encoding.{encode-takes, value-small}
 use Rattle.gcra.proofs.Quota.rounded.Statement.{statement}
 use Rattle.gcra.proofs.Quota.rounded.Tie as tie
 

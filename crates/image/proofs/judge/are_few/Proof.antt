@@ -1,6 +1,6 @@
 -- `are_few` meets its contract: each test that fails is one of the facts.
 use native.Mathlib.Omega.{arith}
-use Rattle.image.proofs.JudgeLaws.{not-few, last-few}
+use Rattle.image.proofs.Loading.JudgeLaws.{not-few, last-few}
 use Rattle.image.proofs.judge.are_few.Statement.{statement}
 use Rattle.image.proofs.judge.are_few.Tie as tie
 

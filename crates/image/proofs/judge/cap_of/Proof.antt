@@ -5,7 +5,7 @@ use lib.Ieee.{Float}
 use Prim.Native.Nat.{ℕ}
 use borrow.Author.Needs.{needs}
 use Rattle.image.specs.Reader.{capFrom}
-use Rattle.image.proofs.JudgeLaws.{cap-set}
+use Rattle.image.proofs.Loading.JudgeLaws.{cap-set}
 use Rattle.image.proofs.judge.cap_of.Statement.{statement}
 use Rattle.image.proofs.judge.cap_of.Tie as tie
 

@@ -4,7 +4,7 @@ use Prim.Native.Nat.{ℕ}
 use lib.Dec.{eqb}
 use lib.ListN.{replicate, length-replicate}
 use borrow.Author.Needs.{needs}
-use Rattle.image.proofs.AskLaws.{peers-asked}
+use Rattle.image.proofs.Loading.AskLaws.{peers-asked}
 use Rattle.image.proofs.judge.has_valid_peers.Statement.{statement}
 use Rattle.image.proofs.judge.has_valid_peers.Tie as tie
 

@@ -1,7 +1,6 @@
 -- `judge` meets its contract: each test is one that every image passes, and together they are question 13.
 use Prim.Native.Nat.{ℕ}
-use mathlib.Core.Path.{_≡_, sym, ap, _∙_, subst}
-use mathlib.Core.Bool.{Bool}
+use mathlib.Core.Path.{_≡_, ap, _∙_, subst}
 use mathlib.Core.List.{List}
 use native.Mathlib.Omega.{arith}
 use borrow.Author.Needs.{needs}
@@ -10,14 +9,12 @@ use Rattle.records.specs.Records.{same}
 use Rattle.questions.specs.Questions.{given}
 use Rattle.questions.proofs.Tests.{told-no, told-yes}
 use Rattle.questions.proofs.Answers.{alone-no, alone-yes}
-use Rattle.demand.specs.declared.peer_demand.PeerDemand.{PeerDemand}
-use Rattle.limiter.specs.declared.Limiter.{Limiter}
 use Rattle.limiter.specs.State.{settingsWords, settingsOf}
 use Rattle.image.specs.declared.Loaded.{Loaded}
 use Rattle.image.specs.declared.scan.Sections.{Sections}
 use Rattle.image.specs.Reader.{isEnd, firstWords}
 use Rattle.image.specs.LoadSteps.{FewFound, countIn, Reads}
-use Rattle.image.proofs.JudgeLaws.{all-bytes, words-read, few-says, no-few, no-end, no-same, no-limiter, no-peers, is-image, values-read}
+use Rattle.image.proofs.Loading.JudgeLaws.{all-bytes, words-read, few-says, no-few, no-end, no-same, no-limiter, no-peers, is-image, values-read}
 use Rattle.image.proofs.judge.judge.Statement.{statement}
 use Rattle.image.proofs.judge.judge.Tie as tie
 

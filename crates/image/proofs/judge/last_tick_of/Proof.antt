@@ -2,7 +2,7 @@
 use mathlib.Core.Path.{sym, ap}
 use Prim.Native.Nat.{ℕ}
 use Rattle.records.specs.Fields.{timeOf}
-use Rattle.image.proofs.JudgeLaws.{time-set}
+use Rattle.image.proofs.Loading.JudgeLaws.{time-set}
 use Rattle.image.proofs.judge.last_tick_of.Statement.{statement}
 use Rattle.image.proofs.judge.last_tick_of.Tie as tie
 

@@ -1,11 +1,10 @@
 -- `has_room` meets its contract.
-use mathlib.Core.Path.{sym, ap, _∙_}
-use mathlib.Core.Bool.{Bool, true, false, cond, _&&_}
+use mathlib.Core.Path.{_∙_}
 use native.Mathlib.Omega.{arith}
 use borrow.Author.Needs.{needs}
 use Rattle.questions.proofs.Tests.{told-no, told-yes}
-use Rattle.image.proofs.ReadLaws.{begins-room}
-use Rattle.image.proofs.RoomLaws.{room-unread, room-short, room-peers}
+use Rattle.image.proofs.Loading.ReadLaws.{begins-room}
+use Rattle.image.proofs.Loading.RoomLaws.{room-unread, room-short, room-peers}
 use Rattle.image.proofs.room.has_room.Statement.{statement}
 use Rattle.image.proofs.room.has_room.Tie as tie
 

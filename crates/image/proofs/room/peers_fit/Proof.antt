@@ -3,8 +3,8 @@ use mathlib.Core.Path.{refl}
 use mathlib.Core.Bool.{false}
 use borrow.Author.Tests.{le-leb, lt-leb}
 use lib.Dec.{leb}
-use Rattle.demand.specs.Peers.State.{haveRoom}
-use Rattle.demand.proofs.Peers.Validity.ScanLaws.{stop, goes}
+use Rattle.peers.specs.Peers.State.{haveRoom}
+use Rattle.questions.proofs.Tests.{stop, goes}
 use Rattle.image.proofs.room.peers_fit.Statement.{statement}
 use Rattle.image.proofs.room.peers_fit.Tie as tie
 

@@ -1,7 +1,6 @@
 -- `Config::has_factors` meets its contract.
 use borrow.Author.Needs.{needs}
-use Rattle.questions.proofs.Tests.{told-no, told-yes}
-use Rattle.demand.proofs.Peers.Validity.ScanLaws.{stop, goes}
+use Rattle.questions.proofs.Tests.{told-no, told-yes, stop, goes}
 use Rattle.limiter.proofs.Config.has_factors.Statement.{statement}
 use Rattle.limiter.proofs.Config.has_factors.Tie as tie
 

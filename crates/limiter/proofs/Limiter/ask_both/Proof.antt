@@ -1,7 +1,6 @@
 -- `ask_both` meets its contract.
 use borrow.Author.Needs.{needs}
-use Rattle.gcra.specs.Packed.{unitNanos}
-use Rattle.limiter.specs.State.{tables, lengths, haveRoom, isValid}
+use Rattle.limiter.specs.State.{tables, lengths, haveRoom, isValid, unitsIn}
 use Rattle.limiter.specs.Checks.{clusterQuestions}
 use Rattle.limiter.proofs.Ticking.AskLaws.{one-here, one-there, two-here, two-there, both-pass}
 use Rattle.limiter.proofs.Limiter.ask_both.Statement.{statement}
@@ -15,7 +14,7 @@ returns-2 c =
     let b = c .before .before in
     let s = b .before .before .before .before .before .before .before .before .args in
     let t = tables (s .keys .now) (s .hot .now) (s .shadows .now) in
-    one-there (haveRoom (s .self .config) (lengths t)) (isValid unitNanos (s .self) t) _ _ (clusterQuestions (s .cluster-size)) (b .ask2 .result)
+    one-there (haveRoom (s .self .config) (lengths t)) (isValid (unitsIn (s .self)) (s .self) t) _ _ (clusterQuestions (s .cluster-size)) (b .ask2 .result)
     (b .ask2 .ensures) (c .if2 .taken)
 
 returns-3 : tie.Need-returns-3

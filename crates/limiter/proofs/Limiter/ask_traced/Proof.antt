@@ -3,7 +3,7 @@ use mathlib.Core.Path.{_≡_, sym, ap, _∙_}
 use mathlib.Core.List.{List, _++_}
 use mathlib.Core.Option.{Option, none, some}
 use lib.Dec.{lit<}
-use Rattle.questions.specs.Questions.{Question, passes, firstNo}
+use Rattle.questions.specs.Questions.{Question, firstNo}
 use Rattle.questions.proofs.Answers.{first-more, first-rest, passed-none}
 use Rattle.limiter.specs.declared.Limit.{Limit}
 use Rattle.limiter.specs.State.{tables}

@@ -2,8 +2,7 @@
 use mathlib.Core.List.{List, _++_}
 use lib.Dec.{lit<}
 use Rattle.questions.specs.Questions.{Question}
-use Rattle.gcra.specs.Packed.{unitNanos}
-use Rattle.limiter.specs.State.{LimiterTables, tables, stateOf}
+use Rattle.limiter.specs.State.{LimiterTables, tables, stateOf, unitsIn}
 use Rattle.limiter.specs.Checks.{clusterQuestions, checkKeyQuestions, keyDecision, checkIn, ownLimit}
 use Rattle.limiter.specs.Calls.{here, stateQuestions}
 use Rattle.limiter.proofs.Checking.LiftLaws.{Passed, passed, ready, refused-before, own-burst, checks-lifted}
@@ -29,10 +28,10 @@ returns : tie.Need-returns
 returns c =
     let s = c .before .before .before .before .before .before in
     let x = here (s .args .self) (lent s) in
-    refused-before (keyDecision unitNanos x (s .args .key) (ownLimit x) (s .args .reading) (s .args .cluster-size)) (s .args .self) (lent s)
+    refused-before (keyDecision (unitsIn (s .args .self)) x (s .args .key) (ownLimit x) (s .args .reading) (s .args .cluster-size)) (s .args .self) (lent s)
     (stateQuestions (s .args .self) (lent s) ++ others s)
-    (checkKeyQuestions unitNanos x (s .args .key) (s .args .reading) (s .args .cluster-size))
-    (checkIn unitNanos x (s .args .key) (ownLimit x) (s .args .reading) (s .args .cluster-size)) _ (c .before .ask-cluster .ensures) (c .if1 .taken)
+    (checkKeyQuestions (unitsIn (s .args .self)) x (s .args .key) (s .args .reading) (s .args .cluster-size))
+    (checkIn (unitsIn (s .args .self)) x (s .args .key) (ownLimit x) (s .args .reading) (s .args .cluster-size)) _ (c .before .ask-cluster .ensures) (c .if1 .taken)
 
 check-key-requires : tie.Need-check-key-requires
 unfolding stateOf

@@ -1,5 +1,5 @@
 -- `check_each` meets its contract.
-use Rattle.limiter.specs.State.{LimiterTables, tables, stateOf}
+use Rattle.limiter.specs.State.{LimiterTables, tables}
 use Rattle.limiter.proofs.Checking.EachLaws.{Asked, asked-passed, each-refused, each-lifted}
 use borrow.Author.Needs.{needs}
 use Rattle.limiter.proofs.Limiter.check_each.Statement.{statement}

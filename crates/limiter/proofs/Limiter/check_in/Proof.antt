@@ -1,8 +1,7 @@
 -- `check_in` meets its contract.
 use mathlib.Core.Option.{none}
-use Rattle.gcra.specs.Packed.{unitNanos}
 use mathlib.Core.List.{_++_}
-use Rattle.limiter.specs.State.{LimiterTables, tables, stateOf}
+use Rattle.limiter.specs.State.{LimiterTables, tables, stateOf, unitsIn}
 use Rattle.limiter.specs.Checks.{keyQuestions, keyDecision, checkIn, checkedKey, entry}
 use Rattle.limiter.specs.Calls.{here, stateQuestions}
 use Rattle.limiter.proofs.Checking.LiftLaws.{Passed, refused-before, limitAsked, limit-passed, limit-ready, checks-lifted}
@@ -24,10 +23,10 @@ returns : tie.Need-returns
 returns c =
     let s = c .before .before .before .before .before .before in
     let x = here (s .args .self) (lent s) in
-    refused-before (keyDecision unitNanos x (s .args .key) (s .args .limit) (s .args .reading) (s .args .cluster-size)) (s .args .self) (lent s)
+    refused-before (keyDecision (unitsIn (s .args .self)) x (s .args .key) (s .args .limit) (s .args .reading) (s .args .cluster-size)) (s .args .self) (lent s)
     (stateQuestions (s .args .self) (lent s) ++ limitAsked (s .args .limit) (s .args .cluster-size))
-    (keyQuestions x (checkedKey (s .args .reading) none (entry unitNanos x (s .args .key) (s .args .limit) (s .args .reading) (s .args .cluster-size))))
-    (checkIn unitNanos x (s .args .key) (s .args .limit) (s .args .reading) (s .args .cluster-size)) _ (c .before .ask-limit .ensures) (c .if1 .taken)
+    (keyQuestions x (checkedKey (s .args .reading) none (entry (unitsIn (s .args .self)) x (s .args .key) (s .args .limit) (s .args .reading) (s .args .cluster-size))))
+    (checkIn (unitsIn (s .args .self)) x (s .args .key) (s .args .limit) (s .args .reading) (s .args .cluster-size)) _ (c .before .ask-limit .ensures) (c .if1 .taken)
 
 check-key-requires : tie.Need-check-key-requires
 unfolding stateOf

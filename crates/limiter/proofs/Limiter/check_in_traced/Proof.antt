@@ -3,7 +3,7 @@ use mathlib.Core.Path.{ap, subst}
 use mathlib.Core.List.{_++_}
 use mathlib.Core.Option.{Option, some}
 use Rattle.limiter.specs.declared.Limit.{Limit}
-use Rattle.limiter.specs.State.{LimiterTables, tables, stateOf}
+use Rattle.limiter.specs.State.{LimiterTables, tables}
 use Rattle.limiter.specs.Checks.{bothLimitQuestions, clusterQuestions}
 use Rattle.limiter.specs.Calls.{shadowLimit}
 use Rattle.limiter.proofs.Calls.CheckValidLaws.{Given}

@@ -5,7 +5,7 @@ use Rattle.questions.proofs.Answers.{answer-no}
 use Rattle.limiter.specs.State.{LimiterTables, tables, stateOf}
 use Rattle.limiter.specs.Calls.{stateQuestions}
 use Rattle.limiter.proofs.Checking.LiftLaws.{Passed}
-use Rattle.limiter.proofs.Checking.ReadyLaws.{held-hot}
+use Rattle.limiter.proofs.Checking.ReadyLaws.{lent-hot}
 use Rattle.limiter.proofs.Reading.ReaderLaws.{past, tells}
 use Rattle.limiter.proofs.Limiter.is_hot.Statement.{statement}
 use Rattle.limiter.proofs.Limiter.is_hot.Tie as tie
@@ -25,7 +25,7 @@ returns : tie.Need-returns
 returns c = let s = start (c .before) in answer-no _ (stateQuestions (s .args .self) (lent s)) _ (c .before .ask .ensures) (c .if1 .taken)
 
 is-hot-requires : tie.Need-is-hot-requires
-is-hot-requires c κs = let s = start (c .before) in let p = asked c in held-hot (s .args .self) (lent s) (p .room) (p .ok)
+is-hot-requires c κs = let s = start (c .before) in let p = asked c in lent-hot (s .args .self) (lent s) (p .room) (p .ok)
 
 returns-2 : tie.Need-returns-2
 unfolding stateOf

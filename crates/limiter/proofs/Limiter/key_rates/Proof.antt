@@ -4,7 +4,7 @@ use mathlib.Core.List.{[]}
 use borrow.Author.Needs.{needs}
 use Rattle.questions.proofs.Answers.{answer-no}
 use Rattle.limiter.specs.declared.Parameters.{Parameters}
-use Rattle.limiter.specs.State.{LimiterTables, tables, parametersOf, settingsOf}
+use Rattle.limiter.specs.State.{LimiterTables, tables, parametersOf, settingsOf, unitsFor}
 use Rattle.limiter.specs.Readers.{ratesOf}
 use Rattle.limiter.specs.Calls.{stateQuestions}
 use Rattle.limiter.specs.Steps.KeySteps.{keyRecord}
@@ -31,6 +31,7 @@ find-key-requires : tie.Need-find-key-requires
 find-key-requires c κs = let s = start (c .before) in let p = asked c in ready (s .args .self) (lent s) (p .room) (p .ok)
 
 rates-of-requires : tie.Need-rates-of-requires
+unfolding unitsFor
 rates-of-requires c κs =
     let k = c .before .before in
     let f = k .before .before in

@@ -1,7 +1,6 @@
 -- `record` meets its contract.
-use Rattle.gcra.specs.Packed.{unitNanos}
 use mathlib.Core.List.{_++_}
-use Rattle.limiter.specs.State.{LimiterTables, tables, stateOf}
+use Rattle.limiter.specs.State.{LimiterTables, tables, stateOf, unitsIn}
 use Rattle.limiter.specs.Checks.{keyQuestions, recordTally, talliedKey, entry}
 use Rattle.limiter.specs.Calls.{here, stateQuestions}
 use Rattle.limiter.proofs.Checking.LiftLaws.{Passed, refused-before, limitAsked, limit-passed, limit-ready, records-lifted}
@@ -24,8 +23,8 @@ returns c =
     let s = c .before .before .before .before .before .before in
     let x = here (s .args .self) (lent s) in
     refused-before (tt) (s .args .self) (lent s) (stateQuestions (s .args .self) (lent s) ++ limitAsked (s .args .limit) (s .args .cluster-size))
-    (keyQuestions x (talliedKey (s .args .tally) (entry unitNanos x (s .args .key) (s .args .limit) (s .args .reading) (s .args .cluster-size))))
-    (recordTally unitNanos x (s .args .key) (s .args .tally) (s .args .limit) (s .args .reading) (s .args .cluster-size)) _ (c .before .ask-limit .ensures)
+    (keyQuestions x (talliedKey (s .args .tally) (entry (unitsIn (s .args .self)) x (s .args .key) (s .args .limit) (s .args .reading) (s .args .cluster-size))))
+    (recordTally (unitsIn (s .args .self)) x (s .args .key) (s .args .tally) (s .args .limit) (s .args .reading) (s .args .cluster-size)) _ (c .before .ask-limit .ensures)
     (c .if1 .taken)
 
 record-key-requires : tie.Need-record-key-requires

@@ -5,8 +5,7 @@ use native.Mathlib.Omega.{arith}
 use borrow.Author.Needs.{needs}
 use lib.Dec.{lit<}
 use Rattle.questions.specs.Questions.{Question}
-use Rattle.gcra.specs.Packed.{unitNanos}
-use Rattle.limiter.specs.State.{LimiterTables, LimiterState, tables, parametersOf, settingsOf}
+use Rattle.limiter.specs.State.{LimiterTables, LimiterState, tables, parametersOf, settingsOf, unitsIn}
 use Rattle.limiter.specs.Checks.{clusterQuestions}
 use Rattle.limiter.specs.Ticks.{noOthers, tick}
 use Rattle.limiter.specs.Calls.{here, stateQuestions}
@@ -27,7 +26,7 @@ abbrev asks : tie.Start → List Question
 asks s = stateQuestions (s .args .self) (lent s) ++ clusterQuestions (s .args .cluster-size)
 
 abbrev after : tie.Start → LimiterState
-after s = tick (parametersOf (settingsOf (s .args .self))) unitNanos (s .args .reading) (s .args .cluster-size) (here (s .args .self) (lent s))
+after s = tick (parametersOf (settingsOf (s .args .self))) (unitsIn (s .args .self)) (s .args .reading) (s .args .cluster-size) (here (s .args .self) (lent s))
 
 abbrev start : tie.After-ask-cluster → tie.Start
 start c = c .before .before .before .before .before .before .before
@@ -62,7 +61,7 @@ finish-tick-requires c κs =
     let l = s .args .self in
     let n = s .args .cluster-size in
     finishing l (lent s) (p .room) (p .ok) (parametersOf (settingsOf l)) (noOthers n) (s .args .reading) n (k .pass-one .result) _ _ _
-    (k .pass-one .ensures (noOthers n) (none-elsewhere (l .keys) (s .args .keys .now) (few-keys l (lent s) (p .room) (p .ok) .0))) _ (omega arith)
+    (k .pass-one .ensures (noOthers n) (none-elsewhere (unitsIn l) (l .keys) (s .args .keys .now) (few-keys l (lent s) (p .room) (p .ok) .0))) _ (omega arith)
     (size-passed n (p .rest))
 
 returns-2 : tie.Need-returns-2
@@ -74,7 +73,7 @@ returns-2 c =
     let p = asked e in
     let l = s .args .self in
     let n = s .args .cluster-size in
-    let h = k .pass-one .ensures (noOthers n) (none-elsewhere (l .keys) (s .args .keys .now) (few-keys l (lent s) (p .room) (p .ok) .0)) in
+    let h = k .pass-one .ensures (noOthers n) (none-elsewhere (unitsIn l) (l .keys) (s .args .keys .now) (few-keys l (lent s) (p .room) (p .ok) .0)) in
     ticking-done (asks s) (after s) l (lent s) (d .finish-tick .result) _ (p .all)
     (ticked l (lent s) (p .room) (p .ok) (parametersOf (settingsOf l)) (noOthers n) (s .args .reading) n (k .pass-one .result) _ _ _ h true _ (even-share l n _ _)
     (d .finish-tick .result) _ _ (d .finish-tick .ensures))

@@ -2,11 +2,11 @@
 use mathlib.Core.Bool.{false}
 use native.Mathlib.Omega.{arith}
 use borrow.Author.Needs.{needs}
-use Rattle.demand.specs.Peers.State as peer-state
-use Rattle.demand.specs.Peers.State.{PeerTables}
-use Rattle.limiter.specs.State.{LimiterTables, tables, parametersOf, settingsOf, stateOf}
+use Rattle.peers.specs.Peers.State as peer-state
+use Rattle.peers.specs.Peers.State.{PeerTables}
+use Rattle.limiter.specs.State.{LimiterTables, tables, parametersOf, settingsOf, stateOf, unitsIn}
 use Rattle.limiter.specs.Ticks.{Others, peersOthers}
-use Rattle.limiter.proofs.Checking.ReadyLaws.{few-keys, held-keys}
+use Rattle.limiter.proofs.Checking.ReadyLaws.{few-keys, lent-keys}
 use Rattle.limiter.proofs.PassOne.StartLaws.{pass-ready}
 use Rattle.limiter.proofs.PassTwo.RateLaws.{peers-share}
 use Rattle.limiter.proofs.Ticking.HoldsLaws.{few, finishing, ticked}
@@ -57,8 +57,8 @@ finish-tick-requires c κs =
     let n = s .args .cluster-size in
     finishing l (lent s) (p .room) (p .ok) (parametersOf (settingsOf l)) (others s) (s .args .reading) n (k .pass-one .result) _ _ _
     (k .pass-one .ensures (others s)
-    (told-elsewhere (s .args .peers) (theirs s) (p .peers) (l .keys) (s .args .keys .now) _ _ _ (b .hot-elsewhere-of-each .ensures)
-    (held-keys l (lent s) (p .room) (p .ok) .fit) (few-keys l (lent s) (p .room) (p .ok) .0)))
+    (told-elsewhere (s .args .peers) (theirs s) (p .peers) (unitsIn l) (l .keys) (s .args .keys .now) _ _ _ (b .hot-elsewhere-of-each .ensures)
+    (lent-keys l (lent s) (p .room) (p .ok) .fit) (few-keys l (lent s) (p .room) (p .ok) .0)))
     _ (omega (arith, c .before .before .before .before .before .totals2 .given)) (p .size)
 
 abbrev ended : tie.After-slice-known7 → tie.After-finish-tick
@@ -88,10 +88,10 @@ returns c =
     let n = s .args .cluster-size in
     let now = s .args .reading in
     let h = k .pass-one .ensures (others s)
-    (told-elsewhere (s .args .peers) (theirs s) (p .peers) (l .keys) (s .args .keys .now) _ _ _ (b .hot-elsewhere-of-each .ensures)
-    (held-keys l (lent s) (p .room) (p .ok) .fit) (few-keys l (lent s) (p .room) (p .ok) .0)) in
+    (told-elsewhere (s .args .peers) (theirs s) (p .peers) (unitsIn l) (l .keys) (s .args .keys .now) _ _ _ (b .hot-elsewhere-of-each .ensures)
+    (lent-keys l (lent s) (p .room) (p .ok) .fit) (few-keys l (lent s) (p .room) (p .ok) .0)) in
     let z = few l (lent s) (p .room) (p .ok) (parametersOf (settingsOf l)) (others s) now n (k .pass-one .result) _ _ _ h in
-    let t = told-totals (s .args .peers) (theirs s) (p .peers) (k .pass-one .result .hot) _ _ _ _ (u .total-of-each .ensures) (h .hot-held .fit)
+    let t = told-totals (s .args .peers) (theirs s) (p .peers) (k .pass-one .result .hot) _ _ _ _ (u .total-of-each .ensures) (h .hot-lent .fit)
     (z .1) in
     let q = peers-share l (peer-state.stateOf (s .args .peers) (theirs s)) n _ _ (totals-of _ _ _ _ _ (h .hot-count) (h .hot-are) t) in
     ticked l (lent s) (p .room) (p .ok) (parametersOf (settingsOf l)) (others s) now n (k .pass-one .result) _ _ _ h false _ q (d .finish-tick .result) _ _

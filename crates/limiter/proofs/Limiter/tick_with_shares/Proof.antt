@@ -6,10 +6,9 @@ use borrow.Author.Needs.{needs}
 use lib.Dec.{lit<}
 use Rattle.questions.specs.Questions.{Question, passes}
 use Rattle.questions.proofs.Answers.{passed-none}
-use Rattle.gcra.specs.Packed.{unitNanos}
-use Rattle.demand.specs.Peers.State as peer-state
-use Rattle.demand.specs.Peers.State.{PeerTables}
-use Rattle.limiter.specs.State.{LimiterTables, LimiterState, tables, parametersOf, settingsOf}
+use Rattle.peers.specs.Peers.State as peer-state
+use Rattle.peers.specs.Peers.State.{PeerTables}
+use Rattle.limiter.specs.State.{LimiterTables, LimiterState, tables, parametersOf, settingsOf, unitsIn}
 use Rattle.limiter.specs.Checks.{clusterQuestions}
 use Rattle.limiter.specs.Ticks.{tickWithShares}
 use Rattle.limiter.specs.Calls.{here, bothQuestions}
@@ -29,7 +28,7 @@ asks s = bothQuestions (s .args .self) (lent s) (s .args .peers) (theirs s) ++ c
 
 abbrev after : tie.Start → LimiterState
 after s =
-    tickWithShares (parametersOf (settingsOf (s .args .self))) unitNanos (peer-state.stateOf (s .args .peers) (theirs s)) (s .args .reading) (s .args .cluster-size) (here (s .args .self) (lent s))
+    tickWithShares (parametersOf (settingsOf (s .args .self))) (unitsIn (s .args .self)) (peer-state.stateOf (s .args .peers) (theirs s)) (s .args .reading) (s .args .cluster-size) (here (s .args .self) (lent s))
 
 abbrev start : tie.After-ask-both → tie.Start
 start c = c .before .before .before .before .before .before .before .before .before .before

@@ -2,10 +2,10 @@
 use mathlib.Core.List.{[]}
 use borrow.Author.Needs.{needs}
 use Rattle.questions.proofs.Answers.{answer-no}
-use Rattle.limiter.specs.State.{LimiterTables, tables, stateOf}
+use Rattle.limiter.specs.State.{LimiterTables, tables, stateOf, unitsFor}
 use Rattle.limiter.specs.Calls.{stateQuestions}
 use Rattle.limiter.proofs.Checking.LiftLaws.{Passed}
-use Rattle.limiter.proofs.Checking.ReadyLaws.{held-keys}
+use Rattle.limiter.proofs.Checking.ReadyLaws.{lent-keys}
 use Rattle.limiter.proofs.Reading.ReaderLaws.{past, tells}
 use Rattle.limiter.proofs.Limiter.tracked.Statement.{statement}
 use Rattle.limiter.proofs.Limiter.tracked.Tie as tie
@@ -25,10 +25,11 @@ returns : tie.Need-returns
 returns c = let s = start (c .before) in answer-no _ (stateQuestions (s .args .self) (lent s)) _ (c .before .ask .ensures) (c .if1 .taken)
 
 is-tracked-requires : tie.Need-is-tracked-requires
-is-tracked-requires c κs = let s = start (c .before) in let p = asked c in held-keys (s .args .self) (lent s) (p .room) (p .ok)
+unfolding unitsFor
+is-tracked-requires c κs = let s = start (c .before) in let p = asked c in lent-keys (s .args .self) (lent s) (p .room) (p .ok)
 
 returns-2 : tie.Need-returns-2
-unfolding stateOf
+unfolding stateOf unitsFor
 returns-2 c = let e = c .before in let s = start (e .before) in tells (s .args .self) (lent s) (asked e) _ _ (c .is-tracked .ensures)
 
 pub tracked-spec : {M : Type 1} → statement M

@@ -4,7 +4,7 @@ use mathlib.Core.Bool.{true}
 use Prim.Native.Nat.{ℕ}
 use Rattle.gcra.specs.declared.Gcra.{Gcra}
 use Rattle.gcra.specs.declared.Checked.{Checked}
-use Rattle.gcra.specs.Packed.{unitNanos, validQuota}
+use Rattle.gcra.specs.Packed.{validQuota}
 use Rattle.questions.specs.Questions.{passes}
 use Rattle.gcra.specs.Meter.{decision, check}
 use Rattle.gcra.specs.Calls.{checkAnswer, askQuota, GcraChecks}
@@ -14,14 +14,15 @@ use Rattle.limiter.proofs.Checking.KeyRecordLaws.{given-is, never-refus
 use borrow.Author.Needs.{needs}
 use Rattle.limiter.proofs.checks.ask_meter.Statement.{statement}
 use Rattle.limiter.proofs.checks.ask_meter.Tie as tie
+use Rattle.limiter.specs.Steps.KeySteps.{units}
 
 -- question 2 passes
-asked : (g : Gcra) → validQuota unitNanos (g .quota) ≡ true → passes (askQuota (g .quota)) ≡ true
+asked : (g : Gcra) → validQuota units (g .quota) ≡ true → passes (askQuota (g .quota)) ≡ true
 unfolding passes
-asked g v = and-intro (validQuota unitNanos (g .quota)) true v refl
+asked g v = and-intro (validQuota units (g .quota)) true v refl
 
 -- so that the meter is left as a check leaves it
-left : (g : Gcra) (now : ℕ) (r : Checked) → validQuota unitNanos (g .quota) ≡ true → GcraChecks g now r → r .gcra ≡ check g now
+left : (g : Gcra) (now : ℕ) (r : Checked) → validQuota units (g .quota) ≡ true → GcraChecks g now r → r .gcra ≡ check g now
 left g now r v h = h .left ∙ sym (changed-passed (check g now) g (askQuota (g .quota)) (asked g v))
 
 returns : tie.Need-returns

@@ -2,13 +2,14 @@
 use mathlib.Core.Path.{refl, ap, _∙_}
 use Rattle.gcra.specs.declared.Gcra.{Gcra}
 use Rattle.gcra.specs.Packed.{validQuota}
-use Rattle.limiter.specs.Steps.KeySteps.{units}
 use Rattle.limiter.proofs.Checking.CheckLaws.{entry-quota, entry-placed, check-quota, check-acts}
 use borrow.Author.Needs.{needs}
 use Rattle.limiter.proofs.checks.check_key.Statement.{statement}
 use Rattle.limiter.proofs.checks.check_key.Tie as tie
+use Rattle.limiter.specs.State.{unitsIn, unitsFor}
 
 ask-meter-requires : tie.Need-ask-meter-requires
+unfolding unitsFor
 ask-meter-requires c κs =
     let o = c .before in
     let s = o .before .before .before in
@@ -26,8 +27,8 @@ raise-requires c κs =
       (
         entry-placed (s .args .limiter) (s .args .keys .now) (s .pre .0) (s .args .key) (s .args .limit) (s .args .reading) (s .args .cluster-size)
             (s .pre .1) _ (o .entry .ensures),
-        ap (λ (g : Gcra). validQuota units (g .quota)) (m .ask-meter .ensures .1)
-            ∙ ap (validQuota units) (check-quota (o .entry .result .state .gcra) (s .args .reading)) ∙ q,
+        ap (λ (g : Gcra). validQuota (unitsIn (s .args .limiter)) (g .quota)) (m .ask-meter .ensures .1)
+            ∙ ap (validQuota (unitsIn (s .args .limiter))) (check-quota (o .entry .result .state .gcra) (s .args .reading)) ∙ q,
       ),
     )
 

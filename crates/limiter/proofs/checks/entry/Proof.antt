@@ -6,6 +6,7 @@ use Rattle.records.specs.declared.Found.the-variants.{At}
 use Rattle.records.specs.Records.{findIn}
 use Rattle.limiter.specs.Checks.{limited}
 use Rattle.limiter.specs.Steps.KeySteps.{Readable}
+use Rattle.limiter.specs.State.{unitsFor}
 use Rattle.limiter.proofs.Checking.KeyTableLaws.{readable-found, entered-found, entered-new, never-unfit-key}
 use borrow.Author.Needs.{needs}
 use Rattle.limiter.proofs.checks.entry.Statement.{statement}
@@ -30,6 +31,7 @@ of-words-requires : tie.Need-of-words-requires
 of-words-requires c κs = readable c
 
 returns : tie.Need-returns
+unfolding unitsFor
 returns c =
     let k = c .before .before in
     let s = start k in

@@ -5,12 +5,14 @@ use lib.Dec.{ltb}
 use borrow.Author.Tests.{ltb-true}
 use Rattle.limiter.specs.Steps.KeySteps.{keyRecord}
 use Rattle.limiter.specs.Steps.CheckSteps.{foundAs}
+use Rattle.limiter.specs.State.{unitsFor}
 use Rattle.limiter.proofs.Checking.KeyTableLaws.{put-over, put-in}
 use borrow.Author.Needs.{needs}
 use Rattle.limiter.proofs.checks.put.Statement.{statement}
 use Rattle.limiter.proofs.checks.put.Tie as tie
 
 returns : tie.Need-returns
+unfolding unitsFor
 returns c =
     let o = c .before .before .before in
     let t = o .before .before .before in
@@ -21,6 +23,7 @@ returns c =
     _ _ _ (w .words .ensures) (c .with-keys .ensures) (o .overwrite .ensures .1)
 
 returns-2 : tie.Need-returns-2
+unfolding unitsFor
 returns-2 c =
     let o = c .before .before .before in
     let t = o .before .before .before in
@@ -33,6 +36,7 @@ returns-2 c =
     _ _ _ (w .words .ensures) (c .with-keys2 .ensures) (o .insert .ensures .1)
 
 pub put-spec : {M : Type 1} → statement M
+unfolding unitsFor
 put-spec =
     tie.close
     (tie.spec

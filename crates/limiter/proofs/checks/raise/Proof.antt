@@ -3,9 +3,9 @@ use mathlib.Core.Path.{sym, ap, _∙_, subst}
 use Prim.Native.Nat.{ℕ}
 use Rattle.gcra.specs.Packed.{validQuota}
 use Rattle.questions.specs.Questions.{firstNo}
-use Rattle.limiter.specs.State.{KeyRecord}
+use Rattle.limiter.specs.State.{KeyRecord, unitsIn}
 use Rattle.limiter.specs.Checks.{raised}
-use Rattle.limiter.specs.Steps.KeySteps.{units, keyRecord}
+use Rattle.limiter.specs.Steps.KeySteps.{keyRecord}
 use Rattle.limiter.specs.Steps.CheckSteps.{Placed, Puts}
 use Rattle.limiter.proofs.Checking.CheckLaws.{questions-are, place-passed, raises-no, raises-done}
 use borrow.Author.Needs.{needs}
@@ -46,7 +46,7 @@ put-requires c κs =
         (
           place-passed (s .args .limiter) (s .args .entry) (s .args .attempts) (s .args .denials) (s .args .shadow-denials) _
               (e .before .ask-key .ensures) (e .if1 .left) .0,
-          ap (λ (k : KeyRecord). validQuota units (k .gcra .quota)) (r .raised .ensures) ∙ s .pre .1 .1,
+          ap (λ (k : KeyRecord). validQuota (unitsIn (s .args .limiter)) (k .gcra .quota)) (r .raised .ensures) ∙ s .pre .1 .1,
         ),
       ),
     )

@@ -3,7 +3,7 @@ use Prim.Native.Nat.{ℕ, _+_, _-_, _*_, _≤_}
 use mathlib.Core.Path.{_≡_, subst}
 use native.Mathlib.Omega.{arith}
 use lib.ListN.{length}
-use Rattle.records.proofs.RecordLaws.{fits-le}
+use Rattle.records.proofs.Words.RecordLaws.{fits-le}
 use Rattle.limiter.specs.Steps.ManySteps.{ChecksPairs}
 use Rattle.limiter.proofs.States.RecordValidLaws.{word-of}
 use Rattle.limiter.proofs.Checking.EachLaws.{Reached, reached-none, pairs-burst, reached-ready, reached-keys, reached-output, reached-next}

@@ -4,12 +4,14 @@ use native.Mathlib.Omega.{arith}
 use borrow.Author.Needs.{needs}
 use lib.ListN.{length}
 use Rattle.gcra.specs.declared.Gcra.{Gcra}
-use Rattle.gcra.specs.Packed.{unitNanos, validQuota}
+use Rattle.gcra.specs.Packed.{validQuota}
 use Rattle.gcra.specs.Meter.{hasDebt}
+use Rattle.gcra.proofs.Packed.Encoding.{units-accepted}
 use Rattle.limiter.proofs.PassTwo.QuotaLaws.{row-long, word-unpacks}
 use Rattle.limiter.proofs.PassOne.KeyWordLaws.{stays-demand, stays-pending, stays-debt, quota-valid}
 use Rattle.limiter.proofs.pass_one.key_stays.Statement.{statement}
 use Rattle.limiter.proofs.pass_one.key_stays.Tie as tie
+use Rattle.limiter.specs.Steps.KeySteps.{units}
 
 abbrev start : tie.Else1 → tie.Start
 start c = c .before .before
@@ -18,7 +20,7 @@ abbrev cold : tie.After-is-demand → tie.Else1
 cold c = c .before .before .before
 
 long : (s : tie.Start) → length (s .args .r .now) ≡ 22
-long s = row-long (s .args .r .now) (s .pre)
+long s = row-long units units-accepted (s .args .r .now) (s .pre)
 
 returns-2 : tie.Need-returns-2
 returns-2 c =
@@ -26,7 +28,7 @@ returns-2 c =
     let f = d .before in
     let e = cold d in
     let s = start e in
-    stays-demand (s .args .silent) (s .args .r .now) (s .args .reading) (s .args .hot) (e .if1 .left) (f .from-bits .result) (f .from-bits .ensures)
+    stays-demand units (s .args .silent) (s .args .r .now) (s .args .reading) (s .args .hot) (e .if1 .left) (f .from-bits .result) (f .from-bits .ensures)
     (sym (d .is-demand .ensures) ∙ c .if2 .taken)
 
 returns-3 : tie.Need-returns-3
@@ -36,7 +38,7 @@ returns-3 c =
     let f = d .before in
     let e = cold d in
     let s = start e in
-    stays-pending (s .args .silent) (s .args .r .now) (s .args .reading) (s .args .hot) (e .if1 .left) (f .from-bits .result) (f .from-bits .ensures)
+    stays-pending units (s .args .silent) (s .args .r .now) (s .args .reading) (s .args .hot) (e .if1 .left) (f .from-bits .result) (f .from-bits .ensures)
     (sym (d .is-demand .ensures) ∙ n .if2 .left) (c .if3 .taken)
 
 -- the key's words, once its attempts are read
@@ -44,12 +46,12 @@ abbrev at-start : tie.Else3 → tie.Start
 at-start c = start (cold (c .before .before .before))
 
 meter-of-words-requires : tie.Need-meter-of-words-requires
-meter-of-words-requires c κs = let s = at-start c in (omega (arith, long s), word-unpacks (s .args .r .now) (s .pre))
+meter-of-words-requires c κs = let s = at-start c in (omega (arith, long s), word-unpacks units units-accepted (s .args .r .now) (s .pre))
 
 has-debt-requires : tie.Need-has-debt-requires
 has-debt-requires c κs =
     let s = at-start (c .before) in
-    ap (λ (g : Gcra). validQuota unitNanos (g .quota)) (c .meter-of-words .ensures) ∙ quota-valid (s .args .r .now) (s .pre)
+    ap (λ (g : Gcra). validQuota units (g .quota)) (c .meter-of-words .ensures) ∙ quota-valid units (s .args .r .now) (s .pre)
 
 returns-4 : tie.Need-returns-4
 returns-4 c =
@@ -60,7 +62,7 @@ returns-4 c =
     let f = d .before in
     let e = cold d in
     let s = start e in
-    stays-debt (s .args .silent) (s .args .r .now) (s .args .reading) (s .args .hot) (e .if1 .left) (f .from-bits .result) (f .from-bits .ensures)
+    stays-debt units (s .args .silent) (s .args .r .now) (s .args .reading) (s .args .hot) (e .if1 .left) (f .from-bits .result) (f .from-bits .ensures)
     (sym (d .is-demand .ensures) ∙ n .if2 .left)
     (omega (arith, q .if3 .left)) (c .has-debt .result)
     (c .has-debt .ensures ∙ ap (λ (g : Gcra). hasDebt g (s .args .reading)) (m .meter-of-words .ensures))

@@ -5,15 +5,18 @@ use native.Mathlib.Omega.{arith}
 use borrow.Author.Needs.{needs}
 use lib.ListN.{length}
 use Rattle.demand.specs.Allocation.{isRate}
-use Rattle.demand.specs.HotSet.Set.{entries}
-use Rattle.demand.proofs.HotSet.Words.{length-entries}
+use Rattle.hot.specs.HotSet.Set.{entries}
+use Rattle.hot.proofs.HotSet.Words.{length-entries}
+use Rattle.hot.proofs.HotSet.Table.{at-within, never-unfit}
 use Rattle.limiter.proofs.PassTwo.QuotaLaws.{row-long, limit-passes}
-use Rattle.limiter.proofs.PassTwo.RateLaws.{found-within, rate-found, rate-absent, rate-fit}
+use Rattle.limiter.proofs.PassTwo.RateLaws.{rate-found, rate-absent}
 use Rattle.limiter.proofs.pass_two.key_rate.Statement.{statement}
 use Rattle.limiter.proofs.pass_two.key_rate.Tie as tie
+use Rattle.limiter.specs.Steps.KeySteps.{units}
+use Rattle.gcra.proofs.Packed.Encoding.{units-accepted}
 
 long : (s : tie.Start) → length (s .args .r .now) ≡ 22
-long s = row-long (s .args .r .now) (s .pre .0)
+long s = row-long units units-accepted (s .args .r .now) (s .pre .0)
 
 -- there is a total for each hot entry
 room : (s : tie.Start) → length (entries (s .args .h) (s .args .hot .now)) ≤ length (s .args .totals .now)
@@ -30,13 +33,13 @@ place : (c : tie.After-found) → let s = start (begun (c .before .before)) in c
 place c =
     let f = c .before .before in
     let s = start (begun f) in
-    found-within (s .args .h) (s .args .hot .now) (s .pre .1) _ _ (sym (c .found .given .1) ∙ f .find .ensures)
+    at-within (s .args .h) (s .args .hot .now) (s .pre .1) _ _ (sym (c .found .given .1) ∙ f .find .ensures) .0
 
 hot-rate-requires : tie.Need-hot-rate-requires
 hot-rate-requires c κs =
     let b = begun (c .before .before .before .before .before .before) in
     let s = start b in
-    (ap isRate (b .from-bits .ensures) ∙ limit-passes (s .args .r .now) (s .pre .0), s .pre .3)
+    (ap isRate (b .from-bits .ensures) ∙ limit-passes units units-accepted (s .args .r .now) (s .pre .0), s .pre .3)
 
 returns : tie.Need-returns
 returns c =
@@ -45,7 +48,7 @@ returns c =
     let f = w .before .before in
     let b = begun f in
     let s = start b in
-    rate-found (s .args .terms) (s .args .r .now) (s .args .h) (s .args .hot .now) (s .pre .1) (s .args .totals .now) (s .args .elsewhere) _ _
+    rate-found units (s .args .terms) (s .args .r .now) (s .args .h) (s .args .hot .now) (s .pre .1) (s .args .totals .now) (s .args .elsewhere) _ _
     (b .from-bits .result) (g .from-bits2 .result) (c .hot-rate .result)
     (room s) (sym (w .found .given .1) ∙ f .find .ensures) (b .from-bits .ensures) (g .from-bits2 .ensures) (c .hot-rate .ensures)
 
@@ -55,7 +58,7 @@ returns-2 c =
     let f = w .before .before in
     let b = begun f in
     let s = start b in
-    rate-absent (s .args .terms) (s .args .r .now) (s .args .h) (s .args .hot .now) (s .pre .1) (s .args .totals .now) (s .args .elsewhere) _
+    rate-absent units (s .args .terms) (s .args .r .now) (s .args .h) (s .args .hot .now) (s .pre .1) (s .args .totals .now) (s .args .elsewhere) _
     (b .from-bits .result) (c .cold-rate .result)
     (sym (w .enum-told .given .1) ∙ f .find .ensures) (b .from-bits .ensures) (c .cold-rate .ensures)
 
@@ -64,8 +67,7 @@ returns-3 c =
     let w = c .before in
     let f = w .before .before in
     let s = start (begun f) in
-    absurd (rate-fit (s .args .terms) (s .args .r .now) (s .args .h) (s .args .hot .now) (s .pre .1) (s .args .totals .now) (s .args .elsewhere)
-    (sym (w .enum-told2 .given .1) ∙ f .find .ensures))
+    never-unfit (s .args .h) (s .args .hot .now) (s .pre .1) _ (sym (w .enum-told2 .given .1) ∙ f .find .ensures)
 
 pub key-rate-spec : {M : Type 1} → statement M
 key-rate-spec =

@@ -8,6 +8,7 @@ use Rattle.records.specs.declared.Found.the-variants.{At}
 use Rattle.records.specs.Records.{findIn}
 use Rattle.questions.specs.Lists.{first}
 use Rattle.limiter.specs.Steps.KeySteps.{Readable}
+use Rattle.limiter.specs.State.{unitsFor}
 use Rattle.limiter.proofs.Checking.KeyTableLaws.{readable-found, those-key, no-key, never-unfit-key}
 use Rattle.limiter.proofs.readers.find_key.Statement.{statement}
 use Rattle.limiter.proofs.readers.find_key.Tie as tie
@@ -24,6 +25,7 @@ readable c =
     readable-found (s .args .limiter) (s .args .keys .now) (s .pre) (s .args .key) (c .before .place .given .0 .0) (found c)
 
 returns : tie.Need-returns
+unfolding unitsFor
 returns c =
     let k = c .before in
     let s = start (k .before .before .before) in

@@ -3,7 +3,7 @@ use Prim.Native.Nat.{_+_, _-_, _*_, _≤_}
 use mathlib.Core.Path.{refl}
 use native.Mathlib.Omega.{arith}
 use lib.ListN.{length}
-use Rattle.records.proofs.RecordLaws.{row}
+use Rattle.records.proofs.Words.RecordLaws.{row}
 use Rattle.limiter.proofs.Validity.MergeLaws.{Merging, merge-ends, merge-out, merge-other, merge-next}
 use Rattle.limiter.proofs.scan.are_among.Statement.{statement}
 use Rattle.limiter.proofs.scan.are_among.Tie as tie

@@ -4,9 +4,9 @@ use native.Mathlib.Omega.{arith}
 use borrow.Author.Needs.{needs}
 use Rattle.questions.proofs.Tests.{told-no, told-yes}
 use Rattle.records.specs.Records.{records}
-use Rattle.demand.specs.HotSet.Steps.{areEntryWords}
-use Rattle.demand.proofs.Peers.Validity.ValidLaws.{all-words}
-use Rattle.limiter.specs.Steps.Scan.{areRecords}
+use Rattle.hot.specs.HotSet.Steps.{areEntryWords}
+use Rattle.records.specs.Typed.{areRecords}
+use Rattle.records.proofs.Tables.TypedLaws.{all-words}
 use Rattle.limiter.proofs.Validity.ValidLaws.{entries-told}
 use Rattle.limiter.proofs.Validity.MergeLaws.{too-many, not-records, by-merge}
 use Rattle.limiter.proofs.scan.are_hot.Statement.{statement}

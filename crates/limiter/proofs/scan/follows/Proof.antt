@@ -1,5 +1,5 @@
 -- `follows` meets its contract.
-use Rattle.limiter.proofs.Validity.ScanTableLaws.{first-follows, next-follows}
+use Rattle.records.proofs.Tables.ScanLaws.{first-follows, next-follows}
 use borrow.Author.Needs.{needs}
 use Rattle.limiter.proofs.scan.follows.Statement.{statement}
 use Rattle.limiter.proofs.scan.follows.Tie as tie

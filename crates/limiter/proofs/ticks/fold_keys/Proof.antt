@@ -7,13 +7,14 @@ use borrow.Author.Needs.{needs}
 use lib.ListN.{length}
 use Rattle.records.specs.Records.{records}
 use Rattle.limiter.specs.Steps.TickSteps.{AreAlphas, foldedRow}
+use Rattle.limiter.specs.Steps.KeySteps.{units}
 use Rattle.limiter.proofs.Walking.FoldLaws.{lent-key, folded-wide, folded-many, folded-at, first-alphas}
 use Rattle.limiter.proofs.Walking.RowLaws.{Mapping, map-none, map-long, map-all, map-inside, map-here, map-next}
 use Rattle.limiter.proofs.ticks.fold_keys.Statement.{statement}
 use Rattle.limiter.proofs.ticks.fold_keys.Tie as tie
 
 abbrev Inv-loop : tie.InvT-loop
-Inv-loop keys₀ n reading time-constant denial-time-constant known₀ i₀ keys known i = Mapping 22 n (map (foldedRow time-constant denial-time-constant reading) (records 22 n keys₀)) keys₀ keys i × AreAlphas time-constant denial-time-constant known
+Inv-loop keys₀ n reading time-constant denial-time-constant known₀ i₀ keys known i = Mapping 22 n (map (foldedRow units time-constant denial-time-constant reading) (records 22 n keys₀)) keys₀ keys i × AreAlphas time-constant denial-time-constant known
 
 abbrev μ-loop : tie.MeasureT-loop
 μ-loop keys₀ n reading time-constant denial-time-constant known₀ i₀ keys known i = n - i
@@ -25,7 +26,7 @@ loop-holds : tie.Need-loop-holds Inv-loop μ-loop
 loop-holds c =
     let s = c .before .before .before in
     let a = s .args in (
-      map-none 22 (a .n) _ (a .keys .now) (folded-wide (a .time-constant) (a .denial-time-constant) (a .reading) (a .n) (a .keys .now)) (folded-many (a .time-constant) (a .denial-time-constant) (a .reading) (a .n) (a .keys .now)) (s .pre .fit),
+      map-none 22 (a .n) _ (a .keys .now) (folded-wide units (a .time-constant) (a .denial-time-constant) (a .reading) (a .n) (a .keys .now)) (folded-many units (a .time-constant) (a .denial-time-constant) (a .reading) (a .n) (a .keys .now)) (s .pre .fit),
       first-alphas (s .args .time-constant) (s .args .denial-time-constant) _ _ (c .before .first-alpha .ensures) (c .first-alpha2 .ensures),
     )
 
@@ -41,7 +42,7 @@ loop-again c =
     let t = f .before .before in
     let s = start (t .before) in
     let k = t .before .loop .inv .0 in
-    (map-next _ _ _ _ _ _ k (t .loop-test .taken) _ _ refl (f .fold-key .ensures .1 ∙ ap (foldedRow (s .args .time-constant) (s .args .denial-time-constant) (s .args .reading)) (map-here _ _ _ _ _ _ k (t .loop-test .taken)) ∙ folded-at (s .args .time-constant) (s .args .denial-time-constant) (s .args .reading) (s .args .n) (s .args .keys .now) (t .before .loop .i) (t .loop-test .taken)), f .fold-key .ensures .0)
+    (map-next _ _ _ _ _ _ k (t .loop-test .taken) _ _ refl (f .fold-key .ensures .1 ∙ ap (foldedRow units (s .args .time-constant) (s .args .denial-time-constant) (s .args .reading)) (map-here _ _ _ _ _ _ k (t .loop-test .taken)) ∙ folded-at units (s .args .time-constant) (s .args .denial-time-constant) (s .args .reading) (s .args .n) (s .args .keys .now) (t .before .loop .i) (t .loop-test .taken)), f .fold-key .ensures .0)
 
 pub fold-keys-spec : {M : Type 1} → statement M
 fold-keys-spec =
@@ -58,7 +59,7 @@ fold-keys-spec =
     (λ c. omega (arith, inside c))
     (λ c. omega (arith, inside c))
     (λ c. omega (arith, inside c))
-    (λ c κs. let l = c .before .before .loop in (lent-key _ _ _ _ _ (l .inv .0) (start (c .before .before) .pre) (c .before .loop-test .taken), l .inv .1))
+    (λ c κs. let l = c .before .before .loop in (lent-key _ _ _ _ _ _ (l .inv .0) (start (c .before .before) .pre) (c .before .loop-test .taken), l .inv .1))
     (λ c. omega arith)
     (λ c. omega arith)
     loop-again

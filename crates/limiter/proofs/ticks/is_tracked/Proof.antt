@@ -7,13 +7,13 @@ use Rattle.limiter.proofs.ticks.is_tracked.Statement.{statement}
 use Rattle.limiter.proofs.ticks.is_tracked.Tie as tie
 
 returns : tie.Need-returns
-returns c = let f = c .before .before in sym (ap isAt (c .enum-told .given .1)) ∙ tracked-found _ _ (f .before .before .pre) _ (f .find .result) (f .find .ensures)
+returns c = let f = c .before .before in sym (ap isAt (c .enum-told .given .1)) ∙ tracked-found _ _ _ (f .before .before .pre) _ (f .find .result) (f .find .ensures)
 
 returns-2 : tie.Need-returns-2
-returns-2 c = let f = c .before .before in sym (ap isAt (c .enum-told2 .given .1)) ∙ tracked-found _ _ (f .before .before .pre) _ (f .find .result) (f .find .ensures)
+returns-2 c = let f = c .before .before in sym (ap isAt (c .enum-told2 .given .1)) ∙ tracked-found _ _ _ (f .before .before .pre) _ (f .find .result) (f .find .ensures)
 
 returns-3 : tie.Need-returns-3
-returns-3 c = let f = c .before .before in sym (ap isAt (c .enum-told3 .given .1)) ∙ tracked-found _ _ (f .before .before .pre) _ (f .find .result) (f .find .ensures)
+returns-3 c = let f = c .before .before in sym (ap isAt (c .enum-told3 .given .1)) ∙ tracked-found _ _ _ (f .before .before .pre) _ (f .find .result) (f .find .ensures)
 
 pub is-tracked-spec : {M : Type 1} → statement M
 is-tracked-spec =

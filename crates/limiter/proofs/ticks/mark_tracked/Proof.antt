@@ -6,9 +6,10 @@ use mathlib.Core.List.{List, map}
 use native.Mathlib.Omega.{arith}
 use lib.ListN.{length, drop}
 use Rattle.records.specs.Records.{records}
-use Rattle.records.proofs.RecordLaws.{row}
+use Rattle.records.proofs.Words.RecordLaws.{row}
 use Rattle.limiter.specs.State.{isTracked}
 use Rattle.limiter.specs.Steps.TickSteps.{keyRecords, shadowKey}
+use Rattle.limiter.specs.Steps.KeySteps.{units}
 use Rattle.limiter.proofs.Walking.CutLaws.{Filling, fill-none, fill-more, fill-all}
 use Rattle.limiter.proofs.Walking.RowLaws.{rows-from, rows-done}
 use Rattle.limiter.proofs.Walking.ShadowLaws.{shadow-key-at}
@@ -17,7 +18,7 @@ use Rattle.limiter.proofs.ticks.mark_tracked.Tie as tie
 
 -- whether the key of a shadow's record has state
 abbrev test : ℕ → List ℕ → List ℕ → Bool
-test n keys x = isTracked (keyRecords n keys) (shadowKey x)
+test n keys x = isTracked (keyRecords units n keys) (shadowKey units x)
 
 abbrev Inv-loop : tie.InvT-loop
 Inv-loop shadows m keys n stays₀ i₀ stays i = Filling m stays₀ stays i (map (test n keys) (drop i (records 4 m shadows))) (map (test n keys) (records 4 m shadows))
@@ -43,7 +44,7 @@ loop-again c =
     let h = t .loop-test .taken in
     fill-more (c .is-tracked .result) _ (l .inv) h
     (rows-from 4 (test (a .n) (a .keys .now)) (a .m) (a .shadows .now) (l .i) h (c .is-tracked .result)
-    (c .is-tracked .ensures ∙ ap (isTracked (keyRecords (a .n) (a .keys .now))) (shadow-key-at (a .m) (a .shadows .now) (l .i) h)))
+    (c .is-tracked .ensures ∙ ap (isTracked (keyRecords units (a .n) (a .keys .now))) (shadow-key-at units (a .m) (a .shadows .now) (l .i) h)))
 
 returns : tie.Need-returns Inv-loop μ-loop
 returns c =

@@ -4,8 +4,10 @@ use mathlib.Core.List.{List, map}
 use native.Mathlib.Omega.{arith}
 use lib.ListN.{drop}
 use Rattle.records.specs.Records.{records}
-use Rattle.demand.specs.HotSet.Set.{entries}
-use Rattle.limiter.specs.Steps.TickSteps.{keyRecord, keyRank}
+use Rattle.hot.specs.HotSet.Set.{entries}
+use Rattle.limiter.specs.Steps.TickSteps.{keyRank}
+use Rattle.limiter.specs.Steps.KeySteps.{units}
+use Rattle.limiter.specs.State.{keyOf}
 use Rattle.limiter.proofs.Walking.RowLaws.{rows-from, rows-done}
 use Rattle.limiter.proofs.Walking.CutLaws.{Filling, fill-none, fill-more, fill-all}
 use Rattle.limiter.proofs.ticks.rank_keys.Statement.{statement}
@@ -13,7 +15,7 @@ use Rattle.limiter.proofs.ticks.rank_keys.Tie as tie
 
 -- the rank of the key in a record's words
 abbrev rank : ℕ → List ℕ → ℕ → List ℕ → ℕ
-rank h hot c r = keyRank c (entries h hot) (keyRecord r)
+rank h hot c r = keyRank c (entries h hot) (keyOf units r)
 
 abbrev Inv-loop : tie.InvT-loop
 Inv-loop keys n hot h time-constant ranks₀ i₀ ranks i = Filling n ranks₀ ranks i (map (rank h hot time-constant) (drop i (records 22 n keys))) (map (rank h hot time-constant) (records 22 n keys))

@@ -5,6 +5,8 @@ use Rattle.limiter.proofs.Checking.ShadowTableLaws.{found-shadow, shado
 use borrow.Author.Needs.{needs}
 use Rattle.limiter.proofs.traces.drop_shadow.Statement.{statement}
 use Rattle.limiter.proofs.traces.drop_shadow.Tie as tie
+use Rattle.limiter.specs.Steps.KeySteps.{units}
+use Rattle.gcra.proofs.Packed.Encoding.{units-accepted}
 
 sub-result : tie.Need-sub-result
 sub-result c =
@@ -13,7 +15,7 @@ sub-result c =
     let s = f .before .before .before in
     omega (
       arith,
-      found-shadow (s .args .n) (s .args .shadows .now) (s .pre) (s .args .key) (i .place .given .0 .0)
+      found-shadow units units-accepted (s .args .n) (s .args .shadows .now) (s .pre) (s .args .key) (i .place .given .0 .0)
           (sym (i .place .given .1) ∙ f .find .ensures) .0,
     )
 
@@ -23,20 +25,20 @@ returns c =
     let i = o .before .before .before in
     let f = i .before .before in
     let s = f .before .before .before in
-    shadow-out (s .args .n) (s .args .shadows .now) (s .pre) (s .args .key) (i .place .given .0 .0) (sym (i .place .given .1) ∙ f .find .ensures) _
+    shadow-out units units-accepted (s .args .n) (s .args .shadows .now) (s .pre) (s .args .key) (i .place .given .0 .0) (sym (i .place .given .1) ∙ f .find .ensures) _
     (o .remove .ensures .1)
 
 returns-2 : tie.Need-returns-2
 returns-2 c =
     let f = c .before .before in
     let s = f .before .before .before in
-    shadow-kept (s .args .n) (s .args .shadows .now) (s .pre) (s .args .key) _ (sym (c .enum-told .given .1) ∙ f .find .ensures)
+    shadow-kept units units-accepted (s .args .n) (s .args .shadows .now) (s .pre) (s .args .key) _ (sym (c .enum-told .given .1) ∙ f .find .ensures)
 
 returns-3 : tie.Need-returns-3
 returns-3 c =
     let f = c .before .before in
     let s = f .before .before .before in
-    never-unfit-shadow (s .args .n) (s .args .shadows .now) (s .pre) (s .args .key) (sym (c .enum-told2 .given .1) ∙ f .find .ensures)
+    never-unfit-shadow units units-accepted (s .args .n) (s .args .shadows .now) (s .pre) (s .args .key) (sym (c .enum-told2 .given .1) ∙ f .find .ensures)
 
 pub drop-shadow-spec : {M : Type 1} → statement M
 drop-shadow-spec =

@@ -2,12 +2,13 @@
 use mathlib.Core.Path.{refl, sym, ap, _∙_}
 use mathlib.Core.Bool.{true}
 use lib.Ieee.{Float, binary64, mul, div}
-use Rattle.gcra.specs.Packed.{unitNanos, validQuota}
+use Rattle.gcra.specs.Packed.{validQuota}
 use Rattle.questions.specs.Questions.{passes}
 use Rattle.gcra.specs.Rate.{perSecond, ratePerSec}
 use Rattle.gcra.specs.Calls.{rateAnswer, askQuota, quotaRate}
 use Rattle.questions.proofs.Tests.{and-intro}
 use Rattle.limiter.specs.Checks.{shadowQuota}
+use Rattle.limiter.specs.Steps.KeySteps.{units}
 use Rattle.limiter.proofs.Checking.KeyRecordLaws.{given-is, never-refused}
 use borrow.Author.Needs.{needs}
 use Rattle.limiter.proofs.traces.shadow_quota.Statement.{statement}
@@ -20,7 +21,7 @@ returns c =
     let o = m .before .before in
     let s = o .before in
     c .quota-for .ensures
-    ∙ ap (λ (x : Float). perSecond unitNanos (div binary64 (mul binary64 x (s .args .shadow .rate)) (s .args .limit .rate)) (s .args .shadow .burst))
+    ∙ ap (λ (x : Float). perSecond units (div binary64 (mul binary64 x (s .args .shadow .rate)) (s .args .limit .rate)) (s .args .shadow .burst))
     (given-is (askQuota (s .args .quota)) _ (ratePerSec (s .args .quota)) (o .rate-per-sec .ensures) (sym (ap rateAnswer (m .rate .given .1))))
 
 returns-2 : tie.Need-returns-2
@@ -28,7 +29,7 @@ unfolding quotaRate passes
 returns-2 c =
     let o = c .before .before in
     let s = o .before in
-    never-refused (askQuota (s .args .quota)) _ (ratePerSec (s .args .quota)) (and-intro (validQuota unitNanos (s .args .quota)) true (s .pre) refl)
+    never-refused (askQuota (s .args .quota)) _ (ratePerSec (s .args .quota)) (and-intro (validQuota units (s .args .quota)) true (s .pre) refl)
     (o .rate-per-sec .ensures) (sym (ap rateAnswer (c .enum-told .given .1)))
 
 pub shadow-quota-spec : {M : Type 1} → statement M

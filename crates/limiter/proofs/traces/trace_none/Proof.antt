@@ -4,8 +4,7 @@ use mathlib.Core.Option.{none}
 use Rattle.gcra.specs.Meter.{decision}
 use Rattle.gcra.specs.Calls.{checkAnswer}
 use Rattle.questions.proofs.Answers.{given-passed}
-use Rattle.gcra.specs.Packed.{unitNanos}
-use Rattle.limiter.specs.State.{KeyRecord}
+use Rattle.limiter.specs.State.{KeyRecord, unitsIn, unitsFor}
 use Rattle.limiter.specs.Checks.{entry}
 use Rattle.limiter.specs.Steps.CheckSteps.{keysOnly}
 use Rattle.limiter.specs.Steps.TraceSteps.{tracedAsks}
@@ -16,7 +15,7 @@ use Rattle.limiter.proofs.traces.trace_none.Tie as tie
 
 -- the key of the call
 abbrev found : tie.Start → KeyRecord
-found s = entry unitNanos (keysOnly (s .args .limiter) (s .args .keys .now)) (s .args .key) (s .args .limit) (s .args .reading) (s .args .cluster-size)
+found s = entry (unitsIn (s .args .limiter)) (keysOnly (s .args .limiter) (s .args .keys .now)) (s .args .key) (s .args .limit) (s .args .reading) (s .args .cluster-size)
 
 returns : tie.Need-returns
 returns c =
@@ -28,6 +27,7 @@ returns c =
     (c .before .answer .given .0 .0) _ _ (sym (ap checkAnswer (c .before .answer .given .1)) ∙ h .says) (h .limiter) (h .words)
 
 returns-2 : tie.Need-returns-2
+unfolding unitsFor
 returns-2 c =
     let d = c .before .before .before in
     let i = d .before .before .before in
@@ -41,6 +41,7 @@ returns-2 c =
     _ _ _ _ _ _ _ (p .1) refl (h .limiter) (h .words) (d .drop-shadow .ensures) (c .with-shadows .ensures)
 
 pub trace-none-spec : {M : Type 1} → statement M
+unfolding unitsFor
 trace-none-spec =
     tie.close
     (tie.spec

@@ -5,41 +5,44 @@ use lib.Ieee.{binary64, mul, div}
 use Rattle.gcra.specs.declared.Gcra.{Gcra}
 use Rattle.gcra.specs.Packed.{validQuota}
 use Rattle.gcra.specs.Rate.{ratePerSec}
-use Rattle.gcra.proofs.Encoding.{units-accepted}
-use Rattle.gcra.proofs.Rates.{per-second-valid}
+use Rattle.gcra.proofs.Rate.Rates.{per-second-valid}
 use Rattle.limiter.specs.Checks.{shadowQuota}
-use Rattle.limiter.specs.Steps.KeySteps.{units}
+use Rattle.limiter.specs.State.{unitsIn, settingsOf, unitsFor}
 use Rattle.limiter.proofs.Checking.CheckLaws.{entry-quota, entry-placed, check-quota}
 use Rattle.limiter.proofs.Checking.TraceLaws.{with-no, with-room, with-yes}
 use borrow.Author.Needs.{needs}
 use Rattle.limiter.proofs.traces.trace_with.Statement.{statement}
 use Rattle.limiter.proofs.traces.trace_with.Tie as tie
+use Rattle.limiter.proofs.States.StateValidLaws.{units-of-accepted}
 
 -- the key's quota is valid
-quota : (o : tie.After-entry) → validQuota units (o .entry .result .state .gcra .quota) ≡ true
+quota : (o : tie.After-entry) → validQuota (unitsIn (o .before .before .before .before .args .limiter)) (o .entry .result .state .gcra .quota) ≡ true
 quota o =
     let s = o .before .before .before .before in
     entry-quota (s .args .limiter) (s .args .keys .now) (s .pre .0) (s .args .key) (s .args .limit) (s .args .reading) (s .args .cluster-size)
     (s .pre .1 .1 .0 .0) _ (o .entry .ensures)
 
 -- so is the shadow's
-wanted : (w : tie.After-shadow-quota) → validQuota units (w .shadow-quota .result) ≡ true
-unfolding shadowQuota
+wanted : (w : tie.After-shadow-quota) → let o = w .before .before .before .before .before in validQuota (unitsIn (o .before .before .before .before .args .limiter)) (w .shadow-quota .result) ≡ true
+unfolding shadowQuota unitsFor
 wanted w =
     let o = w .before .before .before .before .before in
     let s = o .before .before .before .before in
-    ap (validQuota units) (w .shadow-quota .ensures)
-    ∙ per-second-valid units units-accepted
+    ap (validQuota (unitsIn (s .args .limiter))) (w .shadow-quota .ensures)
+    ∙ per-second-valid (unitsIn (s .args .limiter)) (units-of-accepted (settingsOf (s .args .limiter)))
     (div binary64 (mul binary64 (ratePerSec (o .entry .result .state .gcra .quota)) (s .args .shadow .rate)) (s .args .limit .rate))
     (s .args .shadow .burst) (s .pre .1 .1 .0 .1)
 
 ask-meter-requires : tie.Need-ask-meter-requires
+unfolding unitsFor
 ask-meter-requires c κs = quota (c .before .before)
 
 shadow-quota-requires : tie.Need-shadow-quota-requires
+unfolding unitsFor
 shadow-quota-requires c κs = quota (c .before .before .before .before)
 
 try-shadow-requires : tie.Need-try-shadow-requires
+unfolding unitsFor
 try-shadow-requires c κs =
     let w = c .before in
     let s = w .before .before .before .before .before .before .before .before .before in
@@ -54,12 +57,13 @@ raise-requires c κs =
       (
         entry-placed (s .args .limiter) (s .args .keys .now) (s .pre .0) (s .args .key) (s .args .limit) (s .args .reading) (s .args .cluster-size)
             (s .pre .1 .1 .0 .0) _ (o .entry .ensures),
-        ap (λ (g : Gcra). validQuota units (g .quota)) (m .ask-meter .ensures .1)
-            ∙ ap (validQuota units) (check-quota (o .entry .result .state .gcra) (s .args .reading)) ∙ quota o,
+        ap (λ (g : Gcra). validQuota (unitsIn (s .args .limiter)) (g .quota)) (m .ask-meter .ensures .1)
+            ∙ ap (validQuota (unitsIn (s .args .limiter))) (check-quota (o .entry .result .state .gcra) (s .args .reading)) ∙ quota o,
       ),
     )
 
 returns : tie.Need-returns
+unfolding unitsFor
 returns c =
     let x = c .before .before .before .before .before in
     let d₂ = x .before .before in
@@ -77,6 +81,7 @@ returns c =
     (d₂ .denied2 .ensures) (x .raise .ensures) (c .if1 .taken)
 
 put-shadow-requires : tie.Need-put-shadow-requires
+unfolding unitsFor
 put-shadow-requires c κs =
     let x = c .before .before .before .before .before .before in
     let d₂ = x .before .before in
@@ -102,6 +107,7 @@ put-shadow-requires c κs =
     )
 
 returns-2 : tie.Need-returns-2
+unfolding unitsFor
 returns-2 c =
     let p = c .before .before .before in
     let e = p .before .before in

@@ -4,6 +4,7 @@ use mathlib.Core.Bool.{true}
 use Rattle.gcra.specs.declared.Gcra.{Gcra}
 use Rattle.gcra.specs.Packed.{validQuota}
 use Rattle.gcra.specs.Meter.{decision, check}
+use Rattle.gcra.proofs.Packed.Encoding.{units-accepted}
 use Rattle.limiter.specs.Steps.KeySteps.{units}
 use Rattle.limiter.proofs.Checking.CheckLaws.{check-quota}
 use Rattle.limiter.proofs.Checking.ShadowTableLaws.{meter-valid}
@@ -16,7 +17,7 @@ quota : (o : tie.After-shadow-entry) → validQuota units (o .shadow-entry .resu
 quota o =
     let s = o .before .before in
     ap (λ (g : Gcra). validQuota units (g .quota)) (o .shadow-entry .ensures .meter)
-    ∙ meter-valid (s .args .n) (s .args .shadows .now) (s .pre .0) (s .args .key) (s .args .wanted) (s .args .reading) (s .pre .1)
+    ∙ meter-valid units units-accepted (s .args .n) (s .args .shadows .now) (s .pre .0) (s .args .key) (s .args .wanted) (s .args .reading) (s .pre .1)
 
 ask-meter-requires : tie.Need-ask-meter-requires
 ask-meter-requires c κs = quota c

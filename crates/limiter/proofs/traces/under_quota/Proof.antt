@@ -3,7 +3,7 @@ use mathlib.Core.Path.{_≡_, refl, sym, _∙_}
 use mathlib.Core.Bool.{true, _&&_}
 use Rattle.gcra.specs.declared.Gcra.{Gcra}
 use Rattle.gcra.specs.declared.Quota.{Quota}
-use Rattle.gcra.specs.Packed.{unitNanos, validQuota}
+use Rattle.gcra.specs.Packed.{validQuota}
 use Rattle.questions.specs.Questions.{passes}
 use Rattle.gcra.specs.Rate.{setQuota}
 use Rattle.gcra.specs.Calls.{askQuotas}
@@ -12,13 +12,14 @@ use Rattle.questions.proofs.Tests.{and-intro}
 use borrow.Author.Needs.{needs}
 use Rattle.limiter.proofs.traces.under_quota.Statement.{statement}
 use Rattle.limiter.proofs.traces.under_quota.Tie as tie
+use Rattle.limiter.specs.Steps.KeySteps.{units}
 
 -- question 2 of both passes
-asked : (g : Gcra) (q : Quota) → validQuota unitNanos (g .quota) ≡ true → validQuota unitNanos q ≡ true → passes (askQuotas g q) ≡ true
+asked : (g : Gcra) (q : Quota) → validQuota units (g .quota) ≡ true → validQuota units q ≡ true → passes (askQuotas g q) ≡ true
 unfolding passes
 asked g q v w =
-    and-intro (validQuota unitNanos (g .quota) && validQuota unitNanos q) true
-    (and-intro (validQuota unitNanos (g .quota)) (validQuota unitNanos q) v w) refl
+    and-intro (validQuota units (g .quota) && validQuota units q) true
+    (and-intro (validQuota units (g .quota)) (validQuota units q) v w) refl
 
 returns : tie.Need-returns
 returns c =

@@ -1,8 +1,8 @@
 -- `change_number` meets its contract.
 use mathlib.Core.Path.{sym, ap}
 use borrow.Author.Needs.{needs}
-use Rattle.demand.specs.Peers.Calls.{changeAnswer}
-use Rattle.demand.specs.declared.peer_demand.ChangeAnswer.{ChangeAnswer}
+use Rattle.peers.specs.Peers.Calls.{changeAnswer}
+use Rattle.peers.specs.declared.peer_demand.ChangeAnswer.{ChangeAnswer}
 use Rattle.nultiway.specs.Calls.{numberOf}
 use Rattle.nultiway.proofs.answers.change_number.Statement.{statement}
 use Rattle.nultiway.proofs.answers.change_number.Tie as tie

@@ -7,7 +7,7 @@ use Rattle.records.specs.Words.{paste}
 use Rattle.limiter.specs.Calls.{configAnswer}
 use Rattle.limiter.specs.declared.ConfigAnswer.{ConfigAnswer}
 use Rattle.nultiway.specs.LimiterCalls.{configWords}
-use Rattle.nultiway.proofs.CallLaws.{said-put}
+use Rattle.nultiway.proofs.Calls.CallLaws.{said-put}
 use Rattle.nultiway.proofs.answers.put_config.Statement.{statement}
 use Rattle.nultiway.proofs.answers.put_config.Tie as tie
 

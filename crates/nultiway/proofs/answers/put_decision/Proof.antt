@@ -7,7 +7,7 @@ use Rattle.records.specs.Words.{paste}
 use Rattle.gcra.specs.declared.CheckAnswer.{CheckAnswer}
 use Rattle.gcra.specs.Calls.{checkAnswer}
 use Rattle.nultiway.specs.Calls.{decisionWords}
-use Rattle.nultiway.proofs.CallLaws.{said-put}
+use Rattle.nultiway.proofs.Calls.CallLaws.{said-put}
 use Rattle.nultiway.proofs.answers.put_decision.Statement.{statement}
 use Rattle.nultiway.proofs.answers.put_decision.Tie as tie
 

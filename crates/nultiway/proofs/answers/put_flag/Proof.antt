@@ -7,7 +7,7 @@ use Rattle.records.specs.Words.{paste}
 use Rattle.demand.specs.Answers.{flagAnswer}
 use Rattle.demand.specs.declared.answers.FlagAnswer.{FlagAnswer}
 use Rattle.nultiway.specs.Calls.{flagWords}
-use Rattle.nultiway.proofs.CallLaws.{said-put}
+use Rattle.nultiway.proofs.Calls.CallLaws.{said-put}
 use Rattle.nultiway.proofs.answers.put_flag.Statement.{statement}
 use Rattle.nultiway.proofs.answers.put_flag.Tie as tie
 

@@ -4,7 +4,7 @@ use borrow.Author.Needs.{needs}
 use Rattle.limiter.specs.Calls.{keyQuotaAnswer}
 use Rattle.limiter.specs.declared.KeyQuotaAnswer.{KeyQuotaAnswer}
 use Rattle.nultiway.specs.LimiterCalls.{keyQuotaWords}
-use Rattle.nultiway.proofs.CallLaws.{said-put}
+use Rattle.nultiway.proofs.Calls.CallLaws.{said-put}
 use Rattle.nultiway.proofs.answers.put_key_quota.Statement.{statement}
 use Rattle.nultiway.proofs.answers.put_key_quota.Tie as tie
 

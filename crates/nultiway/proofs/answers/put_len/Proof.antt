@@ -4,7 +4,7 @@ use borrow.Author.Needs.{needs}
 use Rattle.demand.specs.declared.answers.LenAnswer.{LenAnswer}
 use Rattle.demand.specs.Answers.{lenAnswer}
 use Rattle.nultiway.specs.Calls.{oneWord}
-use Rattle.nultiway.proofs.CallLaws.{said-put}
+use Rattle.nultiway.proofs.Calls.CallLaws.{said-put}
 use Rattle.nultiway.proofs.answers.put_len.Statement.{statement}
 use Rattle.nultiway.proofs.answers.put_len.Tie as tie
 

@@ -7,7 +7,7 @@ use Rattle.records.specs.Words.{paste}
 use Rattle.limiter.specs.Calls.{limitAnswer}
 use Rattle.limiter.specs.declared.LimitAnswer.{LimitAnswer}
 use Rattle.nultiway.specs.LimiterCalls.{limitWords}
-use Rattle.nultiway.proofs.CallLaws.{said-put}
+use Rattle.nultiway.proofs.Calls.CallLaws.{said-put}
 use Rattle.nultiway.proofs.answers.put_limit.Statement.{statement}
 use Rattle.nultiway.proofs.answers.put_limit.Tie as tie
 

@@ -4,7 +4,7 @@ use borrow.Author.Needs.{needs}
 use Rattle.limiter.specs.declared.LimiterAnswer.{LimiterAnswer}
 use Rattle.limiter.specs.Calls.{limiterAnswer}
 use Rattle.nultiway.specs.Values.{limiterWords}
-use Rattle.nultiway.proofs.CallLaws.{said-put}
+use Rattle.nultiway.proofs.Calls.CallLaws.{said-put}
 use Rattle.nultiway.proofs.answers.put_new.Statement.{statement}
 use Rattle.nultiway.proofs.answers.put_new.Tie as tie
 

@@ -4,7 +4,7 @@ use borrow.Author.Needs.{needs}
 use Rattle.gcra.specs.Calls.{quotaAnswer}
 use Rattle.gcra.specs.declared.QuotaAnswer.{QuotaAnswer}
 use Rattle.nultiway.specs.Calls.{quotaWords}
-use Rattle.nultiway.proofs.CallLaws.{said-put}
+use Rattle.nultiway.proofs.Calls.CallLaws.{said-put}
 use Rattle.nultiway.proofs.answers.put_quota.Statement.{statement}
 use Rattle.nultiway.proofs.answers.put_quota.Tie as tie
 

@@ -7,7 +7,7 @@ use Rattle.records.specs.Words.{paste}
 use Rattle.gcra.specs.Calls.{rateAnswer}
 use Rattle.gcra.specs.declared.RateAnswer.{RateAnswer}
 use Rattle.nultiway.specs.Calls.{floatWords}
-use Rattle.nultiway.proofs.CallLaws.{said-put}
+use Rattle.nultiway.proofs.Calls.CallLaws.{said-put}
 use Rattle.nultiway.proofs.answers.put_rate.Statement.{statement}
 use Rattle.nultiway.proofs.answers.put_rate.Tie as tie
 

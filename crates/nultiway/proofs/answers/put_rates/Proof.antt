@@ -7,7 +7,7 @@ use Rattle.records.specs.Words.{paste}
 use Rattle.limiter.specs.Calls.{ratesAnswer}
 use Rattle.limiter.specs.declared.RatesAnswer.{RatesAnswer}
 use Rattle.nultiway.specs.LimiterCalls.{ratesWords}
-use Rattle.nultiway.proofs.CallLaws.{said-put}
+use Rattle.nultiway.proofs.Calls.CallLaws.{said-put}
 use Rattle.nultiway.proofs.answers.put_rates.Statement.{statement}
 use Rattle.nultiway.proofs.answers.put_rates.Tie as tie
 

@@ -1,10 +1,10 @@
 -- `put_since` meets its contract.
 use mathlib.Core.Path.{ap}
 use borrow.Author.Needs.{needs}
-use Rattle.demand.specs.HotSet.Calls.{sinceAnswer}
+use Rattle.hot.specs.HotSet.Calls.{sinceAnswer}
 use Rattle.records.specs.Fields.{timeWords}
-use Rattle.demand.specs.declared.hot_set.SinceAnswer.{SinceAnswer}
-use Rattle.nultiway.proofs.CallLaws.{said-put}
+use Rattle.hot.specs.declared.hot_set.SinceAnswer.{SinceAnswer}
+use Rattle.nultiway.proofs.Calls.CallLaws.{said-put}
 use Rattle.nultiway.proofs.answers.put_since.Statement.{statement}
 use Rattle.nultiway.proofs.answers.put_since.Tie as tie
 

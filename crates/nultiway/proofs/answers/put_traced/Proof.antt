@@ -7,7 +7,7 @@ use Rattle.records.specs.Words.{paste}
 use Rattle.limiter.specs.Calls.{tracedAnswer}
 use Rattle.limiter.specs.declared.TracedAnswer.{TracedAnswer}
 use Rattle.nultiway.specs.LimiterCalls.{tracedWords}
-use Rattle.nultiway.proofs.CallLaws.{said-put}
+use Rattle.nultiway.proofs.Calls.CallLaws.{said-put}
 use Rattle.nultiway.proofs.answers.put_traced.Statement.{statement}
 use Rattle.nultiway.proofs.answers.put_traced.Tie as tie
 

@@ -6,7 +6,7 @@ use lib.ListN.{getD}
 use Rattle.limiter.specs.Calls.{shadowsDecision}
 use Rattle.limiter.specs.declared.ShadowDecision.{ShadowDecision}
 use Rattle.nultiway.specs.LimiterCalls.{shadowWords}
-use Rattle.nultiway.proofs.CallLaws.{decision-apart}
+use Rattle.nultiway.proofs.Calls.CallLaws.{decision-apart}
 use Rattle.nultiway.proofs.answers.shadow_words.Statement.{statement}
 use Rattle.nultiway.proofs.answers.shadow_words.Tie as tie
 

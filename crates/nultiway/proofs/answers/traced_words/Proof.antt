@@ -4,7 +4,7 @@ use mathlib.Core.Path.{_∙_}
 use borrow.Author.Needs.{needs}
 use lib.ListN.{getD}
 use Rattle.limiter.specs.Calls.{shadowsDecision}
-use Rattle.nultiway.proofs.CallLaws.{traced-apart}
+use Rattle.nultiway.proofs.Calls.CallLaws.{traced-apart}
 use Rattle.nultiway.proofs.answers.traced_words.Statement.{statement}
 use Rattle.nultiway.proofs.answers.traced_words.Tie as tie
 

@@ -2,7 +2,7 @@
 use borrow.Author.Needs.{needs}
 use Rattle.questions.proofs.Tests.{told-no, told-yes}
 use mathlib.Core.Path.{refl}
-use Rattle.nultiway.proofs.GcraWordLaws.{asked-short, asked-small, asked-other, asked-none}
+use Rattle.nultiway.proofs.Words.GcraWordLaws.{asked-short, asked-small, asked-other, asked-none}
 use Rattle.nultiway.proofs.gcra_calls.ask_gcra.Statement.{statement}
 use Rattle.nultiway.proofs.gcra_calls.ask_gcra.Tie as tie
 

@@ -1,7 +1,7 @@
 -- Word for word.
 use borrow.Author.Needs.{needs}
 use native.Mathlib.Omega.{arith}
-use Rattle.nultiway.proofs.GcraWordLaws.{gcra-burst, gcra-read}
+use Rattle.nultiway.proofs.Words.GcraWordLaws.{gcra-burst, gcra-read}
 use Rattle.nultiway.proofs.gcra_calls.gcra_of.Statement.{statement}
 use Rattle.nultiway.proofs.gcra_calls.gcra_of.Tie as tie
 

@@ -1,6 +1,6 @@
 -- By the TAT.
 use borrow.Author.Needs.{needs}
-use Rattle.nultiway.proofs.GcraWordLaws.{words-with}
+use Rattle.nultiway.proofs.Words.GcraWordLaws.{words-with}
 use Rattle.nultiway.proofs.gcra_calls.gcra_words.Statement.{statement}
 use Rattle.nultiway.proofs.gcra_calls.gcra_words.Tie as tie
 

@@ -1,6 +1,6 @@
 -- The burst, then the TAT.
 use borrow.Author.Needs.{needs}
-use Rattle.nultiway.proofs.GcraWordLaws.{is-gcra-yes, is-gcra-no}
+use Rattle.nultiway.proofs.Words.GcraWordLaws.{is-gcra-yes, is-gcra-no}
 use Rattle.nultiway.proofs.gcra_calls.is_gcra.Statement.{statement}
 use Rattle.nultiway.proofs.gcra_calls.is_gcra.Tie as tie
 

@@ -3,8 +3,8 @@ use borrow.Author.Needs.{needs}
 use mathlib.Core.Path.{refl}
 use lib.Dec.{leb}
 use lib.ListN.{length}
-use Rattle.nultiway.proofs.CallLaws.{refused-call, passed-call, tells}
-use Rattle.nultiway.proofs.GcraWordLaws.{Passed, gcra-passed, room-fits}
+use Rattle.nultiway.proofs.Calls.CallLaws.{refused-call, passed-call, tells}
+use Rattle.nultiway.proofs.Words.GcraWordLaws.{Passed, gcra-passed, room-fits}
 use Rattle.nultiway.proofs.gcra_calls.nultiway_gcra_has_debt.Statement.{statement}
 use Rattle.nultiway.proofs.gcra_calls.nultiway_gcra_has_debt.Tie as tie
 

@@ -1,7 +1,7 @@
 -- By the length of the lent words.
 use borrow.Author.Needs.{needs}
 use mathlib.Core.Path.{refl}
-use Rattle.nultiway.proofs.RoomLaws.{called-short, called-room}
+use Rattle.nultiway.proofs.Calls.RoomLaws.{called-short, called-room}
 use Rattle.nultiway.proofs.gcra_calls.nultiway_gcra_new.Statement.{statement}
 use Rattle.nultiway.proofs.gcra_calls.nultiway_gcra_new.Tie as tie
 

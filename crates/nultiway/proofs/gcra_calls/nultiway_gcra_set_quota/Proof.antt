@@ -2,8 +2,8 @@
 use borrow.Author.Needs.{needs}
 use mathlib.Core.Path.{refl}
 use mathlib.Core.Bool.{true}
-use Rattle.nultiway.proofs.CallLaws.{refused-call, passed-call, changes}
-use Rattle.nultiway.proofs.GcraWordLaws.{Passed, gcra-passed}
+use Rattle.nultiway.proofs.Calls.CallLaws.{refused-call, passed-call, changes}
+use Rattle.nultiway.proofs.Words.GcraWordLaws.{Passed, gcra-passed}
 use Rattle.nultiway.proofs.gcra_calls.nultiway_gcra_set_quota.Statement.{statement}
 use Rattle.nultiway.proofs.gcra_calls.nultiway_gcra_set_quota.Tie as tie
 

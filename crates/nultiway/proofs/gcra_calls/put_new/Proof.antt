@@ -2,7 +2,7 @@
 use borrow.Author.Needs.{needs}
 use mathlib.Core.Path.{ap}
 use Rattle.gcra.specs.Calls.{gcraAnswer}
-use Rattle.nultiway.proofs.CallLaws.{said-put}
+use Rattle.nultiway.proofs.Calls.CallLaws.{said-put}
 use Rattle.nultiway.proofs.gcra_calls.put_new.Statement.{statement}
 use Rattle.nultiway.proofs.gcra_calls.put_new.Tie as tie
 

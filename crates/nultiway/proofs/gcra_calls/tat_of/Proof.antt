@@ -1,6 +1,6 @@
 -- By the flag.
 use borrow.Author.Needs.{needs}
-use Rattle.nultiway.proofs.GcraWordLaws.{tat-set}
+use Rattle.nultiway.proofs.Words.GcraWordLaws.{tat-set}
 use Rattle.nultiway.proofs.gcra_calls.tat_of.Statement.{statement}
 use Rattle.nultiway.proofs.gcra_calls.tat_of.Tie as tie
 

@@ -5,8 +5,8 @@ use mathlib.Core.List.{[]}
 use lib.ListN.{length}
 use Rattle.questions.proofs.Tests.{told-no, told-yes}
 use Rattle.questions.proofs.Answers.{first-no}
-use Rattle.nultiway.proofs.CallLaws.{refused-call, passed-call, room-passed, one}
-use Rattle.nultiway.proofs.RoomLaws.{both-long}
+use Rattle.nultiway.proofs.Calls.CallLaws.{refused-call, passed-call, room-passed, one}
+use Rattle.nultiway.proofs.Calls.RoomLaws.{both-long}
 use Rattle.nultiway.proofs.image_calls.nultiway_load.Statement.{statement}
 use Rattle.nultiway.proofs.image_calls.nultiway_load.Tie as tie
 

@@ -5,9 +5,9 @@ use mathlib.Core.Path.{refl}
 use mathlib.Core.Bool.{_&&_}
 use lib.Dec.{leb}
 use lib.ListN.{length}
-use Rattle.nultiway.proofs.CallLaws.{refused-call, passed-call, Open, opened, tells}
-use Rattle.nultiway.proofs.ImageCallLaws.{asked-with, both-read}
-use Rattle.nultiway.proofs.RoomLaws.{both-long}
+use Rattle.nultiway.proofs.Calls.CallLaws.{refused-call, passed-call, Open, opened, tells}
+use Rattle.nultiway.proofs.Calls.ImageCallLaws.{asked-with, both-read}
+use Rattle.nultiway.proofs.Calls.RoomLaws.{both-long}
 use Rattle.nultiway.proofs.image_calls.nultiway_save.Statement.{statement}
 use Rattle.nultiway.proofs.image_calls.nultiway_save.Tie as tie
 

@@ -2,7 +2,7 @@
 use borrow.Author.Needs.{needs}
 use mathlib.Core.Path.{ap}
 use Rattle.image.specs.Calls.{loadAnswer}
-use Rattle.nultiway.proofs.ImageCallLaws.{loaded-put, loaded-no}
+use Rattle.nultiway.proofs.Calls.ImageCallLaws.{loaded-put, loaded-no}
 use Rattle.nultiway.proofs.image_calls.put_loaded.Statement.{statement}
 use Rattle.nultiway.proofs.image_calls.put_loaded.Tie as tie
 

@@ -2,7 +2,7 @@
 use Prim.Native.Nat.{ℕ}
 use mathlib.Core.Path.{sym, ap}
 use Rattle.nultiway.specs.LimiterCalls.{capGiven}
-use Rattle.nultiway.proofs.CallLaws.{cap-set}
+use Rattle.nultiway.proofs.Calls.CallLaws.{cap-set}
 use Rattle.nultiway.proofs.limiter_changes.cap_given.Statement.{statement}
 use Rattle.nultiway.proofs.limiter_changes.cap_given.Tie as tie
 

@@ -8,7 +8,7 @@ use Rattle.limiter.specs.Calls.{stateQuestions}
 use Rattle.limiter.specs.State.{LimiterTables, tables}
 use Rattle.limiter.specs.declared.Limiter.{Limiter}
 use Rattle.nultiway.specs.Values.{limiterAsked}
-use Rattle.nultiway.proofs.CallLaws.{Open, opened}
+use Rattle.nultiway.proofs.Calls.CallLaws.{Open, opened}
 use Rattle.nultiway.proofs.limiter_changes.nultiway_limiter_ask.Statement.{statement}
 use Rattle.nultiway.proofs.limiter_changes.nultiway_limiter_ask.Tie as tie
 

@@ -3,7 +3,7 @@ use mathlib.Core.Path.{refl}
 use borrow.Author.Needs.{needs}
 use borrow.Author.Tests.{le-leb, lt-leb}
 use Rattle.questions.proofs.Answers.{first-no}
-use Rattle.nultiway.proofs.CallLaws.{refused-call, passed-call, room-passed, one, tells}
+use Rattle.nultiway.proofs.Calls.CallLaws.{refused-call, passed-call, room-passed, one, tells}
 use Rattle.nultiway.proofs.limiter_changes.nultiway_limiter_new.Statement.{statement}
 use Rattle.nultiway.proofs.limiter_changes.nultiway_limiter_new.Tie as tie
 

@@ -2,7 +2,7 @@
 use mathlib.Core.Bool.{true}
 use mathlib.Core.Path.{refl}
 use borrow.Author.Needs.{needs}
-use Rattle.nultiway.proofs.CallLaws.{refused-call, passed-call, Open, opened, changes}
+use Rattle.nultiway.proofs.Calls.CallLaws.{refused-call, passed-call, Open, opened, changes}
 use Rattle.nultiway.proofs.limiter_changes.nultiway_record.Statement.{statement}
 use Rattle.nultiway.proofs.limiter_changes.nultiway_record.Tie as tie
 

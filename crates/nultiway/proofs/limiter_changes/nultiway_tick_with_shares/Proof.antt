@@ -4,7 +4,7 @@ use borrow.Author.Needs.{needs}
 use borrow.Author.Tests.{leb-true}
 use lib.Dec.{leb}
 use lib.ListN.{length}
-use Rattle.nultiway.proofs.CallLaws.{refused-call, passed-call, Open, opened, changes}
+use Rattle.nultiway.proofs.Calls.CallLaws.{refused-call, passed-call, Open, opened, changes}
 use Rattle.nultiway.proofs.limiter_changes.nultiway_tick_with_shares.Statement.{statement}
 use Rattle.nultiway.proofs.limiter_changes.nultiway_tick_with_shares.Tie as tie
 

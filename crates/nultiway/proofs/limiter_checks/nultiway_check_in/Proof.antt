@@ -4,7 +4,7 @@ use borrow.Author.Needs.{needs}
 use borrow.Author.Tests.{leb-true}
 use lib.Dec.{leb}
 use lib.ListN.{length}
-use Rattle.nultiway.proofs.CallLaws.{refused-call, passed-call, Open, opened, answers}
+use Rattle.nultiway.proofs.Calls.CallLaws.{refused-call, passed-call, Open, opened, answers}
 use Rattle.nultiway.proofs.limiter_checks.nultiway_check_in.Statement.{statement}
 use Rattle.nultiway.proofs.limiter_checks.nultiway_check_in.Tie as tie
 

@@ -2,7 +2,7 @@
 use Prim.Native.Nat.{ℕ}
 use mathlib.Core.Path.{sym, ap}
 use Rattle.nultiway.specs.LimiterCalls.{limit, shadowGiven}
-use Rattle.nultiway.proofs.CallLaws.{shadow-set}
+use Rattle.nultiway.proofs.Calls.CallLaws.{shadow-set}
 use Rattle.nultiway.proofs.limiter_checks.shadow_given.Statement.{statement}
 use Rattle.nultiway.proofs.limiter_checks.shadow_given.Tie as tie
 

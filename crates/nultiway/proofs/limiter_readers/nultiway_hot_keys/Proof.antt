@@ -4,7 +4,7 @@ use borrow.Author.Needs.{needs}
 use borrow.Author.Tests.{leb-true}
 use lib.Dec.{leb}
 use lib.ListN.{length}
-use Rattle.nultiway.proofs.CallLaws.{refused-call, passed-call, Open, opened, tells}
+use Rattle.nultiway.proofs.Calls.CallLaws.{refused-call, passed-call, Open, opened, tells}
 use Rattle.nultiway.proofs.limiter_readers.nultiway_hot_keys.Statement.{statement}
 use Rattle.nultiway.proofs.limiter_readers.nultiway_hot_keys.Tie as tie
 

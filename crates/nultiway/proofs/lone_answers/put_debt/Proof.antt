@@ -5,7 +5,7 @@ use mathlib.Core.Path.{ap, _∙_}
 use mathlib.Core.List.{[], _∷_}
 use Rattle.records.specs.Words.{paste}
 use Rattle.gcra.specs.Calls.{debtAnswer}
-use Rattle.nultiway.proofs.CallLaws.{said-put}
+use Rattle.nultiway.proofs.Calls.CallLaws.{said-put}
 use Rattle.nultiway.proofs.lone_answers.put_debt.Statement.{statement}
 use Rattle.nultiway.proofs.lone_answers.put_debt.Tie as tie
 

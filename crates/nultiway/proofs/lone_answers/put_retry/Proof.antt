@@ -2,7 +2,7 @@
 use borrow.Author.Needs.{needs}
 use mathlib.Core.Path.{ap}
 use Rattle.gcra.specs.Calls.{retryAnswer}
-use Rattle.nultiway.proofs.CallLaws.{said-put}
+use Rattle.nultiway.proofs.Calls.CallLaws.{said-put}
 use Rattle.nultiway.proofs.lone_answers.put_retry.Statement.{statement}
 use Rattle.nultiway.proofs.lone_answers.put_retry.Tie as tie
 

@@ -1,8 +1,8 @@
 -- By the length of the lent buffer.
 use borrow.Author.Needs.{needs}
 use mathlib.Core.Path.{refl}
-use Rattle.nultiway.proofs.CallLaws.{tells}
-use Rattle.nultiway.proofs.RoomLaws.{called-short, called-room}
+use Rattle.nultiway.proofs.Calls.CallLaws.{tells}
+use Rattle.nultiway.proofs.Calls.RoomLaws.{called-short, called-room}
 use Rattle.nultiway.proofs.lone_calls.nultiway_quota_unpack.Statement.{statement}
 use Rattle.nultiway.proofs.lone_calls.nultiway_quota_unpack.Tie as tie
 

@@ -5,8 +5,8 @@ use mathlib.Core.Path.{refl, ap, _∙_}
 use mathlib.Core.List.{List}
 use Rattle.records.specs.Words.{paste}
 use Rattle.questions.specs.Questions.{given}
-use Rattle.nultiway.proofs.RoomLaws.{called-short, called-room}
-use Rattle.nultiway.proofs.GcraWordLaws.{step-words}
+use Rattle.nultiway.proofs.Calls.RoomLaws.{called-short, called-room}
+use Rattle.nultiway.proofs.Words.GcraWordLaws.{step-words}
 use Rattle.nultiway.proofs.lone_calls.nultiway_step.Statement.{statement}
 use Rattle.nultiway.proofs.lone_calls.nultiway_step.Tie as tie
 

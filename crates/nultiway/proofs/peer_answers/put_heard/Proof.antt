@@ -4,8 +4,8 @@ use Prim.Native.Nat.{ℕ}
 use mathlib.Core.Path.{ap, _∙_}
 use mathlib.Core.List.{List}
 use Rattle.records.specs.Words.{paste}
-use Rattle.demand.specs.Peers.Calls.{heardAnswer}
-use Rattle.nultiway.proofs.CallLaws.{said-put}
+use Rattle.peers.specs.Peers.Calls.{heardAnswer}
+use Rattle.nultiway.proofs.Calls.CallLaws.{said-put}
 use Rattle.nultiway.proofs.peer_answers.put_heard.Statement.{statement}
 use Rattle.nultiway.proofs.peer_answers.put_heard.Tie as tie
 

@@ -1,8 +1,8 @@
 -- By the answer.
 use borrow.Author.Needs.{needs}
 use mathlib.Core.Path.{ap}
-use Rattle.demand.specs.Peers.Calls.{peersAnswer}
-use Rattle.nultiway.proofs.CallLaws.{said-put}
+use Rattle.peers.specs.Peers.Calls.{peersAnswer}
+use Rattle.nultiway.proofs.Calls.CallLaws.{said-put}
 use Rattle.nultiway.proofs.peer_answers.put_new_peers.Statement.{statement}
 use Rattle.nultiway.proofs.peer_answers.put_new_peers.Tie as tie
 

@@ -1,7 +1,7 @@
 -- By the length of the lent words.
 use borrow.Author.Needs.{needs}
-use Rattle.nultiway.proofs.RoomLaws.{called-short, called-room}
-use Rattle.nultiway.proofs.PeerCallLaws.{asks-of}
+use Rattle.nultiway.proofs.Calls.RoomLaws.{called-short, called-room}
+use Rattle.nultiway.proofs.Calls.PeerCallLaws.{asks-of}
 use Rattle.nultiway.proofs.peer_calls.nultiway_peers_ask.Statement.{statement}
 use Rattle.nultiway.proofs.peer_calls.nultiway_peers_ask.Tie as tie
 

@@ -5,8 +5,8 @@ use mathlib.Core.List.{[]}
 use lib.ListN.{length}
 use Rattle.questions.proofs.Tests.{told-no, told-yes}
 use Rattle.questions.proofs.Answers.{first-no}
-use Rattle.nultiway.proofs.CallLaws.{refused-call, passed-call, room-passed, one, tells}
-use Rattle.nultiway.proofs.RoomLaws.{both-long}
+use Rattle.nultiway.proofs.Calls.CallLaws.{refused-call, passed-call, room-passed, one, tells}
+use Rattle.nultiway.proofs.Calls.RoomLaws.{both-long}
 use Rattle.nultiway.proofs.peer_calls.nultiway_peers_hot_elsewhere.Statement.{statement}
 use Rattle.nultiway.proofs.peer_calls.nultiway_peers_hot_elsewhere.Tie as tie
 

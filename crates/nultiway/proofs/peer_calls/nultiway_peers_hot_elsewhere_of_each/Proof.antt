@@ -1,8 +1,8 @@
 -- By the length of the lent words.
 use borrow.Author.Needs.{needs}
 use mathlib.Core.Path.{refl}
-use Rattle.nultiway.proofs.RoomLaws.{called-short, called-room}
-use Rattle.nultiway.proofs.PeerCallLaws.{says}
+use Rattle.nultiway.proofs.Calls.RoomLaws.{called-short, called-room}
+use Rattle.nultiway.proofs.Calls.PeerCallLaws.{says}
 use Rattle.nultiway.proofs.peer_calls.nultiway_peers_hot_elsewhere_of_each.Statement.{statement}
 use Rattle.nultiway.proofs.peer_calls.nultiway_peers_hot_elsewhere_of_each.Tie as tie
 

@@ -3,8 +3,8 @@ use borrow.Author.Needs.{needs}
 use mathlib.Core.Path.{refl}
 use native.Mathlib.Omega.{arith}
 use lib.ListN.{length}
-use Rattle.nultiway.proofs.CallLaws.{refused-call, passed-call, changes}
-use Rattle.nultiway.proofs.ReportLaws.{Taken, report-passed, sent}
+use Rattle.nultiway.proofs.Calls.CallLaws.{refused-call, passed-call, changes}
+use Rattle.nultiway.proofs.Words.ReportLaws.{Taken, report-passed, sent}
 use Rattle.nultiway.proofs.peer_changes.nultiway_peers_apply.Statement.{statement}
 use Rattle.nultiway.proofs.peer_changes.nultiway_peers_apply.Tie as tie
 

@@ -1,8 +1,8 @@
 -- By the length of the lent words.
 use borrow.Author.Needs.{needs}
 use mathlib.Core.Path.{refl}
-use Rattle.nultiway.proofs.CallLaws.{changes}
-use Rattle.nultiway.proofs.RoomLaws.{called-short, called-room}
+use Rattle.nultiway.proofs.Calls.CallLaws.{changes}
+use Rattle.nultiway.proofs.Calls.RoomLaws.{called-short, called-room}
 use Rattle.nultiway.proofs.peer_changes.nultiway_peers_expire.Statement.{statement}
 use Rattle.nultiway.proofs.peer_changes.nultiway_peers_expire.Tie as tie
 

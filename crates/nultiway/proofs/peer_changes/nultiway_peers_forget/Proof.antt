@@ -1,9 +1,9 @@
 -- By the length of the lent words.
 use borrow.Author.Needs.{needs}
 use mathlib.Core.Path.{refl}
-use Rattle.nultiway.proofs.CallLaws.{changes}
-use Rattle.nultiway.proofs.RoomLaws.{called-short, called-room}
-use Rattle.nultiway.proofs.PeerCallLaws.{named}
+use Rattle.nultiway.proofs.Calls.CallLaws.{changes}
+use Rattle.nultiway.proofs.Calls.RoomLaws.{called-short, called-room}
+use Rattle.nultiway.proofs.Calls.PeerCallLaws.{named}
 use Rattle.nultiway.proofs.peer_changes.nultiway_peers_forget.Statement.{statement}
 use Rattle.nultiway.proofs.peer_changes.nultiway_peers_forget.Tie as tie
 

@@ -1,7 +1,7 @@
 -- By the length of the lent words.
 use borrow.Author.Needs.{needs}
 use mathlib.Core.Path.{refl}
-use Rattle.nultiway.proofs.RoomLaws.{called-short, called-room}
+use Rattle.nultiway.proofs.Calls.RoomLaws.{called-short, called-room}
 use Rattle.nultiway.proofs.peer_changes.nultiway_peers_new.Statement.{statement}
 use Rattle.nultiway.proofs.peer_changes.nultiway_peers_new.Tie as tie
 

@@ -6,10 +6,10 @@ use native.Mathlib.Omega.{arith}
 use lib.ListN.{length, length-take, length-drop, take, drop, getD}
 use borrow.Author.Tests.{not-true, not-false}
 use Rattle.records.specs.Records.{records}
-use Rattle.records.proofs.RecordLaws.{row, record-at}
+use Rattle.records.proofs.Words.RecordLaws.{row, record-at}
 use Rattle.questions.specs.Lists.{all}
 use Rattle.nultiway.specs.PeerCalls.{isListed}
-use Rattle.records.proofs.RowLaws.{scan-fails, scan-goes, scan-ends}
+use Rattle.records.proofs.Words.RowLaws.{scan-fails, scan-goes, scan-ends}
 use borrow.Author.Needs.{needs}
 use Rattle.nultiway.proofs.report.are_listed.Statement.{statement}
 use Rattle.nultiway.proofs.report.are_listed.Tie as tie

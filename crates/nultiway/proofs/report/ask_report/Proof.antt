@@ -4,8 +4,8 @@ use Prim.Native.Nat.{_*_}
 use native.Mathlib.Omega.{arith}
 use lib.ListN.{length}
 use Rattle.questions.proofs.Tests.{told-no, told-yes}
-use Rattle.nultiway.proofs.RoomLaws.{both-long}
-use Rattle.nultiway.proofs.ReportLaws.{report-short, report-other, report-fit}
+use Rattle.nultiway.proofs.Calls.RoomLaws.{both-long}
+use Rattle.nultiway.proofs.Words.ReportLaws.{report-short, report-other, report-fit}
 use Rattle.nultiway.proofs.report.ask_report.Statement.{statement}
 use Rattle.nultiway.proofs.report.ask_report.Tie as tie
 

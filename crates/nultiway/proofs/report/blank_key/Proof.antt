@@ -1,6 +1,6 @@
 -- Word for word.
 use borrow.Author.Needs.{needs}
-use Rattle.nultiway.proofs.ReportLaws.{blank-read}
+use Rattle.nultiway.proofs.Words.ReportLaws.{blank-read}
 use Rattle.nultiway.proofs.report.blank_key.Statement.{statement}
 use Rattle.nultiway.proofs.report.blank_key.Tie as tie
 

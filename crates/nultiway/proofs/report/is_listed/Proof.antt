@@ -1,6 +1,6 @@
 -- The demand, then the flag.
 use borrow.Author.Needs.{needs}
-use Rattle.nultiway.proofs.ReportLaws.{is-listed-yes, is-listed-no}
+use Rattle.nultiway.proofs.Words.ReportLaws.{is-listed-yes, is-listed-no}
 use Rattle.nultiway.proofs.report.is_listed.Statement.{statement}
 use Rattle.nultiway.proofs.report.is_listed.Tie as tie
 

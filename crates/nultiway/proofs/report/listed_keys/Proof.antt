@@ -5,10 +5,10 @@ use mathlib.Core.List.{List}
 use native.Mathlib.Omega.{arith}
 use borrow.Author.Needs.{needs}
 use lib.ListN.{length, length-take, length-drop, take, drop, set}
-use Rattle.records.proofs.RecordLaws.{row}
-use Rattle.demand.specs.declared.peer_demand.KeyDemand.{KeyDemand}
+use Rattle.records.proofs.Words.RecordLaws.{row}
+use Rattle.peers.specs.declared.peer_demand.KeyDemand.{KeyDemand}
 use Rattle.nultiway.specs.PeerCalls.{listedOf, keysOf}
-use Rattle.nultiway.proofs.ReportLaws.{keys-start, keys-step}
+use Rattle.nultiway.proofs.Words.ReportLaws.{keys-start, keys-step}
 use Rattle.nultiway.proofs.report.listed_keys.Statement.{statement}
 use Rattle.nultiway.proofs.report.listed_keys.Tie as tie
 

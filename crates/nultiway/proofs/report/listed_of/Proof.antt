@@ -1,7 +1,7 @@
 -- Word for word.
 use borrow.Author.Needs.{needs}
 use native.Mathlib.Omega.{arith}
-use Rattle.nultiway.proofs.ReportLaws.{listed-read}
+use Rattle.nultiway.proofs.Words.ReportLaws.{listed-read}
 use Rattle.nultiway.proofs.report.listed_of.Statement.{statement}
 use Rattle.nultiway.proofs.report.listed_of.Tie as tie
 

@@ -1,7 +1,7 @@
 -- The keys, and the rest as it is.
 use borrow.Author.Needs.{needs}
 use native.Mathlib.Omega.{arith}
-use Rattle.nultiway.proofs.ReportLaws.{report-read}
+use Rattle.nultiway.proofs.Words.ReportLaws.{report-read}
 use Rattle.nultiway.proofs.report.report_of.Statement.{statement}
 use Rattle.nultiway.proofs.report.report_of.Tie as tie
 

@@ -1,5 +1,5 @@
 -- The first length, then the second.
-use Rattle.nultiway.proofs.RoomLaws.{long-yes, long-no}
+use Rattle.nultiway.proofs.Calls.RoomLaws.{long-yes, long-no}
 use Rattle.nultiway.proofs.values.are_long.Statement.{statement}
 use Rattle.nultiway.proofs.values.are_long.Tie as tie
 

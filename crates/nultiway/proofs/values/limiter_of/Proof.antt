@@ -1,6 +1,6 @@
 -- `limiter_of` meets its contract.
 use borrow.Author.Needs.{needs}
-use Rattle.nultiway.proofs.ValueLaws.{limiter-read}
+use Rattle.nultiway.proofs.Words.ValueLaws.{limiter-read}
 use Rattle.nultiway.proofs.values.limiter_of.Statement.{statement}
 use Rattle.nultiway.proofs.values.limiter_of.Tie as tie
 

@@ -1,6 +1,6 @@
 -- `limiter_words` meets its contract, word for word.
 use borrow.Author.Needs.{needs}
-use Rattle.nultiway.proofs.ValueLaws.{limiter-written}
+use Rattle.nultiway.proofs.Words.ValueLaws.{limiter-written}
 use Rattle.nultiway.proofs.values.limiter_words.Statement.{statement}
 use Rattle.nultiway.proofs.values.limiter_words.Tie as tie
 

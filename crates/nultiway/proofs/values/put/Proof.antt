@@ -1,7 +1,7 @@
 -- `put` meets its contract.
 use mathlib.Core.Path.{_∙_}
 use borrow.Author.Needs.{needs}
-use Rattle.nultiway.proofs.ValueLaws.{overwritten-front}
+use Rattle.nultiway.proofs.Words.ValueLaws.{overwritten-front}
 use Rattle.nultiway.proofs.values.put.Statement.{statement}
 use Rattle.nultiway.proofs.values.put.Tie as tie
 

@@ -3,7 +3,7 @@ use mathlib.Core.Path.{sym}
 use native.Mathlib.Omega.{arith}
 use borrow.Author.Needs.{needs}
 use lib.Seq.{length-take-le}
-use Rattle.nultiway.proofs.ValueLaws.{paste-whole}
+use Rattle.nultiway.proofs.Words.ValueLaws.{paste-whole}
 use Rattle.nultiway.proofs.values.settings_in.Statement.{statement}
 use Rattle.nultiway.proofs.values.settings_in.Tie as tie
 

@@ -1,5 +1,5 @@
 -- `is_time` meets its contract.
-use Rattle.records.proofs.FieldLaws.{time-absent, time-present}
+use Rattle.records.proofs.Words.FieldLaws.{time-absent, time-present}
 use Rattle.records.proofs.fields.is_time.Statement.{statement}
 use Rattle.records.proofs.fields.is_time.Tie as tie
 

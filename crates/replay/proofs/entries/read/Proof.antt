@@ -42,17 +42,17 @@ use denote.Triple.Clauses.{ensured}
 use denote.Triple.Table.{entered, cited}
 use denote.Triple.Walked.{Stays, stay-dropped, walkOf, goes-dropped, Walks, ends-at, walked, walk-meets}
 use denote.Exit.{yes}
-use Rattle.demand.specs.declared.hot_set.HotEntry.{HotEntry}
-use Rattle.demand.specs.declared.hot_set.HotSet.{HotSet}
+use Rattle.hot.specs.declared.hot_set.HotEntry.{HotEntry}
+use Rattle.hot.specs.declared.hot_set.HotSet.{HotSet}
 use Rattle.demand.specs.declared.answers.FlagAnswer.{FlagAnswer}
-use Rattle.demand.specs.declared.hot_set.SinceAnswer.{SinceAnswer}
+use Rattle.hot.specs.declared.hot_set.SinceAnswer.{SinceAnswer}
 use Rattle.demand.specs.declared.answers.LenAnswer.{LenAnswer}
-use Rattle.demand.proofs.hot_set.HotSet as S
-use Rattle.demand.proofs.hot_set.HotSet.Laws as S′
+use Rattle.hot.proofs.hot_set.HotSet as S
+use Rattle.hot.proofs.hot_set.HotSet.Laws as S′
 use Rattle.demand.proofs.answers.FlagAnswer as T
 use Rattle.demand.proofs.answers.FlagAnswer.Laws as T′
-use Rattle.demand.proofs.hot_set.SinceAnswer as N
-use Rattle.demand.proofs.hot_set.SinceAnswer.Laws as N′
+use Rattle.hot.proofs.hot_set.SinceAnswer as N
+use Rattle.hot.proofs.hot_set.SinceAnswer.Laws as N′
 use Rattle.demand.proofs.answers.LenAnswer as L
 use Rattle.demand.proofs.answers.LenAnswer.Laws as L′
 use Rattle.hot_lent.proofs.Rows.{R}

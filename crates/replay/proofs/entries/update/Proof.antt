@@ -43,12 +43,12 @@ use denote.Triple.Clauses.{ensured, lasts}
 use denote.Triple.Table.{entered, cited}
 use denote.Triple.Walked.{Stays, stay-dropped, walkOf, goes-dropped, Walks, ends-at, walked, walk-meets}
 use denote.Exit.{yes}
-use Rattle.demand.specs.declared.hot_set.HotEntry.{HotEntry}
-use Rattle.demand.specs.declared.hot_set.HotSet.{HotSet}
-use Rattle.demand.specs.declared.hot_set.UpdateAnswer.{UpdateAnswer}
-use Rattle.demand.proofs.hot_set.HotSet as S
-use Rattle.demand.proofs.hot_set.HotSet.Laws as S′
-use Rattle.demand.proofs.hot_set.UpdateAnswer as X
+use Rattle.hot.specs.declared.hot_set.HotEntry.{HotEntry}
+use Rattle.hot.specs.declared.hot_set.HotSet.{HotSet}
+use Rattle.hot.specs.declared.hot_set.UpdateAnswer.{UpdateAnswer}
+use Rattle.hot.proofs.hot_set.HotSet as S
+use Rattle.hot.proofs.hot_set.HotSet.Laws as S′
+use Rattle.hot.proofs.hot_set.UpdateAnswer as X
 use Rattle.hot_lent.specs.Entries.{UpdatedEntries}
 use Rattle.hot_lent.proofs.Rows.{R, answer-lawful}
 use Rattle.hot_lent.proofs.update_with as with′

@@ -1,0 +1,4 @@
+-- Integers and floats.
+pub mod FromInteger
+pub mod ToInteger
+pub mod Integral

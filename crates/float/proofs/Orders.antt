@@ -1,0 +1,3 @@
+-- The order of numbers, and totalOrder.
+pub mod Order
+pub mod TotalOrder

@@ -1,0 +1,5 @@
+-- Quotas in one word.
+pub mod Encoding
+pub mod Validity
+pub mod Packing
+pub mod PackedWords

@@ -1,0 +1,2 @@
+-- The laws of the hot set.
+pub mod HotSet

@@ -1,0 +1,18 @@
+-- `HotSet::len` meets its contract.
+use borrow.Author.Needs.{needs}
+use lib.Ieee.{nan}
+use Rattle.questions.proofs.Answers.{answer-no, answer-passed, passed-none}
+use Rattle.hot.proofs.HotSet.Answers.{numbered-set}
+use Rattle.hot.proofs.hot_set.HotSet.len.Statement.{statement}
+use Rattle.hot.proofs.hot_set.HotSet.len.Tie as tie
+
+returns : tie.Need-returns
+returns c = answer-no _ _ _ (c .before .ask .ensures) (c .if1 .taken)
+
+returns-2 : tie.Need-returns-2
+returns-2 c =
+    let s = c .before .before .before in
+    answer-passed _ _ (passed-none _ _ (numbered-set (s .args .self) (s .args .hot .now) nan) (c .before .ask .ensures) (c .if1 .left))
+
+pub len-spec : {M : Type 1} → statement M
+len-spec = tie.close (tie.spec (λ c κs. search needs) returns returns-2)

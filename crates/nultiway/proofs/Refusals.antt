@@ -1,0 +1,3 @@
+-- A call that answers a number other than 0 has changed no lent word.
+pub mod RefusalLaws
+pub mod OtherRefusals

@@ -1,0 +1,4 @@
+-- Values in lent words.
+pub mod ValueLaws
+pub mod GcraWordLaws
+pub mod ReportLaws

@@ -1,0 +1,2 @@
+-- The laws of the peers.
+pub mod Peers
