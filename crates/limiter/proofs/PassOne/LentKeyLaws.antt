@@ -16,7 +16,7 @@ use Rattle.records.proofs.Tables.TypedLaws.{all-back}
 use Rattle.limiter.proofs.States.WrittenLaws.{key-back}
 use Rattle.limiter.proofs.Walking.CapLaws.{first-word}
 
--- the keys that are held rise
+-- the lent keys rise
 pub lent-rise : (u : Units) (n : ℕ) (xs : List ℕ) → LentKeys u n xs → rising keyOfKey (keyRecords u n xs) ≡ true
 lent-rise u n xs k = rising-says keyOfKey (keyWords u) (first-word u) (keyRecords u n xs) (ap (ascending 1) (sym (k .exact)) ∙ k .ascends)
 

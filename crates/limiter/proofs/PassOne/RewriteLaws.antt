@@ -64,7 +64,7 @@ module _ (margin : Float) (s : HotSet) (now : ℕ) (xs : List ℕ) (room : 6 * s
       kept-update margin s (u .key) (u .demand) (u .threshold) now (u .elsewhere) es (w .ascends) (w .few) in
       wrote-each us (o .left) (table (map words (o .left)) ys) (wrote-again es (o .left) ys w (k .ascends) (k .bound))
 
--- what is held then
+-- what stands there then
 pub wrote-lent : (size n : ℕ) (xs : List ℕ) (es : List HotEntry) (ys : List ℕ) → 6 * size ≤ length xs → n ≡ length es → Wrote size xs es ys
     → all validEntry es ≡ true
     → EntriesReady n ys

@@ -29,7 +29,7 @@ use Rattle.limiter.proofs.Walking.CapLaws.{cap-leaves}
 use Rattle.limiter.proofs.PassTwo.QuotaLaws.{requoted-many, requoted-rising, requoted-valid}
 use Rattle.limiter.proofs.PassOne.LentKeyLaws.{lent-rise, lent-are, lent-of}
 
--- valid keys that ascend, written to a table's front, are held there
+-- valid keys that ascend, written to a table's front, stand there
 lent-as :
     (u : Units) → Accepted u → (ks : List KeyRecord) → all (validKey u) ks ≡ true → rising keyOfKey ks ≡ true → (xs : List ℕ) → length ks * 22 ≤ length xs
     → (n : ℕ) (ys : List ℕ) → n ≡ length ks → ys ≡ table (map (keyWords u) ks) xs → LentKeys u n ys × (keyRecords u n ys ≡ ks)

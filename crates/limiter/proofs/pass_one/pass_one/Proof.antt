@@ -30,7 +30,7 @@ updated c = c .before .before .before .before .before .before .before .before
 reads : (s : tie.Start) → isWord (s .args .reading) ≡ true
 reads s = word-of (s .fits .reading .fits)
 
--- the folded keys are held
+-- the folded keys stand in the lent table
 held : (c : tie.After-fold-keys) → LentKeys (unitsIn (start c .args .limiter)) (start c .args .limiter .keys) (c .fold-keys .last .0)
 unfolding unitsFor
 held c =
