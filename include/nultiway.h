@@ -13,11 +13,15 @@
  *   (bits), whether there was a tick, the last tick's time; then how many records of its tables
  *   keys, hot and shadows are in use;
  * - the peers: how many records of their tables peer_table, snapshot_keys and contested are in use;
- * - a meter (GCRA): interval, burst, whether it has a TAT, the TAT.
+ * - a meter (GCRA): interval, burst, whether it has a TAT, the TAT;
+ * - a hot set: cooldown, the most entries, how many are in use; `entries` has room for the most;
+ * - an estimator of demand: rate (bits), attempts since its last tick, whether it has its times, that
+ *   of the last tick, that from which it measures, the time constant.
  * A missing part is 0. What a function tells stands at the front of `answer`, which has as many
  * words as the macro above the function says: a decision is two words, 1 where denied and the retry
  * time, both 0 where allowed; a value that may be missing has a flag before it, and both are 0 where
- * it is. Times are nanoseconds, rates a second.
+ * it is. Times are nanoseconds, rates a second. A uint8_t that is handed in is 0 for no, any other
+ * number for yes; a bool that is lent is 0 or 1.
  *
  * A load takes up to 1 MiB of stack, a tick or a list of a limiter's keys up to 128 KiB, any other
  * call up to 64 KiB. */
@@ -39,7 +43,8 @@ enum nultiway_question {
     NULTIWAY_ANSWERED = 0,
     /* a lent buffer is too short for the configured sizes */
     NULTIWAY_SHORT_BUFFER = 1,
-    /* the lent state, or the quota or meter handed in alone, could not stand in a valid image */
+    /* the lent state, or the quota, meter, estimator or hot set handed in alone, could not stand in
+     * a valid image */
     NULTIWAY_INVALID = 2,
     /* a rate is not finite or not above 0 */
     NULTIWAY_RATE = 3,
@@ -78,9 +83,13 @@ enum nultiway_question {
 #define NULTIWAY_PEERS_WORDS 3
 /* Words of a meter. */
 #define NULTIWAY_GCRA_WORDS 4
+/* Words of a hot set. */
+#define NULTIWAY_HOT_SET_WORDS 3
+/* Words of an estimator. */
+#define NULTIWAY_DEMAND_WORDS 6
 /* Words of a record in the table of keys. */
 #define NULTIWAY_KEY_WORDS 22
-/* Words of a record in the table of hot keys. */
+/* Words of a record in the table of hot keys, and of an entry of a hot set. */
 #define NULTIWAY_HOT_WORDS 6
 /* Words of a record in the table of shadows. */
 #define NULTIWAY_SHADOW_WORDS 4
@@ -99,7 +108,8 @@ enum nultiway_question {
 /* The most bytes of an image. */
 #define NULTIWAY_LARGEST_IMAGE 1372566
 
-/* Words that a limiter's tables need; a size above its bound counts as that bound. */
+/* Words that a limiter's tables need, and HOT_SIZE those of a hot set's entries too; a size above
+ * its bound counts as that bound. */
 #define NULTIWAY_KEYS_SIZE(table_size) \
     (NULTIWAY_KEY_WORDS * \
      ((size_t)(table_size) < NULTIWAY_MAX_KEYS ? (size_t)(table_size) : NULTIWAY_MAX_KEYS))
@@ -114,6 +124,41 @@ enum nultiway_question {
 #define NULTIWAY_IMAGE_SIZE(limiter, peers) \
     (118 + 179 * (limiter)[13] + 51 * (limiter)[14] + 35 * (limiter)[15] + \
      99 * (peers)[0] + 35 * (peers)[1] + 51 * (peers)[2])
+
+/* ---- Calls on an estimator of attempts a second that stands in lent words. */
+
+/* Makes an estimator at rate 0 that has no times yet. */
+uint8_t nultiway_demand_new(uint64_t *demand, size_t demand_len, uint64_t time_constant);
+
+/* Makes an estimator at rate 0 with both times at the reading, so that its first tick moves the
+ * rate. */
+uint8_t nultiway_demand_starting_at(uint64_t *demand, size_t demand_len, uint64_t time_constant,
+    uint64_t reading);
+
+/* Counts one attempt on an estimator. */
+uint8_t nultiway_demand_record_attempt(uint64_t *demand, size_t demand_len);
+
+/* Counts attempts on an estimator. */
+uint8_t nultiway_demand_record_attempts(uint64_t *demand, size_t demand_len, uint64_t attempts);
+
+/* Moves an estimator's rate by the attempts counted since its last tick, and counts from 0
+ * again. */
+uint8_t nultiway_demand_tick(uint64_t *demand, size_t demand_len, uint64_t reading);
+
+/* Tells whether an estimator has attempts that no tick has folded. */
+#define NULTIWAY_DEMAND_HAS_PENDING_ANSWER 1
+uint8_t nultiway_demand_has_pending(const uint64_t *demand, size_t demand_len,
+    uint64_t *answer, size_t answer_len);
+
+/* Tells the rate that an estimator's last tick left: the bits of a double. */
+#define NULTIWAY_DEMAND_RATE_ANSWER 1
+uint8_t nultiway_demand_rate(const uint64_t *demand, size_t demand_len,
+    uint64_t *answer, size_t answer_len);
+
+/* Tells an estimator's rate with its start at 0 taken out: the bits of a double. */
+#define NULTIWAY_DEMAND_UNBIASED_RATE_ANSWER 1
+uint8_t nultiway_demand_unbiased_rate(const uint64_t *demand, size_t demand_len,
+    uint64_t *answer, size_t answer_len);
 
 /* ---- Calls on a Gcra that stands in lent words. */
 
@@ -152,6 +197,58 @@ uint64_t nultiway_high_product(uint64_t a, uint64_t b);
 
 /* Tells the weight that a rate keeps after some time, in parts of 2^52. */
 uint64_t nultiway_decay_weight(uint64_t elapsed, uint64_t time_constant);
+
+/* ---- Calls on a hot set that stands in lent words, and its entries in others. */
+
+/* Makes a hot set that may grow to `max_size` entries and has none yet. */
+uint8_t nultiway_hot_set_new(uint64_t *hot_set, size_t hot_set_len,
+    const uint64_t *entries, size_t entries_len, uint64_t cooldown, uint64_t max_size);
+
+/* Takes in a key's demand, and tells whether the key is hot then. */
+#define NULTIWAY_HOT_SET_UPDATE_ANSWER 1
+uint8_t nultiway_hot_set_update(uint64_t *hot_set, size_t hot_set_len,
+    uint64_t *entries, size_t entries_len, uint64_t key, double demand_rate, double threshold,
+    uint64_t reading, uint64_t *answer, size_t answer_len);
+
+/* Takes in a key's demand where a peer may have the key as primary, and tells whether the key is
+ * hot then. */
+#define NULTIWAY_HOT_SET_UPDATE_WITH_ANSWER 1
+uint8_t nultiway_hot_set_update_with(uint64_t *hot_set, size_t hot_set_len,
+    uint64_t *entries, size_t entries_len, uint64_t key, double demand_rate, double threshold,
+    uint64_t reading, uint8_t hot_elsewhere, uint64_t *answer, size_t answer_len);
+
+/* Takes in the demand of each of `count` keys, the first words of records of `width` words, one
+ * after the other, and tells of each whether it is hot after its own update. */
+uint8_t nultiway_hot_set_update_each(uint64_t *hot_set, size_t hot_set_len,
+    uint64_t *entries, size_t entries_len, const uint64_t *keys, size_t keys_len, uint64_t width,
+    uint64_t count, const double *demands, size_t demands_len,
+    const double *thresholds, size_t thresholds_len, const bool *elsewhere, size_t elsewhere_len,
+    uint64_t reading, bool *out, size_t out_len);
+
+/* Tells whether the set has a key. */
+#define NULTIWAY_HOT_SET_IS_HOT_ANSWER 1
+uint8_t nultiway_hot_set_is_hot(const uint64_t *hot_set, size_t hot_set_len,
+    const uint64_t *entries, size_t entries_len, uint64_t key, uint64_t *answer, size_t answer_len);
+
+/* Tells whether the set has a key as primary. */
+#define NULTIWAY_HOT_SET_IS_PRIMARY_ANSWER 1
+uint8_t nultiway_hot_set_is_primary(const uint64_t *hot_set, size_t hot_set_len,
+    const uint64_t *entries, size_t entries_len, uint64_t key, uint64_t *answer, size_t answer_len);
+
+/* Tells whether the set has a key, and when the key came in. */
+#define NULTIWAY_HOT_SET_HOT_SINCE_ANSWER 2
+uint8_t nultiway_hot_set_hot_since(const uint64_t *hot_set, size_t hot_set_len,
+    const uint64_t *entries, size_t entries_len, uint64_t key, uint64_t *answer, size_t answer_len);
+
+/* Tells the number of the set's entries. */
+#define NULTIWAY_HOT_SET_LEN_ANSWER 1
+uint8_t nultiway_hot_set_len(const uint64_t *hot_set, size_t hot_set_len,
+    const uint64_t *entries, size_t entries_len, uint64_t *answer, size_t answer_len);
+
+/* Tells whether the set has no entry. */
+#define NULTIWAY_HOT_SET_IS_EMPTY_ANSWER 1
+uint8_t nultiway_hot_set_is_empty(const uint64_t *hot_set, size_t hot_set_len,
+    const uint64_t *entries, size_t entries_len, uint64_t *answer, size_t answer_len);
 
 /* ---- The saved image. */
 
@@ -466,6 +563,21 @@ uint8_t nultiway_peers_apply(uint64_t *peers, size_t peers_len,
     uint64_t *peer_table, size_t peer_table_len, uint64_t *snapshot_keys, size_t snapshot_keys_len,
     uint64_t *contested, size_t contested_len, uint64_t from, uint64_t origin, uint32_t epoch,
     uint16_t round, const uint64_t *report, size_t report_len, uint64_t count, uint64_t reading);
+
+/* ---- A node's share of a limit, and the rounds of reports. */
+
+/* Tells the part of a limit, a rate a second, that falls to a node by its demand and that of all
+ * others: the bits of a double. */
+#define NULTIWAY_SHARE_ANSWER 1
+uint8_t nultiway_share(double limit, uint64_t cluster_size, double floor_factor, double own,
+    double others, uint64_t *answer, size_t answer_len);
+
+/* Tells after how many rounds without a word a peer's snapshot is stale. */
+#define NULTIWAY_STALE_AFTER_ROUNDS_ANSWER 1
+uint8_t nultiway_stale_after_rounds(uint64_t cluster_size, uint64_t *answer, size_t answer_len);
+
+/* Tells whether round `a` is 1 to 32,767 ahead of round `b`, modulo 65,536. */
+bool nultiway_round_is_newer(uint16_t a, uint16_t b);
 
 #ifdef __cplusplus
 }

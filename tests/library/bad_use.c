@@ -2,7 +2,8 @@
  *
  * Each buffer ends where a page begins that can't be touched, or, with `heap`, where its block ends, for valgrind. A call must
  * answer a number from 0 to 16, and 1 where its answer is too short; where that is not 0 all buffers must be as they were, and
- * otherwise all that are not lent to be written. A buffer of no length may be NULL here, though the header does not allow it.
+ * otherwise all that are not lent to be written. A buffer of no length may be NULL here, though the header does not allow it;
+ * a bool is 0 or 1, as in every C program.
  * A state that calls have made is kept, so that many calls find a valid one; others find it spoiled. */
 #define _GNU_SOURCE
 #include "nultiway.h"
@@ -12,12 +13,14 @@
 #include <sys/mman.h>
 #include <unistd.h>
 
-enum { MOST_LENT = 10, MOST_NUMBERS = 12, TABLE_SIZE = 8, HOT_SET_SIZE = 3, KINDS = 15, IMAGE_ROOM = 32768 };
+enum { MOST_LENT = 10, MOST_NUMBERS = 12, TABLE_SIZE = 8, HOT_SET_SIZE = 3, KINDS = 21, IMAGE_ROOM = 32768 };
 
 struct lent {
     void *at;
     size_t len;
 };
+
+enum holds { WORDS, REALS, BYTES, FLAGS };
 
 struct call {
     const char *name;
@@ -26,7 +29,7 @@ struct call {
     int slices;
     struct {
         const char *name;
-        size_t width;
+        enum holds holds;
         int is_mut;
     } slice[MOST_LENT];
     int counted;
@@ -59,9 +62,15 @@ static struct kind {
     {"snapshot_keys", NULTIWAY_SNAPSHOT_KEYS_SIZE, 1, 0, 0, 0},
     {"contested", NULTIWAY_CONTESTED_SIZE, 1, 0, 0, 0},
     {"gcra", NULTIWAY_GCRA_WORDS, 1, 0, 0, 0},
+    {"hot_set", NULTIWAY_HOT_SET_WORDS, 1, 0, 0, 0},
+    {"entries", NULTIWAY_HOT_SIZE(HOT_SET_SIZE), 1, 0, 0, 0},
+    {"demand", NULTIWAY_DEMAND_WORDS, 1, 0, 0, 0},
     {"image", IMAGE_ROOM / 8, 1, 0, 0, 0},
     {"report", 195, 0, 0, 0, 0},
     {"list", 12, 0, 0, 0, 0},
+    {"demands", 12, 0, 0, 0, 0},
+    {"thresholds", 12, 0, 0, 0, 0},
+    {"elsewhere", 12, 0, 0, 0, 0},
     {"answer", 9, 0, 0, 0, 0},
     {"out", 40, 0, 0, 0, 0},
     {"words", 40, 0, 0, 0, 0}, /* any other */
@@ -108,10 +117,12 @@ static uint64_t number(const char *name) {
     if (strcmp(name, "origin") == 0) return sender;
     if (strcmp(name, "hold") == 0 || strcmp(name, "max_age") == 0) return below(16) ? (uint64_t)1 << 60 : below(9);
     if (strcmp(name, "attempts") == 0 && below(8) == 0) return (uint64_t)1 << 63;
+    if (strcmp(name, "demand_rate") == 0 || strcmp(name, "threshold") == 0) return half + (below(4) << 52);
+    if (strcmp(name, "limit") == 0 || strcmp(name, "own") == 0 || strcmp(name, "others") == 0) return half + (below(4) << 52);
     if (strstr(name, "rate") || strcmp(name, "alpha") == 0) return half + (below(3) << 52) * 4 * !strcmp(name, "rate");
     if (strstr(name, "factor") || strcmp(name, "cap") == 0) return half;
     if (strstr(name, "burst")) return 1 + below(3);
-    if (strcmp(name, "hot_set_size") == 0) return HOT_SET_SIZE;
+    if (strcmp(name, "hot_set_size") == 0 || strcmp(name, "max_size") == 0) return HOT_SET_SIZE;
     if (strcmp(name, "max_tracked_keys") == 0) return TABLE_SIZE - 1;
     if (strcmp(name, "table_size") == 0) return TABLE_SIZE;
     if (strcmp(name, "cluster_size") == 0 || strcmp(name, "width") == 0) return 1 + below(3);
@@ -120,7 +131,10 @@ static uint64_t number(const char *name) {
     return below(9);
 }
 
-static size_t bytes_of(size_t len, size_t width) { return len * width; }
+static size_t bytes_of(size_t len, enum holds holds) { return holds == WORDS || holds == REALS ? 8 * len : len; }
+
+/* A demand or a threshold: one that passes, or now and then any. */
+static double level(void) { return below(12) ? (double)below(6) : real(word()); }
 
 /* A buffer of so many bytes that ends where its block or its page ends. */
 static uint8_t *room_for(struct kind *kind, size_t bytes) {
@@ -138,25 +152,26 @@ static uint8_t *room_for(struct kind *kind, size_t bytes) {
 }
 
 /* What is lent: mostly as much as is needed and what was kept; else another length, or words of any kind. */
-static size_t fill(const struct call *call, struct kind *kind, size_t width, uint8_t **at, int spoils) {
+static size_t fill(const struct call *call, struct kind *kind, enum holds holds, uint8_t **at, int spoils) {
     size_t need = strcmp(kind->name, "image") == 0 ? image_size : kind->need, len;
+    int is_wide = bytes_of(1, holds) == 8;
     if (strcmp(kind->name, "answer") == 0) need = call->answer;
-    if (width == 1 && strcmp(kind->name, "out") == 0) need = IMAGE_ROOM;
+    if (holds == BYTES && strcmp(kind->name, "out") == 0) need = IMAGE_ROOM;
     len = need + below(3) * (below(4) == 0);
     if (spoils && below(6) == 0) len = below(4) == 0 ? 0 : need > 0 && below(2) ? need - 1 : below(need + 2);
-    size_t bytes = bytes_of(len, width), kept = bytes_of(need, width) < bytes ? bytes_of(need, width) : bytes;
+    size_t bytes = bytes_of(len, holds), kept = bytes_of(need, holds) < bytes ? bytes_of(need, holds) : bytes;
     *at = room_for(kind, bytes);
-    for (size_t i = 0; i < bytes; i++) (*at)[i] = (uint8_t)(i * 37 + 11);
-    if (width == 1 && strcmp(kind->name, "image") != 0) memset(*at, 0, bytes);
+    for (size_t i = 0; i < bytes; i++) (*at)[i] = holds == FLAGS ? (uint8_t)below(2) : (uint8_t)(i * 37 + 11);
     if (kind->is_state) memcpy(*at, kind->kept, kept);
-    if (!kind->is_state && width == 8)
+    for (size_t i = 0; i < len && holds == REALS; i++) memcpy(*at + 8 * i, &(double){level()}, 8);
+    if (!kind->is_state && holds == WORDS)
         for (size_t i = 0; i < len; i++) {
             uint64_t usual = strcmp(kind->name, "report") == 0 && i % 3 == 1 ? 0x3f800000 + below(6) : below(i % 3 == 2 ? 2 : 6);
             memcpy(*at + 8 * i, &(uint64_t){below(kind->need) ? usual : word()}, 8);
         }
     if (spoils && bytes >= 8 && (below(6) == 0 || len == 0)) {
         size_t place = below(below(2) ? bytes / 8 : bytes / 8 < 64 ? bytes / 8 : 64) * 8;
-        if (width == 8) memcpy(*at + place, &(uint64_t){word()}, 8);
+        if (is_wide) memcpy(*at + place, &(uint64_t){word()}, 8);
         else if (strcmp(kind->name, "image") == 0) (*at)[place + below(8)] = (uint8_t)any();
     }
     return len;
@@ -183,9 +198,9 @@ static void turn(const struct call *call) {
     int spoils = below(2) == 0;
     for (int i = 0; i < call->slices; i++) {
         uint8_t *at;
-        lent[i].len = fill(call, kind_of(call->slice[i].name), call->slice[i].width, &at, spoils);
+        lent[i].len = fill(call, kind_of(call->slice[i].name), call->slice[i].holds, &at, spoils);
         lent[i].at = lent[i].len == 0 && below(2) ? NULL : at;
-        memcpy(before[i], at, bytes_of(lent[i].len, call->slice[i].width));
+        memcpy(before[i], at, bytes_of(lent[i].len, call->slice[i].holds));
     }
     for (int i = 0; i < call->counted; i++) numbers[i] = number(call->number[i]);
     uint8_t no = call->call(lent, numbers);
@@ -194,7 +209,7 @@ static void turn(const struct call *call) {
     for (int i = 0; i < call->slices; i++) {
         if (strcmp(call->slice[i].name, "answer") == 0 && lent[i].len < call->answer && no != 1)
             fail(call, "its answer is too short", no);
-        int same = lent[i].len == 0 || memcmp(before[i], lent[i].at, bytes_of(lent[i].len, call->slice[i].width)) == 0;
+        int same = lent[i].len == 0 || memcmp(before[i], lent[i].at, bytes_of(lent[i].len, call->slice[i].holds)) == 0;
         if (!same && no != 0) fail(call, "a refused call has changed a buffer", no);
         if (!same && !call->slice[i].is_mut) fail(call, "a buffer that is only read has changed", no);
     }

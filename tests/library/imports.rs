@@ -6,8 +6,11 @@ use nultiway::{self as rateguard_core, proto as rateguard_proto};
 
 use std::time::Duration;
 
+use rateguard_core::allocation::{View, share};
 use rateguard_core::boundary::PeerId;
+use rateguard_core::demand::Demand;
 use rateguard_core::gcra::{Decision, Gcra, MAX_BURST, MAX_INTERVAL, Nanos, Quota};
+use rateguard_core::hot_set::HotSet;
 use rateguard_core::limiter::{Config, KeyRates, Limit, Limiter, Tally};
 use rateguard_core::peer_demand::{Heard, PeerDemand, round_is_newer, stale_after_rounds};
 use rateguard_proto::{DemandReport, KeyDemand, MAX_DEMAND_KEYS};
@@ -71,6 +74,30 @@ fn meter() {
     let _: fn(&Gcra, Nanos) -> Option<Duration> = Gcra::retry_after;
 }
 
+fn demand() {
+    let _: fn(Nanos) -> Demand = Demand::new;
+    let _: fn(Nanos, Nanos) -> Demand = Demand::starting_at;
+    let _: fn(&Demand) -> Demand = Demand::clone;
+    let _: fn(&mut Demand) = Demand::record_attempt;
+    let _: fn(&mut Demand, u64) = Demand::record_attempts;
+    let _: fn(&mut Demand, Nanos) = Demand::tick;
+    let _: fn(&Demand) -> bool = Demand::has_pending;
+    let _: fn(&Demand) -> f64 = Demand::rate;
+    let _: fn(&Demand) -> f64 = Demand::unbiased_rate;
+    let _: fn(View) -> f64 = share;
+}
+
+fn hot_set() {
+    let _: fn(Nanos, usize) -> HotSet = HotSet::new;
+    let _: fn(&mut HotSet, u64, f64, f64, Nanos) -> bool = HotSet::update;
+    let _: fn(&mut HotSet, u64, f64, f64, Nanos, bool) -> bool = HotSet::update_with;
+    let _: fn(&HotSet, u64) -> bool = HotSet::is_hot;
+    let _: fn(&HotSet, u64) -> Option<Nanos> = HotSet::hot_since;
+    let _: fn(&HotSet, u64) -> bool = HotSet::is_primary;
+    let _: fn(&HotSet) -> usize = HotSet::len;
+    let _: fn(&HotSet) -> bool = HotSet::is_empty;
+}
+
 /// Values made by their fields, and what is asked of them.
 fn values() {
     let limit = Limit { rate: 3.0, burst: MAX_BURST };
@@ -92,11 +119,14 @@ fn values() {
     assert_eq!(limiter.config().limit, limit);
     assert_eq!(Tally::default(), Tally { attempts: 0, denials: 0, shadow_denials: 0 });
     assert_eq!(peers.get(PeerId::new(1), 1), Some(Heard { demand: 1.0, primary: true, round: 1, heard_at: 0 }));
+    assert_eq!(share(View { limit: 100.0, cluster_size: 4, floor_factor: 0.5, own: 3.0, others: 1.0 }), 50.0);
 }
 
 fn main() {
     limiter();
     peers();
     meter();
+    demand();
+    hot_set();
     values();
 }

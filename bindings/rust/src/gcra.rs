@@ -2,7 +2,7 @@
 
 use std::time::Duration;
 
-use crate::refused::{answered, or_panic, Refused};
+use crate::refused::{answered, or_panic, told, Refused};
 use crate::sizes::GCRA_WORDS;
 use crate::words;
 
@@ -58,13 +58,6 @@ impl Quota {
         Ok(Self::of(answer[0], answer[1]))
     }
 
-    /// A number that a call tells.
-    fn told(call: impl FnOnce(&mut [u64]) -> u8) -> Result<u64, Refused> {
-        let mut answer = [0];
-        answered(call(&mut answer))?;
-        Ok(answer[0])
-    }
-
     /// A whole number of requests a second.
     pub fn try_new(rate_per_sec: u32, burst: u32) -> Result<Self, Refused> {
         Self::made(|answer| words::quota_new(rate_per_sec, burst, answer))
@@ -106,7 +99,7 @@ impl Quota {
 
     /// The quota as one word.
     pub fn try_pack(self) -> Result<u64, Refused> {
-        Self::told(|answer| words::quota_pack(self.interval, self.burst, answer))
+        told(|answer| words::quota_pack(self.interval, self.burst, answer))
     }
 
     /// The same, or a panic where it is refused.
@@ -117,7 +110,7 @@ impl Quota {
 
     /// The rate, in requests a second.
     pub fn try_rate_per_sec(&self) -> Result<f64, Refused> {
-        Self::told(|answer| words::quota_rate_per_sec(self.interval, self.burst, answer)).map(f64::from_bits)
+        told(|answer| words::quota_rate_per_sec(self.interval, self.burst, answer)).map(f64::from_bits)
     }
 
     /// The same, or a panic where it is refused.
@@ -128,7 +121,7 @@ impl Quota {
 
     /// The quoted ceiling: the most checks that the quota allows at readings from s to s + `window`.
     pub fn try_ceiling(&self, window: Nanos) -> Result<u64, Refused> {
-        Self::told(|answer| words::quota_ceiling(self.interval, self.burst, window, answer))
+        told(|answer| words::quota_ceiling(self.interval, self.burst, window, answer))
     }
 
     /// The same, or a panic where it is refused.
@@ -213,7 +206,7 @@ impl Gcra {
 
     /// Whether the TAT is later than the reading.
     pub fn try_has_debt(&self, now: Nanos) -> Result<bool, Refused> {
-        Quota::told(|answer| words::gcra_has_debt(&self.words, now, answer)).map(|flag| flag != 0)
+        told(|answer| words::gcra_has_debt(&self.words, now, answer)).map(|flag| flag != 0)
     }
 
     /// The same, or a panic where it is refused.

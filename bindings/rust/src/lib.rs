@@ -1,6 +1,6 @@
 //! A rate limiter whose quoted figure is a theorem: rateguard's sequential limiter, over the proved library
 //! libnultiway.a. The modules have rateguard-core's names, and `proto` those of rateguard-proto, so a server that uses
-//! its limiter and its peers' demand changes the import alone.
+//! its limiter, its peers' demand or a layer below these changes the import alone.
 //!
 //! Each call comes in two forms. `try_check(..)` and its like answer `Result<_, Refused>`; a refused call has changed
 //! nothing. `check(..)` has rateguard's signature and panics with the question's words where the call is refused, as
@@ -27,8 +27,11 @@
 #![deny(unsafe_code)]
 #![warn(missing_docs)]
 
+pub mod allocation;
 pub mod boundary;
+pub mod demand;
 pub mod gcra;
+pub mod hot_set;
 pub mod image;
 pub mod limiter;
 mod limiter_readers;
@@ -40,7 +43,10 @@ pub mod sizes;
 #[rustfmt::skip]
 pub mod words;
 
+pub use allocation::View;
+pub use demand::Demand;
 pub use gcra::{Decision, Gcra, Nanos, Quota};
+pub use hot_set::HotSet;
 pub use limiter::{Config, KeyRates, Limit, Limiter, Tally};
 pub use peer_demand::{Heard, PeerDemand};
 pub use refused::Refused;

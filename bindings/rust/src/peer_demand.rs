@@ -3,7 +3,7 @@
 use crate::boundary::PeerId;
 use crate::gcra::Nanos;
 use crate::proto::DemandReport;
-use crate::refused::{answered, or_panic, Refused};
+use crate::refused::{answered, or_panic, told, Refused};
 use crate::sizes::{CONTESTED_SIZE, MAX_DEMAND_KEYS, PEERS_WORDS, PEER_TABLE_SIZE, SNAPSHOT_KEYS_SIZE};
 use crate::words;
 
@@ -183,9 +183,7 @@ impl PeerDemand {
     /// The one word that a call tells.
     fn told(&self, read: Reader, key: u64) -> Result<u64, Refused> {
         let Tables { peers, snapshot_keys, contested } = &self.tables;
-        let mut answer = [0];
-        answered(read(&self.words, peers, snapshot_keys, contested, key, &mut answer))?;
-        Ok(answer[0])
+        told(|answer| read(&self.words, peers, snapshot_keys, contested, key, answer))
     }
 
     /// The peers' demands for `key`, added up.
@@ -269,10 +267,16 @@ impl PeerDemand {
 
 /// Whether the difference of the rounds, modulo 65,536, is 1 to 32,767.
 pub fn round_is_newer(a: u16, b: u16) -> bool {
-    (1..1 << 15).contains(&a.wrapping_sub(b))
+    words::round_is_newer(a, b)
 }
 
 /// After how many rounds a report is stale.
+pub fn try_stale_after_rounds(cluster_size: usize) -> Result<u64, Refused> {
+    told(|answer| words::stale_after_rounds(cluster_size as u64, answer))
+}
+
+/// The same, or a panic where it is refused.
+#[track_caller]
 pub fn stale_after_rounds(cluster_size: usize) -> u64 {
-    10.max(3 * cluster_size as u64)
+    or_panic(try_stale_after_rounds(cluster_size))
 }

@@ -40,6 +40,13 @@ pub(crate) fn answered(number: u8) -> Result<(), Refused> {
     }
 }
 
+/// The one word that a call tells.
+pub(crate) fn told(call: impl FnOnce(&mut [u64]) -> u8) -> Result<u64, Refused> {
+    let mut answer = [0];
+    answered(call(&mut answer))?;
+    Ok(answer[0])
+}
+
 /// The form of a call that panics where it is refused.
 #[track_caller]
 pub(crate) fn or_panic<T>(answer: Result<T, Refused>) -> T {

@@ -8,9 +8,13 @@ pub const LIMITER_WORDS: usize = 16;
 pub const PEERS_WORDS: usize = 3;
 /// Words of a meter.
 pub const GCRA_WORDS: usize = 4;
+/// Words of a hot set.
+pub const HOT_SET_WORDS: usize = 3;
+/// Words of an estimator.
+pub const DEMAND_WORDS: usize = 6;
 /// Words of a record in the table of keys.
 pub const KEY_WORDS: usize = 22;
-/// Words of a record in the table of hot keys.
+/// Words of a record in the table of hot keys, and of an entry of a hot set.
 pub const HOT_WORDS: usize = 6;
 /// Words of a record in the table of shadows.
 pub const SHADOW_WORDS: usize = 4;
@@ -38,7 +42,7 @@ pub(crate) const IMAGE_RECORDS: [usize; 6] = [179, 51, 35, 99, 35, 51];
 pub(crate) const QUESTIONS: [&str; 17] = [
     "the call is answered",
     "a lent buffer is too short for the configured sizes",
-    "the lent state, or the quota or meter handed in alone, could not stand in a valid image",
+    "the lent state, or the quota, meter, estimator or hot set handed in alone, could not stand in a valid image",
     "a rate is not finite or not above 0",
     "a burst is not 1 to 4,194,303",
     "alpha is not in (0, 1], or the floor factor not in [0, 1]",

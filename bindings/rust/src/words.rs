@@ -6,6 +6,14 @@
 #![allow(clippy::too_many_arguments)]
 
 extern "C" {
+    fn nultiway_demand_new(demand: *mut u64, demand_len: usize, time_constant: u64) -> u8;
+    fn nultiway_demand_starting_at(demand: *mut u64, demand_len: usize, time_constant: u64, reading: u64) -> u8;
+    fn nultiway_demand_record_attempt(demand: *mut u64, demand_len: usize) -> u8;
+    fn nultiway_demand_record_attempts(demand: *mut u64, demand_len: usize, attempts: u64) -> u8;
+    fn nultiway_demand_tick(demand: *mut u64, demand_len: usize, reading: u64) -> u8;
+    fn nultiway_demand_has_pending(demand: *const u64, demand_len: usize, answer: *mut u64, answer_len: usize) -> u8;
+    fn nultiway_demand_rate(demand: *const u64, demand_len: usize, answer: *mut u64, answer_len: usize) -> u8;
+    fn nultiway_demand_unbiased_rate(demand: *const u64, demand_len: usize, answer: *mut u64, answer_len: usize) -> u8;
     fn nultiway_gcra_new(gcra: *mut u64, gcra_len: usize, interval: u64, burst: u32) -> u8;
     fn nultiway_gcra_check(gcra: *mut u64, gcra_len: usize, reading: u64, answer: *mut u64, answer_len: usize) -> u8;
     fn nultiway_gcra_set_quota(gcra: *mut u64, gcra_len: usize, interval: u64, burst: u32, reading: u64) -> u8;
@@ -17,6 +25,27 @@ extern "C" {
     fn nultiway_f64_to_u64(x: f64) -> u64;
     fn nultiway_high_product(a: u64, b: u64) -> u64;
     fn nultiway_decay_weight(elapsed: u64, time_constant: u64) -> u64;
+    fn nultiway_hot_set_new(hot_set: *mut u64, hot_set_len: usize, entries: *const u64, entries_len: usize,
+        cooldown: u64, max_size: u64) -> u8;
+    fn nultiway_hot_set_update(hot_set: *mut u64, hot_set_len: usize, entries: *mut u64, entries_len: usize, key: u64,
+        demand_rate: f64, threshold: f64, reading: u64, answer: *mut u64, answer_len: usize) -> u8;
+    fn nultiway_hot_set_update_with(hot_set: *mut u64, hot_set_len: usize, entries: *mut u64, entries_len: usize,
+        key: u64, demand_rate: f64, threshold: f64, reading: u64, hot_elsewhere: u8,
+        answer: *mut u64, answer_len: usize) -> u8;
+    fn nultiway_hot_set_update_each(hot_set: *mut u64, hot_set_len: usize, entries: *mut u64, entries_len: usize,
+        keys: *const u64, keys_len: usize, width: u64, count: u64, demands: *const f64, demands_len: usize,
+        thresholds: *const f64, thresholds_len: usize, elsewhere: *const bool, elsewhere_len: usize, reading: u64,
+        out: *mut bool, out_len: usize) -> u8;
+    fn nultiway_hot_set_is_hot(hot_set: *const u64, hot_set_len: usize, entries: *const u64, entries_len: usize,
+        key: u64, answer: *mut u64, answer_len: usize) -> u8;
+    fn nultiway_hot_set_is_primary(hot_set: *const u64, hot_set_len: usize, entries: *const u64, entries_len: usize,
+        key: u64, answer: *mut u64, answer_len: usize) -> u8;
+    fn nultiway_hot_set_hot_since(hot_set: *const u64, hot_set_len: usize, entries: *const u64, entries_len: usize,
+        key: u64, answer: *mut u64, answer_len: usize) -> u8;
+    fn nultiway_hot_set_len(hot_set: *const u64, hot_set_len: usize, entries: *const u64, entries_len: usize,
+        answer: *mut u64, answer_len: usize) -> u8;
+    fn nultiway_hot_set_is_empty(hot_set: *const u64, hot_set_len: usize, entries: *const u64, entries_len: usize,
+        answer: *mut u64, answer_len: usize) -> u8;
     fn nultiway_save(limiter: *const u64, limiter_len: usize, keys: *const u64, keys_len: usize,
         hot: *const u64, hot_len: usize, shadows: *const u64, shadows_len: usize, peers: *const u64, peers_len: usize,
         peer_table: *const u64, peer_table_len: usize, snapshot_keys: *const u64, snapshot_keys_len: usize,
@@ -142,6 +171,58 @@ extern "C" {
     fn nultiway_peers_apply(peers: *mut u64, peers_len: usize, peer_table: *mut u64, peer_table_len: usize,
         snapshot_keys: *mut u64, snapshot_keys_len: usize, contested: *mut u64, contested_len: usize, from: u64,
         origin: u64, epoch: u32, round: u16, report: *const u64, report_len: usize, count: u64, reading: u64) -> u8;
+    fn nultiway_share(limit: f64, cluster_size: u64, floor_factor: f64, own: f64, others: f64,
+        answer: *mut u64, answer_len: usize) -> u8;
+    fn nultiway_stale_after_rounds(cluster_size: u64, answer: *mut u64, answer_len: usize) -> u8;
+    fn nultiway_round_is_newer(a: u16, b: u16) -> bool;
+}
+
+/// Makes an estimator at rate 0 that has no times yet.
+pub fn demand_new(demand: &mut [u64], time_constant: u64) -> u8 {
+    // SAFETY: each pointer goes with its slice's length, and is borrowed for the call.
+    unsafe { nultiway_demand_new(demand.as_mut_ptr(), demand.len(), time_constant) }
+}
+
+/// Makes an estimator at rate 0 with both times at the reading, so that its first tick moves the rate.
+pub fn demand_starting_at(demand: &mut [u64], time_constant: u64, reading: u64) -> u8 {
+    // SAFETY: each pointer goes with its slice's length, and is borrowed for the call.
+    unsafe { nultiway_demand_starting_at(demand.as_mut_ptr(), demand.len(), time_constant, reading) }
+}
+
+/// Counts one attempt on an estimator.
+pub fn demand_record_attempt(demand: &mut [u64]) -> u8 {
+    // SAFETY: each pointer goes with its slice's length, and is borrowed for the call.
+    unsafe { nultiway_demand_record_attempt(demand.as_mut_ptr(), demand.len()) }
+}
+
+/// Counts attempts on an estimator.
+pub fn demand_record_attempts(demand: &mut [u64], attempts: u64) -> u8 {
+    // SAFETY: each pointer goes with its slice's length, and is borrowed for the call.
+    unsafe { nultiway_demand_record_attempts(demand.as_mut_ptr(), demand.len(), attempts) }
+}
+
+/// Moves an estimator's rate by the attempts counted since its last tick, and counts from 0 again.
+pub fn demand_tick(demand: &mut [u64], reading: u64) -> u8 {
+    // SAFETY: each pointer goes with its slice's length, and is borrowed for the call.
+    unsafe { nultiway_demand_tick(demand.as_mut_ptr(), demand.len(), reading) }
+}
+
+/// Tells whether an estimator has attempts that no tick has folded.
+pub fn demand_has_pending(demand: &[u64], answer: &mut [u64]) -> u8 {
+    // SAFETY: each pointer goes with its slice's length, and is borrowed for the call.
+    unsafe { nultiway_demand_has_pending(demand.as_ptr(), demand.len(), answer.as_mut_ptr(), answer.len()) }
+}
+
+/// Tells the rate that an estimator's last tick left: the bits of a double.
+pub fn demand_rate(demand: &[u64], answer: &mut [u64]) -> u8 {
+    // SAFETY: each pointer goes with its slice's length, and is borrowed for the call.
+    unsafe { nultiway_demand_rate(demand.as_ptr(), demand.len(), answer.as_mut_ptr(), answer.len()) }
+}
+
+/// Tells an estimator's rate with its start at 0 taken out: the bits of a double.
+pub fn demand_unbiased_rate(demand: &[u64], answer: &mut [u64]) -> u8 {
+    // SAFETY: each pointer goes with its slice's length, and is borrowed for the call.
+    unsafe { nultiway_demand_unbiased_rate(demand.as_ptr(), demand.len(), answer.as_mut_ptr(), answer.len()) }
 }
 
 /// Makes a meter that has allowed nothing yet.
@@ -196,6 +277,74 @@ pub fn high_product(a: u64, b: u64) -> u64 {
 pub fn decay_weight(elapsed: u64, time_constant: u64) -> u64 {
     // SAFETY: it takes numbers only.
     unsafe { nultiway_decay_weight(elapsed, time_constant) }
+}
+
+/// Makes a hot set that may grow to `max_size` entries and has none yet.
+pub fn hot_set_new(hot_set: &mut [u64], entries: &[u64], cooldown: u64, max_size: u64) -> u8 {
+    // SAFETY: each pointer goes with its slice's length, and is borrowed for the call.
+    unsafe { nultiway_hot_set_new(hot_set.as_mut_ptr(), hot_set.len(), entries.as_ptr(), entries.len(), cooldown,
+        max_size) }
+}
+
+/// Takes in a key's demand, and tells whether the key is hot then.
+pub fn hot_set_update(hot_set: &mut [u64], entries: &mut [u64], key: u64, demand_rate: f64, threshold: f64,
+    reading: u64, answer: &mut [u64]) -> u8 {
+    // SAFETY: each pointer goes with its slice's length, and is borrowed for the call.
+    unsafe { nultiway_hot_set_update(hot_set.as_mut_ptr(), hot_set.len(), entries.as_mut_ptr(), entries.len(), key,
+        demand_rate, threshold, reading, answer.as_mut_ptr(), answer.len()) }
+}
+
+/// Takes in a key's demand where a peer may have the key as primary, and tells whether the key is hot then.
+pub fn hot_set_update_with(hot_set: &mut [u64], entries: &mut [u64], key: u64, demand_rate: f64, threshold: f64,
+    reading: u64, hot_elsewhere: u8, answer: &mut [u64]) -> u8 {
+    // SAFETY: each pointer goes with its slice's length, and is borrowed for the call.
+    unsafe { nultiway_hot_set_update_with(hot_set.as_mut_ptr(), hot_set.len(), entries.as_mut_ptr(), entries.len(), key,
+        demand_rate, threshold, reading, hot_elsewhere, answer.as_mut_ptr(), answer.len()) }
+}
+
+/// Takes in the demand of each of `count` keys, the first words of records of `width` words, one after the other, and
+/// tells of each whether it is hot after its own update.
+pub fn hot_set_update_each(hot_set: &mut [u64], entries: &mut [u64], keys: &[u64], width: u64, count: u64,
+    demands: &[f64], thresholds: &[f64], elsewhere: &[bool], reading: u64, out: &mut [bool]) -> u8 {
+    // SAFETY: each pointer goes with its slice's length, and is borrowed for the call.
+    unsafe { nultiway_hot_set_update_each(hot_set.as_mut_ptr(), hot_set.len(), entries.as_mut_ptr(), entries.len(),
+        keys.as_ptr(), keys.len(), width, count, demands.as_ptr(), demands.len(), thresholds.as_ptr(), thresholds.len(),
+        elsewhere.as_ptr(), elsewhere.len(), reading, out.as_mut_ptr(), out.len()) }
+}
+
+/// Tells whether the set has a key.
+pub fn hot_set_is_hot(hot_set: &[u64], entries: &[u64], key: u64, answer: &mut [u64]) -> u8 {
+    // SAFETY: each pointer goes with its slice's length, and is borrowed for the call.
+    unsafe { nultiway_hot_set_is_hot(hot_set.as_ptr(), hot_set.len(), entries.as_ptr(), entries.len(), key,
+        answer.as_mut_ptr(), answer.len()) }
+}
+
+/// Tells whether the set has a key as primary.
+pub fn hot_set_is_primary(hot_set: &[u64], entries: &[u64], key: u64, answer: &mut [u64]) -> u8 {
+    // SAFETY: each pointer goes with its slice's length, and is borrowed for the call.
+    unsafe { nultiway_hot_set_is_primary(hot_set.as_ptr(), hot_set.len(), entries.as_ptr(), entries.len(), key,
+        answer.as_mut_ptr(), answer.len()) }
+}
+
+/// Tells whether the set has a key, and when the key came in.
+pub fn hot_set_hot_since(hot_set: &[u64], entries: &[u64], key: u64, answer: &mut [u64]) -> u8 {
+    // SAFETY: each pointer goes with its slice's length, and is borrowed for the call.
+    unsafe { nultiway_hot_set_hot_since(hot_set.as_ptr(), hot_set.len(), entries.as_ptr(), entries.len(), key,
+        answer.as_mut_ptr(), answer.len()) }
+}
+
+/// Tells the number of the set's entries.
+pub fn hot_set_len(hot_set: &[u64], entries: &[u64], answer: &mut [u64]) -> u8 {
+    // SAFETY: each pointer goes with its slice's length, and is borrowed for the call.
+    unsafe { nultiway_hot_set_len(hot_set.as_ptr(), hot_set.len(), entries.as_ptr(), entries.len(),
+        answer.as_mut_ptr(), answer.len()) }
+}
+
+/// Tells whether the set has no entry.
+pub fn hot_set_is_empty(hot_set: &[u64], entries: &[u64], answer: &mut [u64]) -> u8 {
+    // SAFETY: each pointer goes with its slice's length, and is borrowed for the call.
+    unsafe { nultiway_hot_set_is_empty(hot_set.as_ptr(), hot_set.len(), entries.as_ptr(), entries.len(),
+        answer.as_mut_ptr(), answer.len()) }
 }
 
 /// Writes the image of a limiter and its peers to `out`, and tells how many bytes it has.
@@ -565,4 +714,23 @@ pub fn peers_apply(peers: &mut [u64], peer_table: &mut [u64], snapshot_keys: &mu
     unsafe { nultiway_peers_apply(peers.as_mut_ptr(), peers.len(), peer_table.as_mut_ptr(), peer_table.len(),
         snapshot_keys.as_mut_ptr(), snapshot_keys.len(), contested.as_mut_ptr(), contested.len(), from, origin, epoch,
         round, report.as_ptr(), report.len(), count, reading) }
+}
+
+/// Tells the part of a limit, a rate a second, that falls to a node by its demand and that of all others: the bits of a
+/// double.
+pub fn share(limit: f64, cluster_size: u64, floor_factor: f64, own: f64, others: f64, answer: &mut [u64]) -> u8 {
+    // SAFETY: each pointer goes with its slice's length, and is borrowed for the call.
+    unsafe { nultiway_share(limit, cluster_size, floor_factor, own, others, answer.as_mut_ptr(), answer.len()) }
+}
+
+/// Tells after how many rounds without a word a peer's snapshot is stale.
+pub fn stale_after_rounds(cluster_size: u64, answer: &mut [u64]) -> u8 {
+    // SAFETY: each pointer goes with its slice's length, and is borrowed for the call.
+    unsafe { nultiway_stale_after_rounds(cluster_size, answer.as_mut_ptr(), answer.len()) }
+}
+
+/// Tells whether round `a` is 1 to 32,767 ahead of round `b`, modulo 65,536.
+pub fn round_is_newer(a: u16, b: u16) -> bool {
+    // SAFETY: it takes numbers only.
+    unsafe { nultiway_round_is_newer(a, b) }
 }

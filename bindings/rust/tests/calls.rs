@@ -1,10 +1,12 @@
-//! The binding's two forms of a call, refusals in words, and the calls on many keys.
+//! The binding's two forms of a call, refusals in words, the calls on many keys, and the layers alone.
 
+use nultiway::allocation::{share, try_share, View};
 use nultiway::boundary::PeerId;
 use nultiway::gcra::{step, MAX_BURST, MAX_INTERVAL};
-use nultiway::peer_demand::{round_is_newer, stale_after_rounds};
+use nultiway::hot_set::Update;
+use nultiway::peer_demand::{round_is_newer, stale_after_rounds, try_stale_after_rounds};
 use nultiway::proto::{DemandReport, KeyDemand};
-use nultiway::{Config, Decision, Gcra, Limit, Limiter, PeerDemand, Quota, Tally};
+use nultiway::{Config, Decision, Demand, Gcra, HotSet, Limit, Limiter, PeerDemand, Quota, Tally};
 
 const SECOND: u64 = 1_000_000_000;
 
@@ -141,6 +143,102 @@ fn rounds_are_serial_numbers() {
     assert!(round_is_newer(1, 65_535));
     assert!(!round_is_newer(32_768, 0) && !round_is_newer(0, 32_768) && !round_is_newer(5, 5));
     assert_eq!([3, 4].map(stale_after_rounds), [10, 12]);
+    assert_eq!([0, 65_536].map(|size| try_stale_after_rounds(size).unwrap_err().number()), [7; 2]);
+}
+
+#[test]
+#[should_panic(expected = "the cluster size is not 1 to 65,535")]
+fn no_nodes_have_no_rounds() {
+    stale_after_rounds(0);
+}
+
+/// A full set of two keys, the least demand 10.
+fn full() -> HotSet {
+    let mut set = HotSet::new(10 * SECOND, 2);
+    assert!(set.is_empty() && set.update(1, 10.0, 5.0, 0) && set.update(2, 20.0, 5.0, SECOND));
+    set
+}
+
+#[test]
+fn a_newcomer_needs_a_tenth_more_than_the_weakest() {
+    let mut set = full();
+    assert!(!set.update(3, 11.0, 5.0, 2 * SECOND));
+    assert_eq!((set.len(), set.hot_since(1), set.hot_since(3)), (2, Some(0), None));
+    assert!(set.update(3, 11.5, 5.0, 2 * SECOND));
+    assert_eq!((set.len(), set.is_hot(1), set.hot_since(3)), (2, false, Some(2 * SECOND)));
+}
+
+#[test]
+fn a_key_cools_and_stays_where_a_peer_has_it() {
+    let mut set = full();
+    assert!(set.update(1, 1.0, 5.0, SECOND) && set.is_primary(1));
+    assert!(set.update_with(1, 1.0, 5.0, 11 * SECOND, true) && !set.is_primary(1));
+    assert!(!set.update(1, 1.0, 5.0, 11 * SECOND) && !set.is_hot(1));
+}
+
+#[test]
+fn many_updates_are_single_updates() {
+    let update =
+        |at: u64| Update { key: at % 5, demand_rate: (at * 7 % 11) as f64, threshold: 4.0, hot_elsewhere: at % 3 == 1 };
+    let updates: Vec<Update> = (0..60).map(update).collect();
+    let (mut one, mut many) = (full(), full());
+    let single: Vec<bool> = updates
+        .iter()
+        .map(|next| one.update_with(next.key, next.demand_rate, next.threshold, SECOND, next.hot_elsewhere))
+        .collect();
+    assert_eq!(many.update_each(&updates, SECOND), single);
+    assert_eq!((many.words(), many.entries()), (one.words(), one.entries()));
+    assert!(single.contains(&true) && single.contains(&false));
+}
+
+#[test]
+fn a_hot_set_that_no_calls_leave_is_refused() {
+    assert_eq!([0, 65].map(|size| HotSet::try_new(0, size).unwrap_err().number()), [6; 2]);
+    let mut set = full();
+    assert_eq!(set.try_update(1, -1.0, 5.0, 0).unwrap_err().number(), 11);
+    let spoiled = Update { key: 1, demand_rate: f64::NAN, threshold: 5.0, hot_elsewhere: false };
+    assert_eq!(set.try_update_each(&[spoiled], 0).unwrap_err().number(), 11);
+    let mut entries = set.entries().to_vec();
+    entries.swap(0, 6);
+    assert_eq!(HotSet::from_words(*set.words(), entries.clone()).try_len().unwrap_err().number(), 2);
+    entries.pop();
+    assert_eq!(HotSet::from_words(*set.words(), entries).try_len().unwrap_err().number(), 1);
+    assert_eq!(HotSet::from_words(*set.words(), set.entries().to_vec()).len(), 2);
+}
+
+#[test]
+fn an_estimator_follows_its_attempts() {
+    let mut demand = Demand::starting_at(SECOND, 0);
+    demand.record_attempt();
+    demand.record_attempts(9);
+    assert!(demand.has_pending());
+    demand.tick(SECOND);
+    assert_eq!((demand.has_pending(), demand.unbiased_rate()), (false, 10.0));
+    assert!((demand.rate() - 10.0 * (1.0 - (-1.0f64).exp())).abs() < 1e-9);
+    let mut later = Demand::new(SECOND);
+    later.record_attempt();
+    later.tick(SECOND);
+    assert_eq!((later.rate(), later.unbiased_rate(), later.has_pending()), (0.0, 0.0, true));
+}
+
+#[test]
+fn an_estimator_is_refused() {
+    let mut demand = Demand::new(SECOND);
+    demand.record_attempts(u64::MAX);
+    assert_eq!(demand.try_record_attempt().unwrap_err().number(), 9);
+    assert_eq!(*demand.words(), [0, u64::MAX, 0, 0, 0, SECOND]);
+    assert_eq!(Demand::from_words([0, 0, 0, 1, 0, SECOND]).try_rate().unwrap_err().number(), 2);
+    assert_eq!(Demand::from_words([f64::NAN.to_bits(), 0, 0, 0, 0, SECOND]).try_tick(0).unwrap_err().number(), 2);
+}
+
+#[test]
+fn a_share_is_a_floor_and_a_part_by_demand() {
+    let view = View { limit: 100.0, cluster_size: 4, floor_factor: 0.5, own: 3.0, others: 1.0 };
+    assert_eq!(share(view), 50.0);
+    assert_eq!(share(View { own: 0.0, others: 0.0, ..view }), 25.0);
+    assert_eq!(try_share(View { limit: 0.0, ..view }).unwrap_err().number(), 3);
+    assert_eq!(try_share(View { floor_factor: 1.5, ..view }).unwrap_err().number(), 5);
+    assert_eq!(try_share(View { cluster_size: 0, ..view }).unwrap_err().number(), 7);
 }
 
 #[test]

@@ -3,10 +3,11 @@
 use std::thread;
 
 use nultiway::boundary::PeerId;
+use nultiway::hot_set::Update;
 use nultiway::proto::{DemandReport, KeyDemand};
 use nultiway::sizes::LARGEST_IMAGE;
 use nultiway::{limiter, peer_demand};
-use nultiway::{Config, Limit, Limiter, PeerDemand, Tally};
+use nultiway::{Config, HotSet, Limit, Limiter, PeerDemand, Tally};
 
 const KIB: usize = 1024;
 const SECOND: u64 = 1_000_000_000;
@@ -77,4 +78,14 @@ fn calls_keep_to_their_stack() {
     });
     within(64 * KIB, || peers.expire(4 * SECOND, 1));
     assert!(peers.is_empty());
+}
+
+#[test]
+fn calls_on_a_lone_hot_set_keep_to_it_too() {
+    let mut set = HotSet::new(SECOND, 64);
+    let update = |key: u64| Update { key: 7 * key, demand_rate: 1.0, threshold: 0.0, hot_elsewhere: false };
+    let updates: Vec<Update> = (0..64).map(update).collect();
+    within(64 * KIB, || set.update_each(&updates, SECOND));
+    assert!(within(64 * KIB, || set.update(3, 2.0, 0.0, SECOND)));
+    assert_eq!((set.len(), set.is_hot(0)), (64, false));
 }

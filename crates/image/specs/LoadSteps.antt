@@ -97,24 +97,24 @@ abbrev pub limiterFrom : Settings → List Section → LimiterState
 limiterFrom s xs =
     record {
       settings = s;
-      keys = map (keyOf (unitsOf s)) (rowsOf 1 xs);
-      hot = map hot-set.entry (rowsOf 2 xs);
-      shadows = map (shadowOf (unitsOf s)) (rowsOf 3 xs);
+      keys = map (keyOf (unitsOf s)) (rowsOf 2 xs);
+      hot = map hot-set.entry (rowsOf 3 xs);
+      shadows = map (shadowOf (unitsOf s)) (rowsOf 4 xs);
     }
 
 -- kinds 2 to 4 are exact, and valid under the limiter's settings
 unfoldable pub limiterJudged : Limiter → List Section → Bool
 limiterJudged l xs =
     let u = unitsOf (settingsOf l) in
-    (exact (keyWords u) (keyOf u) (rowsOf 1 xs)
-    && (exact hot-set.words hot-set.entry (rowsOf 2 xs) && exact (shadowWords u) (shadowOf u) (rowsOf 3 xs)))
+    (exact (keyWords u) (keyOf u) (rowsOf 2 xs)
+    && (exact hot-set.words hot-set.entry (rowsOf 3 xs) && exact (shadowWords u) (shadowOf u) (rowsOf 4 xs)))
     && limiter-state.valid u (limiterFrom (settingsOf l) xs)
 
 -- kinds 5 to 7
 unfoldable pub peersJudged : List Section → Bool
 peersJudged xs =
-    (exact peerWords peerOf (rowsOf 4 xs)
-    && (exact snapshotKeyWords snapshotKeyOf (rowsOf 5 xs) && exact contestedWords contestedOf (rowsOf 6 xs)))
+    (exact peerWords peerOf (rowsOf 5 xs)
+    && (exact snapshotKeyWords snapshotKeyOf (rowsOf 6 xs) && exact contestedWords contestedOf (rowsOf 7 xs)))
     && peer-state.valid (stateFrom xs .peers)
 
 -- ---- question 13

@@ -2,16 +2,22 @@
 // are read into tables of their own and tested there.
 use crate::LoadAnswer;
 use crate::Loaded;
+use crate::rows::SETTINGS_WORDS;
 use crate::rows::read_table;
 use crate::scan::Sections;
 use crate::scan::is_end;
-use crate::words::read_words;
 use crate::writer::settings_words;
+use hot::hot_set::HotSet;
 use limiter::Cap;
 use limiter::Config;
+use limiter::HOT_WORDS;
+use limiter::KEY_WORDS;
 use limiter::LastTick;
 use limiter::Limit;
 use limiter::Limiter;
+use limiter::MAX_KEYS;
+use limiter::SHADOW_WORDS;
+use peers::peer_demand;
 use peers::peer_demand::PeerDemand;
 use records::are_same;
 ghost use mathlib.Core.Path.{_≡_};
@@ -20,10 +26,26 @@ ghost use Prim.Native.Nat.{_^_};
 ghost use lib.Dec.{ltb};
 ghost use Rattle.records.specs.Fields.{timeOf};
 ghost use Rattle.limiter.specs.State.{capOf, lastTickOf};
-ghost use Rattle.image.specs.Reader.{capFrom, sectionsFirst, kinds};
+ghost use Rattle.image.specs.Image.{kinds};
+ghost use Rattle.image.specs.Reader.{capFrom, sectionsFirst};
 ghost use Rattle.image.specs.Steps.{Scans};
 ghost use Rattle.image.specs.LoadSteps.{areFew, FewFound, countIn, configFrom, Counted, Reads};
 ghost use Rattle.image.specs.LoadSteps.{peersFound, limiterJudged, peersJudged, Judges};
+
+// The most snapshot keys, of all peers together.
+pub(crate) const MAX_SNAPSHOT_KEYS: usize = peer_demand::MAX_PEERS * peer_demand::MAX_DEMAND_KEYS;
+
+// The most contested keys, of all peers together.
+pub(crate) const MAX_CONTESTED: usize = peer_demand::MAX_PEERS * peer_demand::MAX_CONTESTED;
+
+// The words of the most keys.
+pub const KEYS_SIZE: usize = KEY_WORDS * MAX_KEYS;
+
+// The words of the most hot entries.
+pub const HOT_SIZE: usize = HOT_WORDS * HotSet::MAX_SIZE;
+
+// The words of the most shadows.
+pub const SHADOWS_SIZE: usize = SHADOW_WORDS * MAX_KEYS;
 
 // Kind 1 comes once, and the others no more often than a valid state has them.
 fn are_few(found: Sections) -> bool
@@ -32,22 +54,22 @@ fn are_few(found: Sections) -> bool
     if found.settings.n != 1 {
         return false;
     }
-    if 4096 < found.keys.n {
+    if MAX_KEYS < found.keys.n {
         return false;
     }
-    if 64 < found.hot.n {
+    if HotSet::MAX_SIZE < found.hot.n {
         return false;
     }
-    if 4096 < found.shadows.n {
+    if MAX_KEYS < found.shadows.n {
         return false;
     }
-    if 32 < found.peers.n {
+    if peer_demand::MAX_PEERS < found.peers.n {
         return false;
     }
-    if 2048 < found.snapshot_keys.n {
+    if MAX_SNAPSHOT_KEYS < found.snapshot_keys.n {
         return false;
     }
-    found.contested.n <= 8192
+    found.contested.n <= MAX_CONTESTED
 }
 
 // How many records were found.
@@ -87,7 +109,7 @@ pub fn last_tick_of(flag: u64, time: u64) -> LastTick
 }
 
 // The configuration in the words of kind 1.
-pub fn config_of(w: [u64; 13]) -> Config
+pub fn config_of(w: [u64; SETTINGS_WORDS]) -> Config
     ensures { λ r. ⌜ r ≡ configFrom w ⌝ }
 {
     let limit = Limit {
@@ -107,7 +129,7 @@ pub fn config_of(w: [u64; 13]) -> Config
 }
 
 // The limiter of the words of kind 1 and of as many records as were found.
-fn limiter_of(w: [u64; 13], found: Sections) -> Limiter
+fn limiter_of(w: [u64; SETTINGS_WORDS], found: Sections) -> Limiter
     ensures { λ r. ⌜ Reads w found r ⌝ }
 {
     let config = config_of(w);
@@ -128,9 +150,9 @@ fn has_valid_limiter(image: &[u8], found: Sections, limiter: Limiter) -> bool
     requires { ⌜ Scans (now image) found × FewFound found × Counted found limiter ⌝ }
     ensures { λ r. ⌜ r ≡ limiterJudged limiter (sectionsFirst kinds (now (image .entry))) ⌝ }
 {
-    let mut keys = [0; 90_112];
-    let mut hot = [0; 384];
-    let mut shadows = [0; 16_384];
+    let mut keys = [0; KEYS_SIZE];
+    let mut hot = [0; HOT_SIZE];
+    let mut shadows = [0; SHADOWS_SIZE];
     read_table(image, found.settings.end, 2, &mut keys, found.keys.n);
     read_table(image, found.keys.end, 3, &mut hot, found.hot.n);
     read_table(image, found.hot.end, 4, &mut shadows, found.shadows.n);
@@ -142,9 +164,9 @@ fn has_valid_peers(image: &[u8], found: Sections) -> bool
     requires { ⌜ Scans (now image) found × FewFound found ⌝ }
     ensures { λ r. ⌜ r ≡ peersJudged (sectionsFirst kinds (now (image .entry))) ⌝ }
 {
-    let mut peers = [0; 384];
-    let mut snapshot_keys = [0; 8192];
-    let mut contested = [0; 49_152];
+    let mut peers = [0; peer_demand::PEERS_SIZE];
+    let mut snapshot_keys = [0; peer_demand::SNAPSHOT_KEYS_SIZE];
+    let mut contested = [0; peer_demand::CONTESTED_SIZE];
     read_table(image, found.shadows.end, 5, &mut peers, found.peers.n);
     read_table(
         image,
@@ -185,8 +207,8 @@ pub(crate) fn judge(image: &[u8], found: Sections) -> LoadAnswer
     if !is_end(image, found.contested.end, count_in(found)) {
         return LoadAnswer::No(13);
     }
-    let mut w = [0; 13];
-    read_words(image, 3, &mut w);
+    let mut w = [0; SETTINGS_WORDS];
+    read_table(image, 0, 1, &mut w, found.settings.n);
     let limiter = limiter_of(w, found);
     let again = settings_words(limiter);
     if !are_same(&again, &w) {

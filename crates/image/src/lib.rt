@@ -1,6 +1,6 @@
 // The saved image of a limiter and its peers: `save` writes it, `load` takes nothing else.
 pub mod judge;
-mod room;
+pub mod room;
 pub mod rows;
 mod scan;
 mod store;
@@ -8,14 +8,35 @@ pub mod words;
 pub mod writer;
 
 use demand::answers::LenAnswer;
+use hot::hot_set::HotSet;
 use limiter::Limiter;
+use peers::peer_demand;
 use peers::peer_demand::PeerDemand;
 ghost use Rattle.peers.specs.Peers.State as peer-state;
 ghost use Rattle.limiter.specs.State.{atEntry, atExit};
 ghost use Rattle.image.specs.Calls as Calls;
 
-// The most bytes that an image has: room for any save.
-pub const LARGEST_IMAGE: usize = 1_372_566;
+// The most records that an image has, the settings and the end among them.
+const MOST_RECORDS: usize = 2
+    + limiter::MAX_KEYS
+    + HotSet::MAX_SIZE
+    + limiter::MAX_KEYS
+    + peer_demand::MAX_PEERS
+    + judge::MAX_SNAPSHOT_KEYS
+    + judge::MAX_CONTESTED;
+
+// The words of the most records.
+const MOST_WORDS: usize = rows::SETTINGS_WORDS
+    + judge::KEYS_SIZE
+    + judge::HOT_SIZE
+    + judge::SHADOWS_SIZE
+    + peer_demand::PEERS_SIZE
+    + peer_demand::SNAPSHOT_KEYS_SIZE
+    + peer_demand::CONTESTED_SIZE
+    + rows::END_WORDS;
+
+// The most bytes that an image has, 1,372,566: room for any save.
+pub const LARGEST_IMAGE: usize = rows::HEAD * MOST_RECORDS + 8 * MOST_WORDS;
 
 // What a load makes: the limiter, and the peers.
 pub struct Loaded {

@@ -1,5 +1,6 @@
 // Writes the image of a limiter and its peers from their tables.
-use crate::rows::put_record;
+use crate::rows::END_WORDS;
+use crate::rows::SETTINGS_WORDS;
 use crate::rows::put_table;
 use crate::rows::rows_len;
 use demand::answers::LenAnswer;
@@ -21,7 +22,7 @@ ghost use Rattle.image.specs.Steps.{peersLength, PeersReady, Few, countO
 ghost use Rattle.image.specs.Calls as Calls;
 
 // The flag and the value of a cap.
-fn cap_words(cap: Cap) -> [u64; 2]
+pub fn cap_words(cap: Cap) -> [u64; 2]
     ensures { λ r. ⌜ r ≡ capWords (capOf cap) ⌝ }
 {
     match cap {
@@ -31,7 +32,7 @@ fn cap_words(cap: Cap) -> [u64; 2]
 }
 
 // The flag and the time of a last tick.
-fn last_tick_words(last_tick: LastTick) -> [u64; 2]
+pub fn last_tick_words(last_tick: LastTick) -> [u64; 2]
     ensures { λ r. ⌜ r ≡ timeWords (lastTickOf «last_tick») ⌝ }
 {
     match last_tick {
@@ -41,7 +42,7 @@ fn last_tick_words(last_tick: LastTick) -> [u64; 2]
 }
 
 // The words of kind 1.
-pub fn settings_words(limiter: Limiter) -> [u64; 13]
+pub(crate) fn settings_words(limiter: Limiter) -> [u64; SETTINGS_WORDS]
     ensures { λ r. ⌜ r ≡ settingsWords (settingsOf limiter) ⌝ }
 {
     let config = limiter.config;
@@ -80,10 +81,10 @@ fn put_limiter(
     ensures { λ _. ⌜ now (out .exit) ≡ paste 0 (limiterBytes limiter (atEntry keys hot shadows)) (now (out .entry)) ⌝ }
 {
     let settings = settings_words(limiter);
-    put_record(out, 0, 1, &settings);
-    let at = put_table(out, 107, 2, keys, limiter.keys);
-    let next = put_table(out, at, 3, hot, limiter.hot);
-    put_table(out, next, 4, shadows, limiter.shadows)
+    let keys_at = put_table(out, 0, 1, &settings, 1);
+    let hot_at = put_table(out, keys_at, 2, keys, limiter.keys);
+    let shadows_at = put_table(out, hot_at, 3, hot, limiter.hot);
+    put_table(out, shadows_at, 4, shadows, limiter.shadows)
 }
 
 // Writes kinds 5 to 7 at index at on, and answers where they end.
@@ -179,7 +180,7 @@ pub(crate) fn save_asked(
     }
     let at = put_limiter(out, limiter, keys, hot, shadows);
     let end = put_peers(out, at, peers, peer_table, snapshot_keys, contested);
-    let count = [record_count(limiter, peers)];
-    put_record(out, end, 0, &count);
+    let count: [u64; END_WORDS] = [record_count(limiter, peers)];
+    put_table(out, end, 0, &count, 1);
     LenAnswer::Is(len)
 }

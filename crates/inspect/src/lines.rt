@@ -6,11 +6,13 @@ use crate::fields::put_optional;
 use crate::fields::put_optional_f64;
 use crate::fields::put_quota;
 use crate::fields::put_whole;
+use image::rows::HEAD;
+use image::rows::LONGEST_RECORD;
 ghost use Prim.Native.Nat.{_≤_};
 
 // The kind of a record; 255, which is none, where there are too few bytes.
-pub(crate) fn kind_of(record: &[u8]) -> u8 {
-    if record.len() < 3 {
+fn kind_of(record: &[u8]) -> u8 {
+    if record.len() < HEAD {
         return 255;
     }
     record[2]
@@ -38,18 +40,18 @@ fn wide(b: u8) -> u64 {
 }
 
 // The words of a record, and zeros behind them.
-fn words_of(record: &[u8]) -> [u64; 22] {
-    let mut w = [0u64; 22];
+fn words_of(record: &[u8]) -> [u64; LONGEST_RECORD] {
+    let mut w = [0u64; LONGEST_RECORD];
     let mut j = 0;
-    while j < 22 {
-        w[j] = word_at(record, 3 + 8 * j);
+    while j < LONGEST_RECORD {
+        w[j] = word_at(record, HEAD + 8 * j);
         j += 1;
     }
     w
 }
 
 // Kind 1, up to the floor factor.
-fn put_limits(out: &mut [u8], at: usize, w: [u64; 22]) -> usize {
+fn put_limits(out: &mut [u8], at: usize, w: [u64; LONGEST_RECORD]) -> usize {
     let rate = put_f64(out, at, b"settings rate=", w[0]);
     let burst = put_whole(out, rate, b" burst=", w[1]);
     let alpha = put_f64(out, burst, b" alpha=", w[2]);
@@ -57,7 +59,7 @@ fn put_limits(out: &mut [u8], at: usize, w: [u64; 22]) -> usize {
 }
 
 // Kind 1, the sizes and times.
-fn put_sizes(out: &mut [u8], at: usize, w: [u64; 22]) -> usize {
+fn put_sizes(out: &mut [u8], at: usize, w: [u64; LONGEST_RECORD]) -> usize {
     let cooldown = put_whole(out, at, b" cooldown=", w[4]);
     let hot = put_whole(out, cooldown, b" hot_set_size=", w[5]);
     let tracked = put_whole(out, hot, b" max_tracked_keys=", w[6]);
@@ -66,7 +68,7 @@ fn put_sizes(out: &mut [u8], at: usize, w: [u64; 22]) -> usize {
 }
 
 // Kind 1.
-fn put_settings(out: &mut [u8], at: usize, w: [u64; 22]) -> usize {
+fn put_settings(out: &mut [u8], at: usize, w: [u64; LONGEST_RECORD]) -> usize {
     let limits = put_limits(out, at, w);
     let sizes = put_sizes(out, limits, w);
     let cap = put_optional_f64(out, sizes, b" cap=", w[9], w[10]);
@@ -74,7 +76,7 @@ fn put_settings(out: &mut [u8], at: usize, w: [u64; 22]) -> usize {
 }
 
 // The four estimators of kind 2.
-fn put_estimators(out: &mut [u8], at: usize, w: [u64; 22]) -> usize {
+fn put_estimators(out: &mut [u8], at: usize, w: [u64; LONGEST_RECORD]) -> usize {
     let a = put_estimator(out, at, b" demand=", w[3], w[4], w[5], w[6]);
     let b = put_estimator(out, a, b" requests=", w[7], w[8], w[9], w[10]);
     let c = put_estimator(out, b, b" denials=", w[11], w[12], w[13], w[14]);
@@ -82,7 +84,7 @@ fn put_estimators(out: &mut [u8], at: usize, w: [u64; 22]) -> usize {
 }
 
 // Kind 2.
-fn put_key(out: &mut [u8], at: usize, w: [u64; 22]) -> usize {
+fn put_key(out: &mut [u8], at: usize, w: [u64; LONGEST_RECORD]) -> usize {
     let key = put_whole(out, at, b"key ", w[0]);
     let rate = put_f64(out, key, b" limit_rate=", w[1]);
     let burst = put_whole(out, rate, b" limit_burst=", w[2]);
@@ -92,7 +94,7 @@ fn put_key(out: &mut [u8], at: usize, w: [u64; 22]) -> usize {
 }
 
 // Kind 3.
-fn put_hot(out: &mut [u8], at: usize, w: [u64; 22]) -> usize {
+fn put_hot(out: &mut [u8], at: usize, w: [u64; LONGEST_RECORD]) -> usize {
     let key = put_whole(out, at, b"hot ", w[0]);
     let demand = put_f64(out, key, b" demand=", w[1]);
     let primary = put_whole(out, demand, b" primary=", w[2]);
@@ -101,14 +103,14 @@ fn put_hot(out: &mut [u8], at: usize, w: [u64; 22]) -> usize {
 }
 
 // Kind 4.
-fn put_shadow(out: &mut [u8], at: usize, w: [u64; 22]) -> usize {
+fn put_shadow(out: &mut [u8], at: usize, w: [u64; LONGEST_RECORD]) -> usize {
     let key = put_whole(out, at, b"shadow ", w[0]);
     let quota = put_quota(out, key, w[1]);
     put_optional(out, quota, b" tat=", w[2], w[3])
 }
 
 // The past epochs of kind 5.
-fn put_past_epochs(out: &mut [u8], at: usize, w: [u64; 22]) -> usize {
+fn put_past_epochs(out: &mut [u8], at: usize, w: [u64; LONGEST_RECORD]) -> usize {
     let count = put_whole(out, at, b" count_of_past_epochs=", w[7]);
     let a = put_whole(out, count, b" past_epochs=(", w[8]);
     let b = put_whole(out, a, b" ", w[9]);
@@ -118,7 +120,7 @@ fn put_past_epochs(out: &mut [u8], at: usize, w: [u64; 22]) -> usize {
 }
 
 // Kind 5.
-fn put_peer(out: &mut [u8], at: usize, w: [u64; 22]) -> usize {
+fn put_peer(out: &mut [u8], at: usize, w: [u64; LONGEST_RECORD]) -> usize {
     let id = put_whole(out, at, b"peer ", w[0]);
     let held = put_optional(out, id, b" held_until=", w[1], w[2]);
     let snapshot = put_whole(out, held, b" snapshot=", w[3]);
@@ -129,7 +131,7 @@ fn put_peer(out: &mut [u8], at: usize, w: [u64; 22]) -> usize {
 }
 
 // Kind 6, and the first four words of kind 7.
-fn put_peer_key(out: &mut [u8], at: usize, kind: &[u8], w: [u64; 22]) -> usize {
+fn put_peer_key(out: &mut [u8], at: usize, kind: &[u8], w: [u64; LONGEST_RECORD]) -> usize {
     let peer = put_whole(out, at, kind, w[0]);
     let key = put_whole(out, peer, b" key=", w[1]);
     let demand = put_f32(out, key, b" demand=", w[2]);
@@ -137,7 +139,7 @@ fn put_peer_key(out: &mut [u8], at: usize, kind: &[u8], w: [u64; 22]) -> usize {
 }
 
 // Kind 7.
-fn put_contested(out: &mut [u8], at: usize, w: [u64; 22]) -> usize {
+fn put_contested(out: &mut [u8], at: usize, w: [u64; LONGEST_RECORD]) -> usize {
     let four = put_peer_key(out, at, b"contested peer=", w);
     let round = put_whole(out, four, b" round=", w[4]);
     put_whole(out, round, b" heard_at=", w[5])

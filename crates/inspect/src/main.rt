@@ -6,7 +6,14 @@ mod fields;
 mod lines;
 
 use image::LoadAnswer;
+use image::judge::HOT_SIZE;
+use image::judge::KEYS_SIZE;
+use image::judge::SHADOWS_SIZE;
+use image::rows::RecordAnswer;
 use libc::STDIN_FILENO;
+use peers::peer_demand::CONTESTED_SIZE;
+use peers::peer_demand::PEERS_SIZE;
+use peers::peer_demand::SNAPSHOT_KEYS_SIZE;
 ghost use mathlib.Core.Path.{_≡_};
 ghost use Prim.Native.Nat.{_<_, _≤_};
 ghost use lib.ListN.{length};
@@ -22,11 +29,10 @@ fn record_end(image: &[u8], here: usize) -> usize
     requires { ⌜ here < length (now image) ⌝ }
     ensures { λ r. ⌜ (here < r) × (r ≤ length (now (image .entry))) ⌝ }
 {
-    let size = image::rows::record_size(lines::kind_of(&image[here..]));
-    if image.len() - here < size {
-        return image.len();
+    match image::rows::record_at(image, here) {
+        RecordAnswer::NoRecord => image.len(),
+        RecordAnswer::Is(record) => record.end,
     }
-    here + size
 }
 
 // Writes the line of one record, and what is ready where little room is left then.
@@ -75,12 +81,12 @@ fn inspect(
 
 // The same, with tables for the largest image.
 fn run(image: &[u8]) {
-    let mut keys = [0u64; 90_112];
-    let mut hot = [0u64; 384];
-    let mut shadows = [0u64; 16_384];
-    let mut peers = [0u64; 384];
-    let mut snapshot_keys = [0u64; 8192];
-    let mut contested = [0u64; 49_152];
+    let mut keys = [0u64; KEYS_SIZE];
+    let mut hot = [0u64; HOT_SIZE];
+    let mut shadows = [0u64; SHADOWS_SIZE];
+    let mut peers = [0u64; PEERS_SIZE];
+    let mut snapshot_keys = [0u64; SNAPSHOT_KEYS_SIZE];
+    let mut contested = [0u64; CONTESTED_SIZE];
     let mut out = io::large_buffer();
     inspect(
         image,

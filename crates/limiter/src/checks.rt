@@ -16,6 +16,7 @@ use demand::allocation::is_rate;
 use gcra::CheckAnswer;
 use gcra::Decision;
 use gcra::Gcra;
+use gcra::MAX_INTERVAL;
 use gcra::Quota;
 use gcra::QuotaAnswer;
 use gcra::Tat;
@@ -148,7 +149,10 @@ pub(crate) fn quota_for(rate: f64, burst: u32) -> Quota
             interval: quota.interval,
             burst,
         },
-        QuotaAnswer::No(_) => Quota { interval: 1, burst },
+        QuotaAnswer::No(_) => Quota {
+            interval: MAX_INTERVAL,
+            burst,
+        },
     }
 }
 
@@ -222,7 +226,7 @@ pub(crate) fn entry(
         records::Found::Unfit => KeyEntry {
             tracked: false,
             place: 0,
-            state: new_key(limiter, key, limit, reading, cluster_size),
+            state: new_key(limiter, key, limit, reading, cluster_size).spent(),
         },
     }
 }
@@ -349,7 +353,7 @@ pub(crate) fn ask_meter(gcra: Gcra, reading: u64) -> Metered
             gcra: left,
         },
         CheckAnswer::No(_) => Metered {
-            decision: Decision::Allow,
+            decision: Decision::Deny { retry_at: u64::MAX },
             gcra: left,
         },
     }

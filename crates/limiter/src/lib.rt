@@ -187,7 +187,7 @@ pub const SHADOW_WORDS: usize = 4;
 // The most keys that a hot set and a table may hold.
 const MAX_HOT: usize = 64;
 
-const MAX_KEYS: usize = 4096;
+pub const MAX_KEYS: usize = 4096;
 
 impl Limit {
     // Questions 3 and 4: the rate is finite and above 0, and the burst one that may be.

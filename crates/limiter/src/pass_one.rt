@@ -143,7 +143,7 @@ fn has_debt(meter: Gcra, reading: u64) -> bool
 {
     match meter.has_debt(reading) {
         DebtAnswer::Is(debt) => debt,
-        DebtAnswer::No(_) => false,
+        DebtAnswer::No(_) => true,
     }
 }
 

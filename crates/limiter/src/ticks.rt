@@ -165,7 +165,7 @@ fn rate_place(rate: u64, last_tick: u64, since: u64, time_constant: u64) -> u64
     };
     match demand.unbiased_rate() {
         RateAnswer::Is(unbiased) => float::total_place(float::to_bits(unbiased)),
-        RateAnswer::No(_) => 0,
+        RateAnswer::No(_) => u64::MAX,
     }
 }
 

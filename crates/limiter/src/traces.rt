@@ -13,6 +13,7 @@ use crate::key_record;
 use gcra::CheckAnswer;
 use gcra::Decision;
 use gcra::Gcra;
+use gcra::MAX_INTERVAL;
 use gcra::Quota;
 use gcra::RateAnswer;
 use gcra::Tat;
@@ -55,7 +56,10 @@ pub(crate) fn shadow_quota(quota: Quota, limit: Limit, shadow: Limit) -> Quota
 {
     match quota.rate_per_sec() {
         RateAnswer::Is(rate) => checks::quota_for(rate * shadow.rate / limit.rate, shadow.burst),
-        RateAnswer::No(_) => quota,
+        RateAnswer::No(_) => Quota {
+            interval: MAX_INTERVAL,
+            burst: shadow.burst,
+        },
     }
 }
 
@@ -102,7 +106,7 @@ pub(crate) fn shadow_entry(
             place: 0,
             gcra: Gcra {
                 quota: wanted,
-                tat: Tat::Unset,
+                tat: Tat::At(u64::MAX),
             },
         },
     }

@@ -4,3 +4,4 @@ pub mod StandingLaws
 pub mod RoomLaws
 pub mod ImageCallLaws
 pub mod PeerCallLaws
+pub mod HotCallLaws

@@ -7,19 +7,21 @@ use lib.Dec.{leb}
 use lib.ListN.{length}
 use Rattle.demand.specs.declared.answers.LenAnswer.{LenAnswer}
 use Rattle.demand.specs.Answers.{lenAnswer}
+use Rattle.peers.specs.Peers.State as peer-state
 use Rattle.peers.specs.Peers.State.{PeerTables}
 use Rattle.questions.specs.Questions.{Answer}
-use Rattle.limiter.specs.State.{LimiterTables}
+use Rattle.limiter.specs.State.{LimiterTables, lengths}
 use Rattle.image.specs.declared.Loaded.{Loaded}
 use Rattle.image.specs.declared.LoadAnswer.{LoadAnswer}
 use Rattle.image.specs.Calls as image
-use Rattle.nultiway.specs.Values.{limiterWords, limiterOf, limiterAsked, peersWords, peersOf, roomAsked}
+use Rattle.nultiway.specs.Values.{limiterWords, limiterOf, limiterAsked, peersWords, peersOf, peersRoom, roomAsked}
 use Rattle.nultiway.specs.Calls.{Called, Tells, numberOf, answerPut, oneWord}
 
 -- `nultiway_save`: how many bytes
 abbrev pub Save : (ws : List ℕ) → LimiterTables → (ps : List ℕ) → PeerTables → (out answer : List ℕ) (r : ℕ) (out′ answer′ : List ℕ) → Type 0
 Save ws t ps pt out answer r out′ answer′ =
-    Called (limiterAsked ws (leb 3 (length ps) && leb 1 (length answer))) r ((out′ ≡ out) × (answer′ ≡ answer))
+    Called (limiterAsked ws (lengths t) (leb 1 (length answer) && peersRoom (length ps) (peer-state.lengths pt))) r
+    ((out′ ≡ out) × (answer′ ≡ answer))
     (Tells (λ (h : Loaded) (x : LenAnswer). image.Saves (h .limiter) t (h .peers) pt out x out′)
     (record { limiter = limiterOf ws; peers = peersOf ps }) lenAnswer oneWord answer r answer′)
 

@@ -4,3 +4,5 @@ pub mod LimiterCalls
 pub mod LoneCalls
 pub mod ImageCalls
 pub mod PeerCalls
+pub mod HotCalls
+pub mod DemandCalls

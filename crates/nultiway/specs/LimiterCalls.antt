@@ -19,7 +19,9 @@ use Rattle.peers.specs.declared.peer_demand.PeerDemand.{PeerDemand}
 use Rattle.demand.specs.declared.answers.FlagAnswer.{FlagAnswer}
 use Rattle.demand.specs.declared.answers.LenAnswer.{LenAnswer}
 use Rattle.records.specs.Fields.{timeWords}
+use Rattle.records.specs.Records.{fits}
 use Rattle.hot.specs.HotSet.Calls.{sinceAnswer}
+use Rattle.peers.specs.Peers.State as peer-state
 use Rattle.peers.specs.Peers.State.{PeerTables}
 use Rattle.peers.specs.Peers.Calls.{changeAnswer}
 use Rattle.demand.specs.Answers.{flagAnswer, lenAnswer}
@@ -36,10 +38,10 @@ use Rattle.limiter.specs.declared.ConfigAnswer.{ConfigAnswer}
 use Rattle.limiter.specs.declared.Checked.{Checked}
 use Rattle.limiter.specs.declared.TracedCheck.{TracedCheck}
 use Rattle.limiter.specs.declared.Changed.{Changed}
-use Rattle.limiter.specs.State.{LimiterTables, floatWord}
+use Rattle.limiter.specs.State.{LimiterTables, lengths, floatWord}
 use Rattle.limiter.specs.Calls as limiter
 use Rattle.limiter.specs.Calls.{Decisions}
-use Rattle.nultiway.specs.Values.{limiterWords, limiterOf, limiterAsked, peersOf, roomAsked}
+use Rattle.nultiway.specs.Values.{limiterWords, limiterOf, limiterAsked, peersOf, peersRoom, roomAsked}
 use Rattle.nultiway.specs.Calls.{Called, Changes, Answers, Tells, oneWord, decisionWords, quotaWords, floatWords, flagWords}
 
 -- ---- arguments
@@ -118,36 +120,43 @@ New ws t c r ws′ =
 
 -- `nultiway_limiter_ask`
 abbrev pub Ask : (ws : List ℕ) → LimiterTables → (r : ℕ) → Type 0
-Ask ws t r = r ≡ firstNo (limiterAsked ws true ++ limiter.stateQuestions (limiterOf ws) t)
+Ask ws t r = r ≡ firstNo (limiterAsked ws (lengths t) true ++ limiter.stateQuestions (limiterOf ws) t)
 
 -- ---- calls that change the limiter and answer no words
 
 -- Over the promise of the crate's function of what the lent words stand for and of its result.
-abbrev pub Changing : {B : Type 0} → (ws : List ℕ) (room : Bool) (r : ℕ) (ws′ : List ℕ) (Unmoved : Type 0) → (B → Changed → Type 0) → B → Type 0
-Changing ws room r ws′ Unmoved promise v =
-    Called (limiterAsked ws room) r Unmoved
+abbrev pub Changing :
+    {B : Type 0}
+    → (ws : List ℕ)
+    → LimiterTables
+    → (room : Bool) (r : ℕ) (ws′ : List ℕ) (Unmoved : Type 0)
+    → (B → Changed → Type 0)
+    → B
+    → Type 0
+Changing ws t room r ws′ Unmoved promise v =
+    Called (limiterAsked ws (lengths t) room) r Unmoved
     (Changes promise v (λ (x : Changed). changeAnswer (x .answer)) (λ (x : Changed). limiterWords (x .limiter)) ws r ws′)
 
 -- `nultiway_set_cap`, which is lent tables that it cannot write
 abbrev pub SetCap : (ws : List ℕ) → LimiterTables → Option Float → (r : ℕ) → (ws′ : List ℕ) → Type 0
 SetCap ws t cap r ws′ =
-    Changing ws true r ws′ (ws′ ≡ ws) (λ (v : Limiter × Option Float) (x : Changed). limiter.SetsCap (v .0) t (v .1) x) (limiterOf ws, cap)
+    Changing ws t true r ws′ (ws′ ≡ ws) (λ (v : Limiter × Option Float) (x : Changed). limiter.SetsCap (v .0) t (v .1) x) (limiterOf ws, cap)
 
 -- `nultiway_record`
 abbrev pub Record : (ws : List ℕ) → LimiterTables → (key : ℕ) → Tally → Limit → (now n r : ℕ) → (ws′ : List ℕ) → LimiterTables → Type 0
 Record ws t key y k now n r ws′ t′ =
-    Changing ws true r ws′ ((ws′ ≡ ws) × (t′ ≡ t)) (λ (l : Limiter) (x : Changed). limiter.Records l t key y k now n x t′) (limiterOf ws)
+    Changing ws t true r ws′ ((ws′ ≡ ws) × (t′ ≡ t)) (λ (l : Limiter) (x : Changed). limiter.Records l t key y k now n x t′) (limiterOf ws)
 
 -- `nultiway_tick`
 abbrev pub Tick : (ws : List ℕ) → LimiterTables → (now n r : ℕ) → (ws′ : List ℕ) → LimiterTables → Type 0
 Tick ws t now n r ws′ t′ =
-    Changing ws true r ws′ ((ws′ ≡ ws) × (t′ ≡ t)) (λ (l : Limiter) (x : Changed). limiter.Ticks l t now n x t′) (limiterOf ws)
+    Changing ws t true r ws′ ((ws′ ≡ ws) × (t′ ≡ t)) (λ (l : Limiter) (x : Changed). limiter.Ticks l t now n x t′) (limiterOf ws)
 
 -- `nultiway_tick_with_shares`, which is lent words and tables of the peers that it cannot write
 abbrev pub TickWithShares :
     (ws : List ℕ) → LimiterTables → (ps : List ℕ) → PeerTables → (now n r : ℕ) → (ws′ : List ℕ) → LimiterTables → Type 0
 TickWithShares ws t ps pt now n r ws′ t′ =
-    Changing ws (leb 3 (length ps)) r ws′ ((ws′ ≡ ws) × (t′ ≡ t))
+    Changing ws t (peersRoom (length ps) (peer-state.lengths pt)) r ws′ ((ws′ ≡ ws) × (t′ ≡ t))
     (λ (v : Limiter × PeerDemand) (x : Changed). limiter.TicksWithShares (v .0) t (v .1) pt now n x t′) (limiterOf ws, peersOf ps)
 
 -- `nultiway_check_each`: the output is the crate's
@@ -155,7 +164,7 @@ abbrev pub CheckEach :
     (ws : List ℕ) → LimiterTables → (list : List ℕ) → (count n : ℕ) → (out : List ℕ)
     → (r : ℕ) → (ws′ : List ℕ) → LimiterTables → (out′ : List ℕ) → Type 0
 CheckEach ws t list count n out r ws′ t′ out′ =
-    Changing ws true r ws′ ((ws′ ≡ ws) × (t′ ≡ t) × (out′ ≡ out))
+    Changing ws t (fits (length list) 2 count) r ws′ ((ws′ ≡ ws) × (t′ ≡ t) × (out′ ≡ out))
     (λ (l : Limiter) (x : Changed). limiter.ChecksEach l t list count n out x t′ out′) (limiterOf ws)
 
 -- ---- checks, which answer a decision
@@ -164,7 +173,7 @@ abbrev pub Checking :
     (ws : List ℕ) → LimiterTables → (answer : List ℕ)
     → (r : ℕ) → (ws′ : List ℕ) → LimiterTables → (answer′ : List ℕ) → (Limiter → Checked → Type 0) → Type 0
 Checking ws t answer r ws′ t′ answer′ promise =
-    Called (limiterAsked ws (leb 2 (length answer))) r ((ws′ ≡ ws) × (t′ ≡ t) × (answer′ ≡ answer))
+    Called (limiterAsked ws (lengths t) (leb 2 (length answer))) r ((ws′ ≡ ws) × (t′ ≡ t) × (answer′ ≡ answer))
     (Answers promise (limiterOf ws) (λ (x : Checked). checkAnswer (x .answer)) decisionWords (λ (x : Checked). limiterWords (x .limiter))
     ws answer r ws′ answer′)
 
@@ -187,7 +196,7 @@ abbrev pub CheckInTraced :
     (ws : List ℕ) → LimiterTables → (answer : List ℕ) → (key : ℕ) → Limit → Option Limit → (now n : ℕ)
     → (r : ℕ) → (ws′ : List ℕ) → LimiterTables → (answer′ : List ℕ) → Type 0
 CheckInTraced ws t answer key k shadow now n r ws′ t′ answer′ =
-    Called (limiterAsked ws (leb 5 (length answer))) r ((ws′ ≡ ws) × (t′ ≡ t) × (answer′ ≡ answer))
+    Called (limiterAsked ws (lengths t) (leb 5 (length answer))) r ((ws′ ≡ ws) × (t′ ≡ t) × (answer′ ≡ answer))
     (Answers (λ (v : Limiter × Option Limit) (x : TracedCheck). limiter.ChecksTraced (v .0) t key k (v .1) now n x t′) (limiterOf ws, shadow)
     (λ (x : TracedCheck). limiter.tracedAnswer (x .answer)) tracedWords (λ (x : TracedCheck). limiterWords (x .limiter)) ws answer r ws′ answer′)
 
@@ -195,68 +204,69 @@ CheckInTraced ws t answer key k shadow now n r ws′ t′ answer′ =
 
 -- Over the promise of the crate's function, its answer's words and how many they are.
 abbrev pub Telling :
-    {R A : Type 0} → (ws : List ℕ) → (size : ℕ) → (answer : List ℕ) → (r : ℕ) → (answer′ : List ℕ)
+    {R A : Type 0} → (ws : List ℕ) → LimiterTables → (size : ℕ) → (answer : List ℕ) → (r : ℕ) → (answer′ : List ℕ)
     → (R → Answer A) → (A → List ℕ) → (Limiter → R → Type 0) → Type 0
-Telling ws size answer r answer′ said words promise =
-    Called (limiterAsked ws (leb size (length answer))) r (answer′ ≡ answer) (Tells promise (limiterOf ws) said words answer r answer′)
+Telling ws t size answer r answer′ said words promise =
+    Called (limiterAsked ws (lengths t) (leb size (length answer))) r (answer′ ≡ answer) (Tells promise (limiterOf ws) said words answer r answer′)
 
 abbrev pub NewKeyQuota : (ws : List ℕ) → LimiterTables → (answer : List ℕ) → Limit → (n r : ℕ) → (answer′ : List ℕ) → Type 0
 NewKeyQuota ws t answer k n r answer′ =
-    Telling ws 2 answer r answer′ quotaAnswer quotaWords (λ (l : Limiter) (x : QuotaAnswer). limiter.TellsNewKeyQuota l t k n x)
+    Telling ws t 2 answer r answer′ quotaAnswer quotaWords (λ (l : Limiter) (x : QuotaAnswer). limiter.TellsNewKeyQuota l t k n x)
 
 abbrev pub NewKeyFactor : (ws : List ℕ) → LimiterTables → (answer : List ℕ) → (n r : ℕ) → (answer′ : List ℕ) → Type 0
 NewKeyFactor ws t answer n r answer′ =
-    Telling ws 1 answer r answer′ rateAnswer floatWords (λ (l : Limiter) (x : RateAnswer). limiter.TellsNewKeyFactor l t n x)
+    Telling ws t 1 answer r answer′ rateAnswer floatWords (λ (l : Limiter) (x : RateAnswer). limiter.TellsNewKeyFactor l t n x)
 
 abbrev pub Rates : (ws : List ℕ) → LimiterTables → (answer : List ℕ) → (key r : ℕ) → (answer′ : List ℕ) → Type 0
 Rates ws t answer key r answer′ =
-    Telling ws 4 answer r answer′ limiter.ratesAnswer ratesWords (λ (l : Limiter) (x : RatesAnswer). limiter.TellsRates l t key x)
+    Telling ws t 4 answer r answer′ limiter.ratesAnswer ratesWords (λ (l : Limiter) (x : RatesAnswer). limiter.TellsRates l t key x)
 
 abbrev pub KeyQuota : (ws : List ℕ) → LimiterTables → (answer : List ℕ) → (key r : ℕ) → (answer′ : List ℕ) → Type 0
 KeyQuota ws t answer key r answer′ =
-    Telling ws 3 answer r answer′ limiter.keyQuotaAnswer keyQuotaWords (λ (l : Limiter) (x : KeyQuotaAnswer). limiter.TellsQuota l t key x)
+    Telling ws t 3 answer r answer′ limiter.keyQuotaAnswer keyQuotaWords (λ (l : Limiter) (x : KeyQuotaAnswer). limiter.TellsQuota l t key x)
 
 abbrev pub KeyLimit : (ws : List ℕ) → LimiterTables → (answer : List ℕ) → (key r : ℕ) → (answer′ : List ℕ) → Type 0
 KeyLimit ws t answer key r answer′ =
-    Telling ws 3 answer r answer′ limiter.limitAnswer limitWords (λ (l : Limiter) (x : LimitAnswer). limiter.TellsLimit l t key x)
+    Telling ws t 3 answer r answer′ limiter.limitAnswer limitWords (λ (l : Limiter) (x : LimitAnswer). limiter.TellsLimit l t key x)
 
 abbrev pub Settings : (ws : List ℕ) → LimiterTables → (answer : List ℕ) → (r : ℕ) → (answer′ : List ℕ) → Type 0
 Settings ws t answer r answer′ =
-    Telling ws 9 answer r answer′ limiter.configAnswer configWords (λ (l : Limiter) (x : ConfigAnswer). limiter.TellsConfig l t x)
+    Telling ws t 9 answer r answer′ limiter.configAnswer configWords (λ (l : Limiter) (x : ConfigAnswer). limiter.TellsConfig l t x)
 
 abbrev pub HotSince : (ws : List ℕ) → LimiterTables → (answer : List ℕ) → (key r : ℕ) → (answer′ : List ℕ) → Type 0
 HotSince ws t answer key r answer′ =
-    Telling ws 2 answer r answer′ sinceAnswer timeWords (λ (l : Limiter) (x : SinceAnswer). limiter.TellsHotSince l t key x)
+    Telling ws t 2 answer r answer′ sinceAnswer timeWords (λ (l : Limiter) (x : SinceAnswer). limiter.TellsHotSince l t key x)
 
 abbrev pub IsHot : (ws : List ℕ) → LimiterTables → (answer : List ℕ) → (key r : ℕ) → (answer′ : List ℕ) → Type 0
 IsHot ws t answer key r answer′ =
-    Telling ws 1 answer r answer′ flagAnswer flagWords (λ (l : Limiter) (x : FlagAnswer). limiter.TellsHot l t key x)
+    Telling ws t 1 answer r answer′ flagAnswer flagWords (λ (l : Limiter) (x : FlagAnswer). limiter.TellsHot l t key x)
 
 abbrev pub IsTracked : (ws : List ℕ) → LimiterTables → (answer : List ℕ) → (key r : ℕ) → (answer′ : List ℕ) → Type 0
 IsTracked ws t answer key r answer′ =
-    Telling ws 1 answer r answer′ flagAnswer flagWords (λ (l : Limiter) (x : FlagAnswer). limiter.TellsTracked l t key x)
+    Telling ws t 1 answer r answer′ flagAnswer flagWords (λ (l : Limiter) (x : FlagAnswer). limiter.TellsTracked l t key x)
 
 abbrev pub CountKeys : (ws : List ℕ) → LimiterTables → (answer : List ℕ) → (r : ℕ) → (answer′ : List ℕ) → Type 0
-CountKeys ws t answer r answer′ = Telling ws 1 answer r answer′ lenAnswer oneWord (λ (l : Limiter) (x : LenAnswer). limiter.CountsKeys l t x)
+CountKeys ws t answer r answer′ = Telling ws t 1 answer r answer′ lenAnswer oneWord (λ (l : Limiter) (x : LenAnswer). limiter.CountsKeys l t x)
 
 abbrev pub CountHot : (ws : List ℕ) → LimiterTables → (answer : List ℕ) → (r : ℕ) → (answer′ : List ℕ) → Type 0
-CountHot ws t answer r answer′ = Telling ws 1 answer r answer′ lenAnswer oneWord (λ (l : Limiter) (x : LenAnswer). limiter.CountsHot l t x)
+CountHot ws t answer r answer′ = Telling ws t 1 answer r answer′ lenAnswer oneWord (λ (l : Limiter) (x : LenAnswer). limiter.CountsHot l t x)
 
 -- ---- lists: the output is the crate's, the answer how many entries
 
-abbrev pub Listing : (ws : List ℕ) → (out answer : List ℕ) → (r : ℕ) → (out′ answer′ : List ℕ) → (Limiter → LenAnswer → Type 0) → Type 0
-Listing ws out answer r out′ answer′ promise =
-    Called (limiterAsked ws (leb 1 (length answer))) r ((out′ ≡ out) × (answer′ ≡ answer))
+abbrev pub Listing :
+    (ws : List ℕ) → LimiterTables → (out answer : List ℕ) → (r : ℕ) → (out′ answer′ : List ℕ) → (Limiter → LenAnswer → Type 0) → Type 0
+Listing ws t out answer r out′ answer′ promise =
+    Called (limiterAsked ws (lengths t) (leb 1 (length answer))) r ((out′ ≡ out) × (answer′ ≡ answer))
     (Tells promise (limiterOf ws) lenAnswer oneWord answer r answer′)
 
 abbrev pub HotDemand : (ws : List ℕ) → LimiterTables → (out answer : List ℕ) → (r : ℕ) → (out′ answer′ : List ℕ) → Type 0
 HotDemand ws t out answer r out′ answer′ =
-    Listing ws out answer r out′ answer′ (λ (l : Limiter) (x : LenAnswer). limiter.ListsHotDemand l t out x out′)
+    Listing ws t out answer r out′ answer′ (λ (l : Limiter) (x : LenAnswer). limiter.ListsHotDemand l t out x out′)
 
 abbrev pub MostDenied : (ws : List ℕ) → LimiterTables → (k : ℕ) → (out answer : List ℕ) → (r : ℕ) → (out′ answer′ : List ℕ) → Type 0
 MostDenied ws t k out answer r out′ answer′ =
-    Listing ws out answer r out′ answer′ (λ (l : Limiter) (x : LenAnswer). limiter.ListsMostDenied l t k out x out′)
+    Listing ws t out answer r out′ answer′ (λ (l : Limiter) (x : LenAnswer). limiter.ListsMostDenied l t k out x out′)
 
 abbrev pub MostShadowDenied : (ws : List ℕ) → LimiterTables → (k : ℕ) → (out answer : List ℕ) → (r : ℕ) → (out′ answer′ : List ℕ) → Type 0
 MostShadowDenied ws t k out answer r out′ answer′ =
-    Listing ws out answer r out′ answer′ (λ (l : Limiter) (x : LenAnswer). limiter.ListsMostShadowDenied l t k out x out′)
+    Listing ws t out answer r out′ answer′ (λ (l : Limiter) (x : LenAnswer). limiter.ListsMostShadowDenied l t k out x out′)

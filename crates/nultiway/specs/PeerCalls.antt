@@ -21,11 +21,11 @@ use Rattle.demand.specs.declared.answers.FlagAnswer.{FlagAnswer}
 use Rattle.demand.specs.declared.answers.LenAnswer.{LenAnswer}
 use Rattle.records.specs.Fields.{flagWord, flagOf}
 use Rattle.questions.specs.Lists.{all}
-use Rattle.peers.specs.Peers.State.{PeerTables}
+use Rattle.peers.specs.Peers.State.{PeerTables, lengths}
 use Rattle.demand.specs.Answers.{flagAnswer, lenAnswer}
 use Rattle.peers.specs.Peers.Calls as demand
 use Rattle.questions.specs.Questions.{Question, _asks_, Answer}
-use Rattle.nultiway.specs.Values.{peersWords, peersOf, roomAsked}
+use Rattle.nultiway.specs.Values.{peersWords, peersOf, peersRoom, roomAsked}
 use Rattle.nultiway.specs.Calls.{Called, Changes, Tells, numberOf, oneWord, floatWords, flagWords}
 
 -- ---- the words of answers
@@ -106,10 +106,10 @@ abbrev pub reportOf : (origin epoch round : ℕ) (ws : List ℕ) (count : ℕ) �
 reportOf origin epoch round ws count =
     record { origin = origin; epoch = epoch; round = round; count = count; keys = keysOf (min count 64) ws }
 
--- question 1 of the peers' words and of the report's, of which more than 65 keys are not asked; question 2 of the keys that are read
-abbrev pub reportAsked : (peers : ℕ) (ws : List ℕ) (count : ℕ) → List Question
-reportAsked peers ws count =
-    (1 asks (leb 3 peers && leb (min count 65 * 3) (length ws))) ∷ (2 asks all isListed (records 3 (min count 64) ws)) ∷ []
+-- question 1 of whether the peers have room and of the report's words, of which more than 65 keys are not asked; question 2 of the keys that are read
+abbrev pub reportAsked : (room : Bool) (ws : List ℕ) (count : ℕ) → List Question
+reportAsked room ws count =
+    (1 asks (room && leb (min count 65 * 3) (length ws))) ∷ (2 asks all isListed (records 3 (min count 64) ws)) ∷ []
 
 -- the peers, the sender and its report
 pub record Sent : Type 0 where
@@ -126,7 +126,7 @@ abbrev pub Apply :
     → Type 0
 Apply ps t peer report ws now r ps′ t′ =
     ChangesPeers (λ (v : Sent) (x : PeersChanged). demand.Applies (v .peers) t (v .peer) (v .report) now x t′)
-    (record { peers = peersOf ps; peer = peer; report = report }) (reportAsked (length ps) ws (report .count)) ps t r ps′ t′
+    (record { peers = peersOf ps; peer = peer; report = report }) (reportAsked (peersRoom (length ps) (lengths t)) ws (report .count)) ps t r ps′ t′
 
 -- ---- calls that read
 

@@ -9,7 +9,9 @@ use Rattle.questions.specs.Questions.{Question, _asks_}
 use Rattle.peers.specs.declared.peer_demand.PeerDemand.{PeerDemand}
 use Rattle.records.specs.Fields.{timeOf}
 use Rattle.limiter.specs.declared.Limiter.{Limiter}
-use Rattle.limiter.specs.State.{settingsWords, settingsOf, capFrom, lastTickFrom}
+use Rattle.peers.specs.Peers.State as peer-state
+use Rattle.peers.specs.Peers.State.{PeerLengths}
+use Rattle.limiter.specs.State.{Lengths, haveRoom, settingsWords, settingsOf, capFrom, lastTickFrom}
 use Rattle.image.specs.Reader as reader
 use Rattle.image.specs.LoadSteps.{configFrom}
 
@@ -35,9 +37,10 @@ limiterOf ws =
 unfoldable pub isLimiter : List ℕ → Bool
 isLimiter ws = same (limiterWords (limiterOf ws)) (take 16 ws)
 
--- question 1 of the limiter's words, and of whether the other buffers of a fixed size have theirs; question 2 of the words
-abbrev pub limiterAsked : List ℕ → Bool → List Question
-limiterAsked ws room = (1 asks (leb 16 (length ws) && room)) ∷ (2 asks isLimiter ws) ∷ []
+-- question 1 of the limiter's words, of its tables by the sizes in those words, whatever else they hold, and of whether the call's other buffers have
+-- room; question 2 of the words
+abbrev pub limiterAsked : List ℕ → Lengths → Bool → List Question
+limiterAsked ws n room = (1 asks (leb 16 (length ws) && (haveRoom (limiterOf ws .config) n && room))) ∷ (2 asks isLimiter ws) ∷ []
 
 -- ---- the peers: how many peers, snapshot keys and contested keys are in use; any three words are a value
 
@@ -46,6 +49,10 @@ peersWords p = p .peers ∷ p .«snapshot_keys» ∷ p .contested ∷ []
 
 unfoldable pub peersOf : List ℕ → PeerDemand
 peersOf ws = record { peers = getD ws 0 0; «snapshot_keys» = getD ws 1 0; contested = getD ws 2 0 }
+
+-- the peers have their words, and their tables, whose sizes are fixed, theirs
+abbrev pub peersRoom : (words : ℕ) → PeerLengths → Bool
+peersRoom words n = leb 3 words && peer-state.haveRoom n
 
 -- question 1 alone, where any words are a value
 abbrev pub roomAsked : Bool → List Question

@@ -262,7 +262,7 @@ pub(crate) fn put_limit(to: &mut [u64], said: LimitAnswer) -> u8
 }
 
 // The words of the settings, without the cap and the last tick.
-fn config_words(config: Config) -> [u64; 9]
+pub(crate) fn config_words(config: Config) -> [u64; 9]
     ensures { λ r. ⌜ r ≡ configWords config ⌝ }
 {
     let limit = config.limit;

@@ -5,6 +5,7 @@ use crate::values::PEERS_WORDS;
 use crate::values::are_long;
 use crate::values::ask_limiter;
 use crate::values::limiter_of;
+use crate::values::peers_have_room;
 use crate::values::peers_of;
 use crate::values::put_limiter;
 use crate::values::put_peers;
@@ -57,7 +58,14 @@ pub extern "C" fn nultiway_save(
         (now (answer .entry)) r (now (out .exit)) (now (answer .exit))
         ⌝ }
 {
-    let no = ask_limiter(limiter, are_long(peers.len(), PEERS_WORDS, answer.len(), 1));
+    let room = peers_have_room(
+        1 <= answer.len(),
+        peers.len(),
+        peer_table.len(),
+        snapshot_keys.len(),
+        contested.len(),
+    );
+    let no = ask_limiter(limiter, keys.len(), hot.len(), shadows.len(), room);
     if no != 0 {
         return no;
     }

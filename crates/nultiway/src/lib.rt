@@ -2,8 +2,11 @@
 // that the caller lends. A function answers 0, or the number of the first question that was
 // answered 'no'; then no lent word has changed.
 mod answers;
+mod demand_calls;
 mod gcra_calls;
 mod helpers;
+mod hot_answers;
+mod hot_calls;
 mod image_calls;
 mod limiter_changes;
 mod limiter_checks;
@@ -15,4 +18,5 @@ mod peer_answers;
 mod peer_calls;
 mod peer_changes;
 mod report;
+mod share_calls;
 mod values;

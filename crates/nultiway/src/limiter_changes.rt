@@ -2,9 +2,9 @@
 use crate::answers::change_number;
 use crate::answers::put_new;
 use crate::values::LIMITER_WORDS;
-use crate::values::PEERS_WORDS;
 use crate::values::ask_limiter;
 use crate::values::limiter_of;
+use crate::values::peers_have_room;
 use crate::values::peers_of;
 use crate::values::put_limiter;
 use limiter::Cap;
@@ -79,7 +79,7 @@ pub extern "C" fn nultiway_limiter_ask(
         Calls.Ask (now (limiter .entry)) (atEntry keys hot shadows) r
         ⌝ }
 {
-    let no = ask_limiter(limiter, true);
+    let no = ask_limiter(limiter, keys.len(), hot.len(), shadows.len(), true);
     if no != 0 {
         return no;
     }
@@ -102,7 +102,7 @@ pub extern "C" fn nultiway_set_cap(
         (Calls.capGiven «has_cap» cap) r (now (limiter .exit))
         ⌝ }
 {
-    let no = ask_limiter(limiter, true);
+    let no = ask_limiter(limiter, keys.len(), hot.len(), shadows.len(), true);
     if no != 0 {
         return no;
     }
@@ -137,7 +137,7 @@ pub extern "C" fn nultiway_record(
         (atExit keys hot shadows)
         ⌝ }
 {
-    let no = ask_limiter(limiter, true);
+    let no = ask_limiter(limiter, keys.len(), hot.len(), shadows.len(), true);
     if no != 0 {
         return no;
     }
@@ -171,7 +171,7 @@ pub extern "C" fn nultiway_tick(
         (now (limiter .exit)) (atExit keys hot shadows)
         ⌝ }
 {
-    let no = ask_limiter(limiter, true);
+    let no = ask_limiter(limiter, keys.len(), hot.len(), shadows.len(), true);
     if no != 0 {
         return no;
     }
@@ -205,7 +205,14 @@ pub extern "C" fn nultiway_tick_with_shares(
         (atExit keys hot shadows)
         ⌝ }
 {
-    let no = ask_limiter(limiter, PEERS_WORDS <= peers.len());
+    let room = peers_have_room(
+        true,
+        peers.len(),
+        peer_table.len(),
+        snapshot_keys.len(),
+        contested.len(),
+    );
+    let no = ask_limiter(limiter, keys.len(), hot.len(), shadows.len(), room);
     if no != 0 {
         return no;
     }

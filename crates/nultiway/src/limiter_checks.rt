@@ -30,7 +30,8 @@ pub extern "C" fn nultiway_check(
         (now (limiter .exit)) (atExit keys hot shadows) (now (answer .exit))
         ⌝ }
 {
-    let no = ask_limiter(limiter, 2 <= answer.len());
+    let room = 2 <= answer.len();
+    let no = ask_limiter(limiter, keys.len(), hot.len(), shadows.len(), room);
     if no != 0 {
         return no;
     }
@@ -63,7 +64,8 @@ pub extern "C" fn nultiway_check_in(
         (now (answer .exit))
         ⌝ }
 {
-    let no = ask_limiter(limiter, 2 <= answer.len());
+    let room = 2 <= answer.len();
+    let no = ask_limiter(limiter, keys.len(), hot.len(), shadows.len(), room);
     if no != 0 {
         return no;
     }
@@ -113,7 +115,8 @@ pub extern "C" fn nultiway_check_in_traced(
         (now (limiter .exit)) (atExit keys hot shadows) (now (answer .exit))
         ⌝ }
 {
-    let no = ask_limiter(limiter, 5 <= answer.len());
+    let room = 5 <= answer.len();
+    let no = ask_limiter(limiter, keys.len(), hot.len(), shadows.len(), room);
     if no != 0 {
         return no;
     }
@@ -147,12 +150,13 @@ pub extern "C" fn nultiway_check_each(
         (now (out .entry)) r (now (limiter .exit)) (atExit keys hot shadows) (now (out .exit))
         ⌝ }
 {
-    let no = ask_limiter(limiter, true);
+    let many = count as usize;
+    let room = records::fits(list.len(), 2, many);
+    let no = ask_limiter(limiter, keys.len(), hot.len(), shadows.len(), room);
     if no != 0 {
         return no;
     }
     let before = limiter_of(limiter);
-    let many = count as usize;
     let nodes = cluster_size as usize;
     let changed = before.check_each(keys, hot, shadows, list, many, nodes, out);
     let after = changed.limiter;

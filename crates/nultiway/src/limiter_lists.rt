@@ -22,7 +22,8 @@ pub extern "C" fn nultiway_hot_demand(
         (now (out .exit)) (now (answer .exit))
         ⌝ }
 {
-    let no = ask_limiter(limiter, 1 <= answer.len());
+    let room = 1 <= answer.len();
+    let no = ask_limiter(limiter, keys.len(), hot.len(), shadows.len(), room);
     if no != 0 {
         return no;
     }
@@ -49,7 +50,8 @@ pub extern "C" fn nultiway_most_denied(
         (now (out .exit)) (now (answer .exit))
         ⌝ }
 {
-    let no = ask_limiter(limiter, 1 <= answer.len());
+    let room = 1 <= answer.len();
+    let no = ask_limiter(limiter, keys.len(), hot.len(), shadows.len(), room);
     if no != 0 {
         return no;
     }
@@ -76,7 +78,8 @@ pub extern "C" fn nultiway_most_shadow_denied(
         (now (out .exit)) (now (answer .exit))
         ⌝ }
 {
-    let no = ask_limiter(limiter, 1 <= answer.len());
+    let room = 1 <= answer.len();
+    let no = ask_limiter(limiter, keys.len(), hot.len(), shadows.len(), room);
     if no != 0 {
         return no;
     }

@@ -31,7 +31,8 @@ pub extern "C" fn nultiway_new_key_quota(
         (now (answer .entry)) (Calls.limit rate burst) «cluster_size» r (now (answer .exit))
         ⌝ }
 {
-    let no = ask_limiter(limiter, 2 <= answer.len());
+    let room = 2 <= answer.len();
+    let no = ask_limiter(limiter, keys.len(), hot.len(), shadows.len(), room);
     if no != 0 {
         return no;
     }
@@ -59,7 +60,8 @@ pub extern "C" fn nultiway_new_key_factor(
         (now (answer .entry)) «cluster_size» r (now (answer .exit))
         ⌝ }
 {
-    let no = ask_limiter(limiter, 1 <= answer.len());
+    let room = 1 <= answer.len();
+    let no = ask_limiter(limiter, keys.len(), hot.len(), shadows.len(), room);
     if no != 0 {
         return no;
     }
@@ -84,7 +86,8 @@ pub extern "C" fn nultiway_key_rates(
         r (now (answer .exit))
         ⌝ }
 {
-    let no = ask_limiter(limiter, 4 <= answer.len());
+    let room = 4 <= answer.len();
+    let no = ask_limiter(limiter, keys.len(), hot.len(), shadows.len(), room);
     if no != 0 {
         return no;
     }
@@ -107,7 +110,8 @@ pub extern "C" fn nultiway_quota(
         key r (now (answer .exit))
         ⌝ }
 {
-    let no = ask_limiter(limiter, 3 <= answer.len());
+    let room = 3 <= answer.len();
+    let no = ask_limiter(limiter, keys.len(), hot.len(), shadows.len(), room);
     if no != 0 {
         return no;
     }
@@ -130,7 +134,8 @@ pub extern "C" fn nultiway_limit(
         key r (now (answer .exit))
         ⌝ }
 {
-    let no = ask_limiter(limiter, 3 <= answer.len());
+    let room = 3 <= answer.len();
+    let no = ask_limiter(limiter, keys.len(), hot.len(), shadows.len(), room);
     if no != 0 {
         return no;
     }
@@ -152,7 +157,8 @@ pub extern "C" fn nultiway_config(
         r (now (answer .exit))
         ⌝ }
 {
-    let no = ask_limiter(limiter, 9 <= answer.len());
+    let room = 9 <= answer.len();
+    let no = ask_limiter(limiter, keys.len(), hot.len(), shadows.len(), room);
     if no != 0 {
         return no;
     }
@@ -175,7 +181,8 @@ pub extern "C" fn nultiway_hot_since(
         key r (now (answer .exit))
         ⌝ }
 {
-    let no = ask_limiter(limiter, 2 <= answer.len());
+    let room = 2 <= answer.len();
+    let no = ask_limiter(limiter, keys.len(), hot.len(), shadows.len(), room);
     if no != 0 {
         return no;
     }
@@ -198,7 +205,8 @@ pub extern "C" fn nultiway_is_hot(
         r (now (answer .exit))
         ⌝ }
 {
-    let no = ask_limiter(limiter, 1 <= answer.len());
+    let room = 1 <= answer.len();
+    let no = ask_limiter(limiter, keys.len(), hot.len(), shadows.len(), room);
     if no != 0 {
         return no;
     }
@@ -221,7 +229,8 @@ pub extern "C" fn nultiway_tracked(
         key r (now (answer .exit))
         ⌝ }
 {
-    let no = ask_limiter(limiter, 1 <= answer.len());
+    let room = 1 <= answer.len();
+    let no = ask_limiter(limiter, keys.len(), hot.len(), shadows.len(), room);
     if no != 0 {
         return no;
     }
@@ -243,7 +252,8 @@ pub extern "C" fn nultiway_hot_keys(
         r (now (answer .exit))
         ⌝ }
 {
-    let no = ask_limiter(limiter, 1 <= answer.len());
+    let room = 1 <= answer.len();
+    let no = ask_limiter(limiter, keys.len(), hot.len(), shadows.len(), room);
     if no != 0 {
         return no;
     }
@@ -265,7 +275,8 @@ pub extern "C" fn nultiway_tracked_keys(
         r (now (answer .exit))
         ⌝ }
 {
-    let no = ask_limiter(limiter, 1 <= answer.len());
+    let room = 1 <= answer.len();
+    let no = ask_limiter(limiter, keys.len(), hot.len(), shadows.len(), room);
     if no != 0 {
         return no;
     }

@@ -4,6 +4,7 @@ use crate::peer_answers::put_new_peers;
 use crate::report::ask_report;
 use crate::report::report_of;
 use crate::values::PEERS_WORDS;
+use crate::values::peers_have_room;
 use crate::values::peers_of;
 use crate::values::put_peers;
 use peers::boundary::PeerId;
@@ -133,7 +134,14 @@ pub extern "C" fn nultiway_peers_apply(
         reading r (now (peers .exit)) (atExit «peer_table» «snapshot_keys» contested)
         ⌝ }
 {
-    let no = ask_report(peers.len(), report, count);
+    let room = peers_have_room(
+        true,
+        peers.len(),
+        peer_table.len(),
+        snapshot_keys.len(),
+        contested.len(),
+    );
+    let no = ask_report(room, report, count);
     if no != 0 {
         return no;
     }

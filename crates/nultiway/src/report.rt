@@ -1,7 +1,5 @@
 // A peer's report in lent words, three for each key that it lists: the key, its demand as the bits
 // of an f32 in the low half, and whether the sender has it as primary.
-use crate::values::PEERS_WORDS;
-use crate::values::are_long;
 use float::whole;
 use peers::peer_demand::DemandReport;
 use peers::peer_demand::KeyDemand;
@@ -109,13 +107,16 @@ pub(crate) fn report_of(
     }
 }
 
-// Question 1 of the peers' words and of the report's, and question 2 of the latter: the first that
-// is answered 'no', 0 where none is.
-pub(crate) fn ask_report(peers: usize, words: &[u64], count: u64) -> u8
-    ensures { λ r. ⌜ r ≡ firstNo (reportAsked peers (now (words .entry)) count) ⌝ }
+// Question 1, of whether the peers have room and of the report's words, and question 2 of the
+// latter: the first that is answered 'no', 0 where none is.
+pub(crate) fn ask_report(room: bool, words: &[u64], count: u64) -> u8
+    ensures { λ r. ⌜ r ≡ firstNo (reportAsked room (now (words .entry)) count) ⌝ }
 {
+    if !room {
+        return 1;
+    }
     let least = whole::min(count, 65) as usize * REPORT_WORDS;
-    if !are_long(peers, PEERS_WORDS, words.len(), least) {
+    if words.len() < least {
         return 1;
     }
     if !are_listed(words, whole::min(count, 64) as usize) {

@@ -1,9 +1,14 @@
 // Values in lent words: how each is written and read back, and which words are no value.
+use crate::answers::config_words;
 use image::judge::cap_of;
 use image::judge::config_of;
 use image::judge::last_tick_of;
-use image::writer::settings_words;
+use image::room::peers_fit;
+use image::rows::SETTINGS_WORDS;
+use image::writer::cap_words;
+use image::writer::last_tick_words;
 use limiter::Limiter;
+use limiter::have_room;
 use peers::peer_demand::PeerDemand;
 use records::are_same;
 ghost use mathlib.Core.Path.{_≡_};
@@ -13,11 +18,19 @@ ghost use lib.Dec.{leb};
 ghost use lib.ListN.{length, take};
 ghost use Rattle.records.specs.Words.{paste};
 ghost use Rattle.questions.specs.Questions.{firstNo};
-ghost use Rattle.nultiway.specs.Values.{limiterWords, limiterOf, isLimiter, limiterAsked, peersWords, peersOf};
+ghost use Rattle.nultiway.specs.Values.{limiterWords, limiterOf, isLimiter, limiterAsked};
+ghost use Rattle.nultiway.specs.Values.{peersWords, peersOf, peersRoom};
 
-// The words of a limiter, and of the peers.
-pub const LIMITER_WORDS: usize = 16;
+// The words of a limiter: its settings, and how many key, hot and shadow records are in use.
+pub const LIMITER_WORDS: usize = SETTINGS_WORDS + 3;
 
+const KEYS_AT: usize = SETTINGS_WORDS;
+
+const HOT_AT: usize = SETTINGS_WORDS + 1;
+
+const SHADOWS_AT: usize = SETTINGS_WORDS + 2;
+
+// The words of the peers.
 pub const PEERS_WORDS: usize = 3;
 
 // Writes the words of `from` at the front of `to`.
@@ -42,12 +55,12 @@ pub(crate) fn are_long(first: usize, least: usize, second: usize, least_second: 
 // ---- the limiter
 
 // The words of its settings.
-fn settings_in(words: &[u64]) -> [u64; 13]
+fn settings_in(words: &[u64]) -> [u64; SETTINGS_WORDS]
     requires { ⌜ 16 ≤ length (now words) ⌝ }
     ensures { λ r. ⌜ r ≡ take 13 (now (words .entry)) ⌝ }
 {
-    let mut w = [0; 13];
-    put(&mut w, &words[..13]);
+    let mut w = [0; SETTINGS_WORDS];
+    put(&mut w, &words[..SETTINGS_WORDS]);
     w
 }
 
@@ -64,17 +77,22 @@ pub(crate) fn limiter_of(words: &[u64]) -> Limiter
         config,
         cap,
         last_tick,
-        keys: words[13] as usize,
-        hot: words[14] as usize,
-        shadows: words[15] as usize,
+        keys: words[KEYS_AT] as usize,
+        hot: words[HOT_AT] as usize,
+        shadows: words[SHADOWS_AT] as usize,
     }
 }
 
 // The words of a limiter.
-fn limiter_words(limiter: Limiter) -> [u64; 16]
+fn limiter_words(limiter: Limiter) -> [u64; LIMITER_WORDS]
     ensures { λ r. ⌜ r ≡ limiterWords limiter ⌝ }
 {
-    let w = settings_words(limiter);
+    let config = limiter.config;
+    let cap = limiter.cap;
+    let last_tick = limiter.last_tick;
+    let w = config_words(config);
+    let c = cap_words(cap);
+    let t = last_tick_words(last_tick);
     [
         w[0],
         w[1],
@@ -85,10 +103,10 @@ fn limiter_words(limiter: Limiter) -> [u64; 16]
         w[6],
         w[7],
         w[8],
-        w[9],
-        w[10],
-        w[11],
-        w[12],
+        c[0],
+        c[1],
+        t[0],
+        t[1],
         limiter.keys as u64,
         limiter.hot as u64,
         limiter.shadows as u64,
@@ -96,18 +114,23 @@ fn limiter_words(limiter: Limiter) -> [u64; 16]
 }
 
 // Whether the words are those of the limiter that they stand for.
-fn is_limiter(words: &[u64]) -> bool
-    requires { ⌜ 16 ≤ length (now words) ⌝ }
+fn is_limiter(words: &[u64], limiter: Limiter) -> bool
+    requires { ⌜ (16 ≤ length (now words)) × (limiter ≡ limiterOf (now words)) ⌝ }
     ensures { λ r. ⌜ r ≡ isLimiter (now (words .entry)) ⌝ }
 {
-    let again = limiter_words(limiter_of(words));
+    let again = limiter_words(limiter);
     are_same(&again, &words[..LIMITER_WORDS])
 }
 
-// Questions 1 and 2 of a limiter's words: are there as many, and as many in the other buffers of a
-// fixed size, and are they a limiter's? The first that is answered 'no', 0 where none is.
-pub(crate) fn ask_limiter(words: &[u64], room: bool) -> u8
-    ensures { λ r. ⌜ r ≡ firstNo (limiterAsked (now (words .entry)) room) ⌝ }
+// Question 1: are the limiter's words there, are its tables long enough for the sizes in them, and
+// have the other buffers room? Question 2: are the words a limiter's? The first that is answered
+// 'no', 0 where none is.
+pub(crate) fn ask_limiter(words: &[u64], keys: usize, hot: usize, shadows: usize, room: bool) -> u8
+    ensures { λ r. ⌜
+        r ≡ firstNo
+        (limiterAsked (now (words .entry)) (record { keys = keys; hot = hot; shadows = shadows })
+        room)
+        ⌝ }
 {
     if words.len() < LIMITER_WORDS {
         return 1;
@@ -115,7 +138,12 @@ pub(crate) fn ask_limiter(words: &[u64], room: bool) -> u8
     if !room {
         return 1;
     }
-    if !is_limiter(words) {
+    let limiter = limiter_of(words);
+    let config = limiter.config;
+    if !have_room(config.table_size, config.hot_set_size, keys, hot, shadows) {
+        return 1;
+    }
+    if !is_limiter(words, limiter) {
         return 2;
     }
     0
@@ -142,6 +170,29 @@ pub(crate) fn peers_of(words: &[u64]) -> PeerDemand
         snapshot_keys: words[1] as usize,
         contested: words[2] as usize,
     }
+}
+
+// Whether the other buffers have room, the peers their words, and their tables theirs.
+pub(crate) fn peers_have_room(
+    room: bool,
+    words: usize,
+    peers: usize,
+    snapshot_keys: usize,
+    contested: usize,
+) -> bool
+    ensures { λ r. ⌜
+        r ≡ (room
+        && peersRoom words
+        (record { peers = peers; snapshotKeys = «snapshot_keys»; contested = contested }))
+        ⌝ }
+{
+    if !room {
+        return false;
+    }
+    if words < PEERS_WORDS {
+        return false;
+    }
+    peers_fit(peers, snapshot_keys, contested)
 }
 
 // Writes the peers' words.

@@ -1,5 +1,5 @@
--- The count: what one call may do to a key, the bound that any list of such turns keeps, that every call is one, and a list of calls that reaches the
--- bound.
+-- The count: what one call may do to a key, the bound that any list of such turns keeps, that every call is one, a list of calls that reaches the
+-- bound, and its run.
 pub mod Slots
 pub mod Turns
 pub mod Law
@@ -7,3 +7,4 @@ pub mod CallTurns
 pub mod Spared
 pub mod TraceTurns
 pub mod Tight
+pub mod Witness

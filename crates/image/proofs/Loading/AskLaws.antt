@@ -23,7 +23,8 @@ use Rattle.limiter.specs.State as limiter-state
 use Rattle.limiter.specs.State.{LimiterTables, lengths, within}
 use Rattle.limiter.specs.Calls.{stateQuestions}
 use Rattle.image.specs.declared.scan.Sections.{Sections}
-use Rattle.image.specs.Reader.{wordCount, recordSize, firstWords, sectionsFirst, kinds, rowsOf, stateFrom}
+use Rattle.image.specs.Image.{kinds}
+use Rattle.image.specs.Reader.{wordCount, recordSize, firstWords, sectionsFirst, rowsOf, stateFrom}
 use Rattle.image.specs.Steps.{rowsAt, Scans}
 use Rattle.image.specs.LoadSteps.{FewFound, Counted, peersFound, limiterJudged, peersJudged}
 use Rattle.image.proofs.Loading.ReadLaws.{length-first-words}
@@ -57,14 +58,14 @@ one-left false b e = absurd (let z : _≡_ {A = ℕ} 0 1 = cc in omega arith)
 module _ (bs : List ℕ) (f : Sections) (r : Scans bs f) (few : FewFound f) where
   -- kinds 2 to 4
   module _ (l : Limiter) (n : Counted f l) (t : LimiterTables) (xs ys zs : List ℕ) (ea : t .keys ≡ table (rowsAt 2 (f .keys .n) (drop (f .settings .end) bs)) xs) (eb : t .hot ≡ table (rowsAt 3 (f .hot .n) (drop (f .keys .end) bs)) ys) (ec : t .shadows ≡ table (rowsAt 4 (f .shadows .n) (drop (f .hot .end) bs)) zs) (la : length xs ≡ 90112) (lb : length ys ≡ 384) (lc : length zs ≡ 16384) where
-    keys-read : records 22 (l .keys) (t .keys) ≡ rowsOf 1 (sectionsFirst kinds bs)
-    keys-read = (λ i. records 22 (n .keys i) (ea i)) ∙ rows-back 2 (f .keys .n) (drop (f .settings .end) bs) xs ∙ sym (rows-found bs f r 1)
+    keys-read : records 22 (l .keys) (t .keys) ≡ rowsOf 2 (sectionsFirst kinds bs)
+    keys-read = (λ i. records 22 (n .keys i) (ea i)) ∙ rows-back 2 (f .keys .n) (drop (f .settings .end) bs) xs ∙ sym (rows-found bs f r 2)
 
-    hot-read : records 6 (l .hot) (t .hot) ≡ rowsOf 2 (sectionsFirst kinds bs)
-    hot-read = (λ i. records 6 (n .hot i) (eb i)) ∙ rows-back 3 (f .hot .n) (drop (f .keys .end) bs) ys ∙ sym (rows-found bs f r 2)
+    hot-read : records 6 (l .hot) (t .hot) ≡ rowsOf 3 (sectionsFirst kinds bs)
+    hot-read = (λ i. records 6 (n .hot i) (eb i)) ∙ rows-back 3 (f .hot .n) (drop (f .keys .end) bs) ys ∙ sym (rows-found bs f r 3)
 
-    shadows-read : records 4 (l .shadows) (t .shadows) ≡ rowsOf 3 (sectionsFirst kinds bs)
-    shadows-read = (λ i. records 4 (n .shadows i) (ec i)) ∙ rows-back 4 (f .shadows .n) (drop (f .hot .end) bs) zs ∙ sym (rows-found bs f r 3)
+    shadows-read : records 4 (l .shadows) (t .shadows) ≡ rowsOf 4 (sectionsFirst kinds bs)
+    shadows-read = (λ i. records 4 (n .shadows i) (ec i)) ∙ rows-back 4 (f .shadows .n) (drop (f .hot .end) bs) zs ∙ sym (rows-found bs f r 4)
 
     roomy : limiter-state.haveRoom (l .config) (lengths t) ≡ true
     unfolding within
@@ -93,14 +94,14 @@ module _ (bs : List ℕ) (f : Sections) (r : Scans bs f) (few : FewFound f) wher
 
   -- kinds 5 to 7
   module _ (t : PeerTables) (xs ys zs : List ℕ) (ea : t .peers ≡ table (rowsAt 5 (f .peers .n) (drop (f .shadows .end) bs)) xs) (eb : t .snapshotKeys ≡ table (rowsAt 6 (f .«snapshot_keys» .n) (drop (f .peers .end) bs)) ys) (ec : t .contested ≡ table (rowsAt 7 (f .contested .n) (drop (f .«snapshot_keys» .end) bs)) zs) (la : length xs ≡ 384) (lb : length ys ≡ 8192) (lc : length zs ≡ 49152) where
-    peers-read : records 12 (f .peers .n) (t .peers) ≡ rowsOf 4 (sectionsFirst kinds bs)
-    peers-read = ap (records 12 (f .peers .n)) ea ∙ rows-back 5 (f .peers .n) (drop (f .shadows .end) bs) xs ∙ sym (rows-found bs f r 4)
+    peers-read : records 12 (f .peers .n) (t .peers) ≡ rowsOf 5 (sectionsFirst kinds bs)
+    peers-read = ap (records 12 (f .peers .n)) ea ∙ rows-back 5 (f .peers .n) (drop (f .shadows .end) bs) xs ∙ sym (rows-found bs f r 5)
 
-    snapshot-keys-read : records 4 (f .«snapshot_keys» .n) (t .snapshotKeys) ≡ rowsOf 5 (sectionsFirst kinds bs)
-    snapshot-keys-read = ap (records 4 (f .«snapshot_keys» .n)) eb ∙ rows-back 6 (f .«snapshot_keys» .n) (drop (f .peers .end) bs) ys ∙ sym (rows-found bs f r 5)
+    snapshot-keys-read : records 4 (f .«snapshot_keys» .n) (t .snapshotKeys) ≡ rowsOf 6 (sectionsFirst kinds bs)
+    snapshot-keys-read = ap (records 4 (f .«snapshot_keys» .n)) eb ∙ rows-back 6 (f .«snapshot_keys» .n) (drop (f .peers .end) bs) ys ∙ sym (rows-found bs f r 6)
 
-    contested-read : records 6 (f .contested .n) (t .contested) ≡ rowsOf 6 (sectionsFirst kinds bs)
-    contested-read = ap (records 6 (f .contested .n)) ec ∙ rows-back 7 (f .contested .n) (drop (f .«snapshot_keys» .end) bs) zs ∙ sym (rows-found bs f r 6)
+    contested-read : records 6 (f .contested .n) (t .contested) ≡ rowsOf 7 (sectionsFirst kinds bs)
+    contested-read = ap (records 6 (f .contested .n)) ec ∙ rows-back 7 (f .contested .n) (drop (f .«snapshot_keys» .end) bs) zs ∙ sym (rows-found bs f r 7)
 
     peers-roomy : peer-state.haveRoom (peer-state.lengths t) ≡ true
     unfolding peer-state.lengths peer-state.haveRoom

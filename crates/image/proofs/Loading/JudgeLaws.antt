@@ -2,13 +2,13 @@
 use Prim.Native.Nat.{ℕ, zero, suc, _^_, _≤_, _<_}
 use mathlib.Core.Path.{_≡_, refl, sym, ap, _∙_, subst}
 use mathlib.Core.Bool.{Bool, true, false, cond, _&&_}
-use mathlib.Core.List.{List, [], _∷_, map}
+use mathlib.Core.List.{List, [], _∷_, _++_, map, append-nil}
 use mathlib.Core.Option.{some}
 use native.Mathlib.Omega.{arith}
 use borrow.Author.Tests.{eq-eqb, eqb-true, le-leb, leb-true, lt-ltb}
 use lib.Dec.{leb, ltb, eqb}
-use lib.ListN.{length, drop, getD, length-map}
-use Rattle.records.specs.Records.{records, same}
+use lib.ListN.{length, drop, getD, length-map, drop-of-length-le}
+use Rattle.records.specs.Records.{records, flat, table, same}
 use Rattle.records.proofs.Words.RecordLaws.{length-records}
 use Rattle.records.proofs.Order.OrderLaws.{same-eq}
 use Rattle.questions.proofs.Tests.{split, both, and-intro, and-first, and-second, same-truth, contradiction}
@@ -31,12 +31,13 @@ use Rattle.limiter.specs.State.{Settings, settingsWords, settingsOf, capOf, las
 use Rattle.limiter.proofs.States.StateValidLaws.{valid-says, sizes-say, few-shadows}
 use Rattle.limiter.proofs.States.RecordValidLaws.{limit-burst}
 use Rattle.image.specs.declared.scan.Sections.{Sections}
-use Rattle.image.specs.Image.{Section, _of_, valid, recordCount}
-use Rattle.image.specs.Reader.{number, recordSize, firstWords, rowsFirst, sectionsFirst, afterSections, kinds, isEnd, isByte, isImage, capFrom, settingsFrom, rowsOf, stateFrom, stateRead, areExact, unitsIn}
+use Rattle.image.specs.Image.{Section, _of_, valid, recordCount, kinds}
+use Rattle.image.specs.Reader.{recordSize, firstWords, rowsFirst, sectionsFirst, afterSections, isEnd, isByte, isImage, isImageTo, capFrom, settingsFrom, rowsOf, stateFrom, stateRead, areExact, unitsIn}
 use Rattle.image.specs.Calls.{valuesOf}
 use Rattle.image.specs.Steps.{rowsAt, Scans}
 use Rattle.image.specs.LoadSteps.{areFew, FewFound, countIn, configFrom, Reads, peersFound, limiterFrom, limiterJudged, peersJudged}
 use Rattle.image.proofs.Reading.RecordLaws.{first-row}
+use Rattle.image.proofs.Loading.ReadLaws.{length-first-words}
 use Rattle.image.proofs.Loading.ScanLaws.{scans-sections, scans-after}
 
 -- rows read are as many as were counted
@@ -110,10 +111,10 @@ unfolding all
 all-bytes [] h = refl
 all-bytes (x ∷ xs) h = and-intro (isByte x) _ (lt-ltb x 256 (h 0)) (all-bytes xs (λ i. h (suc i)))
 
--- the thirteen words behind the first mark and kind are those of kind 1
-pub words-read : (bs ws : List ℕ) (n : ℕ) → n ≡ 13 → ws ≡ map number (records 8 n (drop 3 bs)) → ws ≡ firstWords 1 bs
-unfolding firstWords
-words-read bs ws n e f = f ∙ ap (λ (k : ℕ). map number (records 8 k (drop 3 bs))) e
+-- a record that fills its table
+alone-in : (r zs : List ℕ) → length zs ≤ length r → table (r ∷ []) zs ≡ r
+unfolding table flat
+alone-in r zs h = ap (λ (l : List ℕ). l ++ drop (length l) zs) (append-nil r) ∙ ap (λ (l : List ℕ). r ++ l) (drop-of-length-le zs {i = length r} h) ∙ append-nil r
 
 -- seven tests and two, in two groups
 module _ (o e₁ e₂ e₃ e₄ e₅ e₆ e₇ v w : Bool) (ho : o ≡ true) (h₁ : e₁ ≡ true) where
@@ -138,7 +139,7 @@ module _ (bs : List ℕ) (f : Sections) (r : Scans bs f) where
   xs = sectionsFirst kinds bs
 
   -- the sections' rows, and how many there are
-  pub rows-found : (i : ℕ) → rowsOf i xs ≡ rowsOf i (
+  pub rows-found : (kind : ℕ) → rowsOf kind xs ≡ rowsOf kind (
       (1 of rowsAt 1 (f .settings .n) bs)
       ∷ (2 of rowsAt 2 (f .keys .n) (drop (f .settings .end) bs))
       ∷ (3 of rowsAt 3 (f .hot .n) (drop (f .keys .end) bs))
@@ -147,7 +148,7 @@ module _ (bs : List ℕ) (f : Sections) (r : Scans bs f) where
       ∷ (6 of rowsAt 6 (f .«snapshot_keys» .n) (drop (f .peers .end) bs))
       ∷ (7 of rowsAt 7 (f .contested .n) (drop (f .«snapshot_keys» .end) bs))
       ∷ [])
-  rows-found i = ap (rowsOf i) (scans-sections bs f r)
+  rows-found kind = ap (rowsOf kind) (scans-sections bs f r)
 
   -- the records before the end
   pub count-found : recordCount xs ≡ countIn f
@@ -171,23 +172,23 @@ module _ (bs : List ℕ) (f : Sections) (r : Scans bs f) where
 
   -- an image has few records of each kind
   pub image-few : isImage bs ≡ true → areFew f ≡ true
-  unfolding isImage areExact valid stateFrom
+  unfolding isImageTo areExact valid stateFrom
   image-few e =
       let a = both (all isByte bs) _ e .1 in
       let b = both (isEnd (recordCount xs) (afterSections kinds bs)) _ a .1 in
       let c = both (areExact xs) (valid (stateFrom xs)) b in
-      let once = eqb-true _ 1 (both (eqb (length (rowsOf 0 xs)) 1) _ (c .0) .0) in
+      let once = eqb-true _ 1 (both (eqb (length (rowsOf 1 xs)) 1) _ (c .0) .0) in
       let d = both (limiter-state.valid (unitsIn xs) (stateFrom xs .limiter)) _ (c .1) in
       let l = valid-says (unitsIn xs) (stateFrom xs .limiter) (d .0) in
       let z = sizes-say (stateFrom xs .limiter .settings .config) (l .settings .config .sizes) in
       let p = peer-laws.valid-says (stateFrom xs .peers) (d .1) in
-      let n₀ : length (rowsOf 0 xs) ≡ f .settings .n = ap length (rows-found 0) ∙ length-rows-at 1 _ _ in
-      let n₁ : length (stateFrom xs .limiter .keys) ≡ f .keys .n = length-map (rowsOf 1 xs) (keyOf (unitsIn xs)) ∙ ap length (rows-found 1) ∙ length-rows-at 2 _ _ in
-      let n₂ : length (stateFrom xs .limiter .hot) ≡ f .hot .n = length-map (rowsOf 2 xs) hot-set.entry ∙ ap length (rows-found 2) ∙ length-rows-at 3 _ _ in
-      let n₃ : length (stateFrom xs .limiter .shadows) ≡ f .shadows .n = length-map (rowsOf 3 xs) (shadowOf (unitsIn xs)) ∙ ap length (rows-found 3) ∙ length-rows-at 4 _ _ in
-      let n₄ : length (stateFrom xs .peers .peers) ≡ f .peers .n = length-map (rowsOf 4 xs) peerOf ∙ ap length (rows-found 4) ∙ length-rows-at 5 _ _ in
-      let n₅ : length (stateFrom xs .peers .snapshotKeys) ≡ f .«snapshot_keys» .n = length-map (rowsOf 5 xs) snapshotKeyOf ∙ ap length (rows-found 5) ∙ length-rows-at 6 _ _ in
-      let n₆ : length (stateFrom xs .peers .contested) ≡ f .contested .n = length-map (rowsOf 6 xs) contestedOf ∙ ap length (rows-found 6) ∙ length-rows-at 7 _ _ in
+      let n₀ : length (rowsOf 1 xs) ≡ f .settings .n = ap length (rows-found 1) ∙ length-rows-at 1 _ _ in
+      let n₁ : length (stateFrom xs .limiter .keys) ≡ f .keys .n = length-map (rowsOf 2 xs) (keyOf (unitsIn xs)) ∙ ap length (rows-found 2) ∙ length-rows-at 2 _ _ in
+      let n₂ : length (stateFrom xs .limiter .hot) ≡ f .hot .n = length-map (rowsOf 3 xs) hot-set.entry ∙ ap length (rows-found 3) ∙ length-rows-at 3 _ _ in
+      let n₃ : length (stateFrom xs .limiter .shadows) ≡ f .shadows .n = length-map (rowsOf 4 xs) (shadowOf (unitsIn xs)) ∙ ap length (rows-found 4) ∙ length-rows-at 4 _ _ in
+      let n₄ : length (stateFrom xs .peers .peers) ≡ f .peers .n = length-map (rowsOf 5 xs) peerOf ∙ ap length (rows-found 5) ∙ length-rows-at 5 _ _ in
+      let n₅ : length (stateFrom xs .peers .snapshotKeys) ≡ f .«snapshot_keys» .n = length-map (rowsOf 6 xs) snapshotKeyOf ∙ ap length (rows-found 6) ∙ length-rows-at 6 _ _ in
+      let n₆ : length (stateFrom xs .peers .contested) ≡ f .contested .n = length-map (rowsOf 7 xs) contestedOf ∙ ap length (rows-found 7) ∙ length-rows-at 7 _ _ in
       says-few f (record {
         settings = sym n₀ ∙ once;
         keys = omega (arith, n₁, l .few, z .most-held);
@@ -200,14 +201,20 @@ module _ (bs : List ℕ) (f : Sections) (r : Scans bs f) where
 
   -- the record of kind 1, where there is one
   module _ (few : FewFound f) where
-    pub settings-row : rowsOf 0 xs ≡ firstWords 1 bs ∷ []
+    pub settings-row : rowsOf 1 xs ≡ firstWords 1 bs ∷ []
     unfolding sectionsFirst
-    settings-row = alone (rowsOf 0 xs) (ap length (rows-found 0) ∙ length-rows-at 1 _ _ ∙ few .settings) refl
+    settings-row = alone (rowsOf 1 xs) (ap length (rows-found 1) ∙ length-rows-at 1 _ _ ∙ few .settings) refl
       where
         alone : (rs : List (List ℕ)) → length rs ≡ 1 → rowsFirst (length bs) 1 bs ≡ rs → rs ≡ firstWords 1 bs ∷ []
         alone [] n e = absurd (omega arith)
         alone (ws ∷ []) n e = ap (λ (x : List ℕ). x ∷ []) (sym (first-row (length bs) 1 bs ws [] e .1))
         alone (ws ∷ (v ∷ rs)) n e = absurd (omega arith)
+
+    -- its words, read into a table that has room for no other
+    pub words-read : (zs ws : List ℕ) → length zs ≡ 13 → ws ≡ table (rowsAt 1 (f .settings .n) (drop 0 bs)) zs → ws ≡ firstWords 1 bs
+    words-read zs ws n e =
+        e ∙ ap (λ (rs : List (List ℕ)). table rs zs) (sym (rows-found 1) ∙ settings-row)
+        ∙ alone-in (firstWords 1 bs) zs (omega (arith, length-first-words 1 bs))
 
     -- a limiter with the settings of its words
     module _ (l : Limiter) (q : Reads (firstWords 1 bs) f l) where
@@ -242,13 +249,13 @@ module _ (bs : List ℕ) (f : Sections) (r : Scans bs f) where
 
       -- so they do of every image
       pub image-same : isImage bs ≡ true → same (settingsWords (settingsOf l)) ws ≡ true
-      unfolding isImage areExact valid stateFrom settingsFrom configFrom all
+      unfolding isImageTo areExact valid stateFrom settingsFrom configFrom all
       image-same e =
           let a = both (all isByte bs) _ e .1 in
           let b = both (isEnd (recordCount xs) (afterSections kinds bs)) _ a .1 in
           let c = both (areExact xs) (valid (stateFrom xs)) b in
-          let d = both (eqb (length (rowsOf 0 xs)) 1) _ (c .0) .1 in
-          let x = both (exact settingsWords settingsFrom (rowsOf 0 xs)) _ d .0 in
+          let d = both (eqb (length (rowsOf 1 xs)) 1) _ (c .0) .1 in
+          let x = both (exact settingsWords settingsFrom (rowsOf 1 xs)) _ d .0 in
           let y = subst (λ (rs : List (List ℕ)). exact settingsWords settingsFrom rs ≡ true) settings-row x in
           let v = valid-says (unitsIn xs) (stateFrom xs .limiter) (both (limiter-state.valid (unitsIn xs) (stateFrom xs .limiter)) _ (c .1) .0) in
           let g = subst (λ (rs : List (List ℕ)). limiter-state.validLimit (settingsFrom (getD rs 0 []) .config .limit) ≡ true) settings-row (v .settings .config .limit) in
@@ -261,35 +268,35 @@ module _ (bs : List ℕ) (f : Sections) (r : Scans bs f) where
       pub judged-groups : same (settingsWords (settingsOf l)) ws ≡ true → (areExact xs && valid (stateFrom xs)) ≡ (limiterJudged l xs && peersJudged xs)
       unfolding areExact valid stateFrom limiterJudged peersJudged all
       judged-groups e =
-          let w : settingsFrom (getD (rowsOf 0 xs) 0 []) ≡ settingsOf l = ap (λ (rs : List (List ℕ)). settingsFrom (getD rs 0 [])) settings-row ∙ sym (settings-same e) in
-          let x : exact settingsWords settingsFrom (rowsOf 0 xs) ≡ true =
+          let w : settingsFrom (getD (rowsOf 1 xs) 0 []) ≡ settingsOf l = ap (λ (rs : List (List ℕ)). settingsFrom (getD rs 0 [])) settings-row ∙ sym (settings-same e) in
+          let x : exact settingsWords settingsFrom (rowsOf 1 xs) ≡ true =
           ap (exact settingsWords settingsFrom) settings-row
           ∙ and-intro (same (settingsWords (settingsFrom ws)) ws) true (ap (λ (s : Settings). same (settingsWords s) ws) (sym (settings-same e)) ∙ e) refl
           in
-          regrouped (eqb (length (rowsOf 0 xs)) 1) (exact settingsWords settingsFrom (rowsOf 0 xs)) (exact (keyWords (unitsIn xs)) (keyOf (unitsIn xs)) (rowsOf 1 xs)) (exact hot-set.words hot-set.entry (rowsOf 2 xs)) (exact (shadowWords (unitsIn xs)) (shadowOf (unitsIn xs)) (rowsOf 3 xs)) (exact peerWords peerOf (rowsOf 4 xs)) (exact snapshotKeyWords snapshotKeyOf (rowsOf 5 xs)) (exact contestedWords contestedOf (rowsOf 6 xs))
-          (limiter-state.valid (unitsIn xs) (stateFrom xs .limiter)) (peer-state.valid (stateFrom xs .peers)) (eq-eqb _ 1 (ap length (rows-found 0) ∙ length-rows-at 1 _ _ ∙ few .settings)) x
-          ∙ ap (λ (s : Settings). ((exact (keyWords (unitsOf s)) (keyOf (unitsOf s)) (rowsOf 1 xs) && (exact hot-set.words hot-set.entry (rowsOf 2 xs) && exact (shadowWords (unitsOf s)) (shadowOf (unitsOf s)) (rowsOf 3 xs))) && limiter-state.valid (unitsOf s) (limiterFrom s xs)) && ((exact peerWords peerOf (rowsOf 4 xs) && (exact snapshotKeyWords snapshotKeyOf (rowsOf 5 xs) && exact contestedWords contestedOf (rowsOf 6 xs))) && peer-state.valid (stateFrom xs .peers))) w
+          regrouped (eqb (length (rowsOf 1 xs)) 1) (exact settingsWords settingsFrom (rowsOf 1 xs)) (exact (keyWords (unitsIn xs)) (keyOf (unitsIn xs)) (rowsOf 2 xs)) (exact hot-set.words hot-set.entry (rowsOf 3 xs)) (exact (shadowWords (unitsIn xs)) (shadowOf (unitsIn xs)) (rowsOf 4 xs)) (exact peerWords peerOf (rowsOf 5 xs)) (exact snapshotKeyWords snapshotKeyOf (rowsOf 6 xs)) (exact contestedWords contestedOf (rowsOf 7 xs))
+          (limiter-state.valid (unitsIn xs) (stateFrom xs .limiter)) (peer-state.valid (stateFrom xs .peers)) (eq-eqb _ 1 (ap length (rows-found 1) ∙ length-rows-at 1 _ _ ∙ few .settings)) x
+          ∙ ap (λ (s : Settings). ((exact (keyWords (unitsOf s)) (keyOf (unitsOf s)) (rowsOf 2 xs) && (exact hot-set.words hot-set.entry (rowsOf 3 xs) && exact (shadowWords (unitsOf s)) (shadowOf (unitsOf s)) (rowsOf 4 xs))) && limiter-state.valid (unitsOf s) (limiterFrom s xs)) && ((exact peerWords peerOf (rowsOf 5 xs) && (exact snapshotKeyWords snapshotKeyOf (rowsOf 6 xs) && exact contestedWords contestedOf (rowsOf 7 xs))) && peer-state.valid (stateFrom xs .peers))) w
 
       -- what an image makes
       pub values-read : same (settingsWords (settingsOf l)) ws ≡ true → record { limiter = l; peers = peersFound f } ≡ valuesOf (stateRead bs)
       unfolding stateRead stateFrom
       values-read e =
-          let w : settingsOf l ≡ settingsFrom (getD (rowsOf 0 xs) 0 []) = settings-same e ∙ ap (λ (rs : List (List ℕ)). settingsFrom (getD rs 0 [])) (sym settings-row) in
+          let w : settingsOf l ≡ settingsFrom (getD (rowsOf 1 xs) 0 []) = settings-same e ∙ ap (λ (rs : List (List ℕ)). settingsFrom (getD rs 0 [])) (sym settings-row) in
           (λ i. record {
             limiter =
                 record {
                   config = w i .config;
                   cap = (sym (cap-again (l .cap)) ∙ ap (λ (s : Settings). limiter-state.capFrom (s .cap)) w) i;
                   «last_tick» = (sym (last-tick-again (l .«last_tick»)) ∙ ap (λ (s : Settings). limiter-state.lastTickFrom (s .lastTick)) w) i;
-                  keys = (q .counts .keys ∙ sym (length-map (rowsOf 1 xs) (keyOf (unitsIn xs)) ∙ ap length (rows-found 1) ∙ length-rows-at 2 _ _)) i;
-                  hot = (q .counts .hot ∙ sym (length-map (rowsOf 2 xs) hot-set.entry ∙ ap length (rows-found 2) ∙ length-rows-at 3 _ _)) i;
-                  shadows = (q .counts .shadows ∙ sym (length-map (rowsOf 3 xs) (shadowOf (unitsIn xs)) ∙ ap length (rows-found 3) ∙ length-rows-at 4 _ _)) i;
+                  keys = (q .counts .keys ∙ sym (length-map (rowsOf 2 xs) (keyOf (unitsIn xs)) ∙ ap length (rows-found 2) ∙ length-rows-at 2 _ _)) i;
+                  hot = (q .counts .hot ∙ sym (length-map (rowsOf 3 xs) hot-set.entry ∙ ap length (rows-found 3) ∙ length-rows-at 3 _ _)) i;
+                  shadows = (q .counts .shadows ∙ sym (length-map (rowsOf 4 xs) (shadowOf (unitsIn xs)) ∙ ap length (rows-found 4) ∙ length-rows-at 4 _ _)) i;
                 };
             peers =
                 record {
-                  peers = sym (length-map (rowsOf 4 xs) peerOf ∙ ap length (rows-found 4) ∙ length-rows-at 5 _ _) i;
-                  «snapshot_keys» = sym (length-map (rowsOf 5 xs) snapshotKeyOf ∙ ap length (rows-found 5) ∙ length-rows-at 6 _ _) i;
-                  contested = sym (length-map (rowsOf 6 xs) contestedOf ∙ ap length (rows-found 6) ∙ length-rows-at 7 _ _) i;
+                  peers = sym (length-map (rowsOf 5 xs) peerOf ∙ ap length (rows-found 5) ∙ length-rows-at 5 _ _) i;
+                  «snapshot_keys» = sym (length-map (rowsOf 6 xs) snapshotKeyOf ∙ ap length (rows-found 6) ∙ length-rows-at 6 _ _) i;
+                  contested = sym (length-map (rowsOf 7 xs) contestedOf ∙ ap length (rows-found 7) ∙ length-rows-at 7 _ _) i;
                 };
           })
 
@@ -303,7 +310,7 @@ module _ (bs : List ℕ) (f : Sections) (r : Scans bs f) where
   no-few e = refuted image-few e
 
   pub no-end : isEnd (countIn f) (drop (f .contested .end) bs) ≡ false → isImage bs ≡ false
-  unfolding isImage
+  unfolding isImageTo
   no-end e = and-second (all isByte bs) _ (and-first (isEnd (recordCount xs) (afterSections kinds bs)) _ (sym end-found ∙ e))
 
   module _ (few : FewFound f) (l : Limiter) (q : Reads (firstWords 1 bs) f l) where
@@ -313,7 +320,7 @@ module _ (bs : List ℕ) (f : Sections) (r : Scans bs f) where
     -- where the settings come back
     module _ (s : same (settingsWords (settingsOf l)) (firstWords 1 bs) ≡ true) where
       judged : (limiterJudged l xs && peersJudged xs) ≡ false → isImage bs ≡ false
-      unfolding isImage
+      unfolding isImageTo
       judged e =
           and-second (all isByte bs) _
           (and-second (isEnd (recordCount xs) (afterSections kinds bs)) (areExact xs && valid (stateFrom xs)) (judged-groups few l q s ∙ e))
@@ -325,7 +332,7 @@ module _ (bs : List ℕ) (f : Sections) (r : Scans bs f) where
       no-peers e = judged (and-second (limiterJudged l xs) _ e)
 
       pub is-image : all isByte bs ≡ true → isEnd (countIn f) (drop (f .contested .end) bs) ≡ true → limiterJudged l xs ≡ true → peersJudged xs ≡ true → isImage bs ≡ true
-      unfolding isImage
+      unfolding isImageTo
       is-image b e j k =
           and-intro (all isByte bs) _ b
           (and-intro (isEnd (recordCount xs) (afterSections kinds bs)) _ (sym end-found ∙ e)

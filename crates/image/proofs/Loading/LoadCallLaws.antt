@@ -21,8 +21,8 @@ use Rattle.limiter.proofs.States.WrittenLaws.{room-says}
 use Rattle.image.specs.declared.Loaded.{Loaded}
 use Rattle.image.specs.declared.LoadAnswer.the-variants.{No, Is}
 use Rattle.image.specs.declared.scan.Sections.{Sections}
-use Rattle.image.specs.Image.{valid, recordCount}
-use Rattle.image.specs.Reader.{sectionsFirst, kinds, rowsOf, stateFrom, stateRead, areExact, isEnd, isByte, isImage, afterSections, unitsIn}
+use Rattle.image.specs.Image.{valid, recordCount, kinds}
+use Rattle.image.specs.Reader.{sectionsFirst, rowsOf, stateFrom, stateRead, areExact, isEnd, isByte, isImage, isImageTo, afterSections, unitsIn}
 use Rattle.image.specs.Calls.{haveRoom, loadQuestions, valuesOf, Loads}
 use Rattle.image.specs.Steps.{Scans, Fits, Stores}
 use Rattle.image.specs.LoadSteps.{imageQuestions, roomFor}
@@ -34,7 +34,7 @@ use Rattle.image.proofs.Loading.StoredLaws.{stored}
 
 -- an image's records are exact
 image-exact : (bs : List ℕ) → isImage bs ≡ true → areExact (sectionsFirst kinds bs) ≡ true
-unfolding isImage
+unfolding isImageTo
 image-exact bs e =
     let a = both (all isByte bs) _ e .1 in
     let b = both (isEnd (recordCount (sectionsFirst kinds bs)) (afterSections kinds bs)) _ a .1 in
@@ -92,12 +92,12 @@ module _ (bs : List ℕ) (t : LimiterTables) (pt : PeerTables) where
           let l = valid-says (unitsOf (s .limiter .settings)) (s .limiter) (b .0) in
           let z = sizes-say (s .limiter .settings .config) (l .settings .config .sizes) in
           let p = peer-laws.valid-says (s .peers) (b .1) in
-          let n₁ : length (s .limiter .keys) ≡ f .keys .n = length-map (rowsOf 1 (sectionsFirst kinds bs)) (keyOf (unitsIn (sectionsFirst kinds bs))) ∙ ap length (rows-found bs f r 1) ∙ length-rows-at 2 _ _ in
-          let n₂ : length (s .limiter .hot) ≡ f .hot .n = length-map (rowsOf 2 (sectionsFirst kinds bs)) hot-set.entry ∙ ap length (rows-found bs f r 2) ∙ length-rows-at 3 _ _ in
-          let n₃ : length (s .limiter .shadows) ≡ f .shadows .n = length-map (rowsOf 3 (sectionsFirst kinds bs)) (shadowOf (unitsIn (sectionsFirst kinds bs))) ∙ ap length (rows-found bs f r 3) ∙ length-rows-at 4 _ _ in
-          let n₄ : length (s .peers .peers) ≡ f .peers .n = length-map (rowsOf 4 (sectionsFirst kinds bs)) peerOf ∙ ap length (rows-found bs f r 4) ∙ length-rows-at 5 _ _ in
-          let n₅ : length (s .peers .snapshotKeys) ≡ f .«snapshot_keys» .n = length-map (rowsOf 5 (sectionsFirst kinds bs)) snapshotKeyOf ∙ ap length (rows-found bs f r 5) ∙ length-rows-at 6 _ _ in
-          let n₆ : length (s .peers .contested) ≡ f .contested .n = length-map (rowsOf 6 (sectionsFirst kinds bs)) contestedOf ∙ ap length (rows-found bs f r 6) ∙ length-rows-at 7 _ _ in
+          let n₁ : length (s .limiter .keys) ≡ f .keys .n = length-map (rowsOf 2 (sectionsFirst kinds bs)) (keyOf (unitsIn (sectionsFirst kinds bs))) ∙ ap length (rows-found bs f r 2) ∙ length-rows-at 2 _ _ in
+          let n₂ : length (s .limiter .hot) ≡ f .hot .n = length-map (rowsOf 3 (sectionsFirst kinds bs)) hot-set.entry ∙ ap length (rows-found bs f r 3) ∙ length-rows-at 3 _ _ in
+          let n₃ : length (s .limiter .shadows) ≡ f .shadows .n = length-map (rowsOf 4 (sectionsFirst kinds bs)) (shadowOf (unitsIn (sectionsFirst kinds bs))) ∙ ap length (rows-found bs f r 4) ∙ length-rows-at 4 _ _ in
+          let n₄ : length (s .peers .peers) ≡ f .peers .n = length-map (rowsOf 5 (sectionsFirst kinds bs)) peerOf ∙ ap length (rows-found bs f r 5) ∙ length-rows-at 5 _ _ in
+          let n₅ : length (s .peers .snapshotKeys) ≡ f .«snapshot_keys» .n = length-map (rowsOf 6 (sectionsFirst kinds bs)) snapshotKeyOf ∙ ap length (rows-found bs f r 6) ∙ length-rows-at 6 _ _ in
+          let n₆ : length (s .peers .contested) ≡ f .contested .n = length-map (rowsOf 7 (sectionsFirst kinds bs)) contestedOf ∙ ap length (rows-found bs f r 7) ∙ length-rows-at 7 _ _ in
           record {
             keys = omega (arith, n₁, l .few, z .most-held, o .for-keys);
             hot = omega (arith, n₂, l .hot-few, z .most-hot, o .for-hot);

@@ -44,7 +44,7 @@ module _ (s : State) (e : valid s ≡ true) where
   -- the record of kind 1 comes first, with the words of the settings
   settings-first : (begins 1 (image s) ≡ true) × (firstWords 1 (image s) ≡ settingsWords (s .limiter .settings))
   unfolding sectionsFirst sections
-  settings-first = first-row (length (image s)) 1 (image s) (settingsWords (s .limiter .settings)) [] (ap (rowsOf 0) (sections-read s e))
+  settings-first = first-row (length (image s)) 1 (image s) (settingsWords (s .limiter .settings)) [] (ap (rowsOf 1) (sections-read s e))
 
   -- so its sizes are read
   sizes-read : (wordAt (image s) 8 ≡ s .limiter .settings .config .«table_size») × (wordAt (image s) 5 ≡ s .limiter .settings .config .«hot_set_size»)

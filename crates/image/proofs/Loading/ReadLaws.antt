@@ -9,7 +9,7 @@ use native.Mathlib.Omega.{arith}
 use lib.ListN.{length, take, drop, getD, set, length-map, length-drop}
 use lib.Seq.{drop-cons, drop-drop, drop-at, take-add, length-take-le, set-at, append-snoc}
 use borrow.Rule.Slice.PartMut.{putMid}
-use borrow.Author.Tests.{leb-true, le-leb, lt-leb, eq-eqb, ne-eqb}
+use borrow.Author.Tests.{leb-true, le-leb, lt-leb, eqb-true, eq-eqb, ne-eqb}
 use lib.Dec.{leb, eqb, lit<}
 use Rattle.records.specs.Words.{paste}
 use Rattle.records.specs.Records.{records, flat, same}
@@ -107,6 +107,12 @@ module _ (kind at : ℕ) (xs : List ℕ) where
 
   pub begins-room : begins kind (drop at xs) ≡ true → at + recordSize kind ≤ length xs
   begins-room e = omega (arith, begins-size kind (drop at xs) e, length-drop at xs)
+
+  -- its kind is the third byte
+  pub begins-kind : begins kind (drop at xs) ≡ true → getD xs (at + 2) 0 ≡ kind
+  begins-kind e =
+      let t = sym (begins-long (begins-room e)) ∙ e in
+      eqb-true _ kind (both (eqb (getD xs (at + 1) 0) 0x47) _ (both (eqb (getD xs at 0) 0x52) _ t .1) .1)
 
   -- a record more, or none
   pub row-counted : (m k : ℕ) → m ≡ suc k → begins kind (drop at xs) ≡ true → length (rowsFirst m kind (drop at xs)) ≡ suc (length (rowsFirst k kind (drop (at + recordSize kind) xs)))

@@ -1,18 +1,18 @@
 -- Finding the records of an image, kind after kind, and its end.
 use Prim.Native.Nat.{ℕ, zero, suc, _+_, _*_, _≤_}
 use mathlib.Core.Path.{_≡_, refl, sym, ap, _∙_}
-use mathlib.Core.Bool.{true, false, _&&_}
+use mathlib.Core.Bool.{true, false}
 use mathlib.Core.List.{List, [], _∷_}
 use native.Mathlib.Nat.{zero-mul, suc-mul}
 use native.Mathlib.Omega.{arith}
 use borrow.Author.Tests.{eq-eqb, ne-eqb}
 use lib.Dec.{eqb}
-use lib.ListN.{length, take, drop, length-drop}
+use lib.ListN.{length, drop, length-drop}
 use lib.Seq.{drop-drop}
 use Rattle.questions.proofs.Tests.{split, and-first, and-skip}
 use Rattle.image.specs.declared.scan.Sections.{Sections}
-use Rattle.image.specs.Image.{Section, _of_}
-use Rattle.image.specs.Reader.{number, recordSize, begins, rowsFirst, sectionsFirst, afterSections, kinds, isEnd}
+use Rattle.image.specs.Image.{Section, _of_, kinds}
+use Rattle.image.specs.Reader.{wordAt, recordSize, begins, rowsFirst, sectionsFirst, afterSections, isEnd}
 use Rattle.image.specs.Steps.{rowsAt, Scanned, Scans}
 use Rattle.image.proofs.Loading.ReadLaws.{begins-size, rows-counted, after-counted}
 
@@ -54,19 +54,13 @@ module _ (count at : ℕ) (xs : List ℕ) where
   unfolding isEnd
   end-none e = and-first (begins 0 (drop at xs)) _ e
 
-  word-there : number (take 8 (drop (at + 3) xs)) ≡ number (take 8 (drop 3 (drop at xs)))
-  word-there = ap (λ (l : List ℕ). number (take 8 l)) (sym (drop-drop 3 at xs))
-
-  pub end-other : begins 0 (drop at xs) ≡ true → (number (take 8 (drop (at + 3) xs)) ≡ count → ⊥) → isEnd count (drop at xs) ≡ false
+  pub end-other : begins 0 (drop at xs) ≡ true → (wordAt (drop at xs) 0 ≡ count → ⊥) → isEnd count (drop at xs) ≡ false
   unfolding isEnd
-  end-other e d =
-      and-skip (begins 0 (drop at xs)) _ e
-      ∙ ap (λ (w : ℕ). eqb w count && eqb (length (drop at xs)) (recordSize 0)) (sym word-there)
-      ∙ and-first (eqb (number (take 8 (drop (at + 3) xs))) count) _ (ne-eqb _ count d)
+  end-other e d = and-skip (begins 0 (drop at xs)) _ e ∙ and-first (eqb (wordAt (drop at xs) 0) count) _ (ne-eqb _ count d)
 
-  pub end-last : begins 0 (drop at xs) ≡ true → number (take 8 (drop (at + 3) xs)) ≡ count → isEnd count (drop at xs) ≡ eqb (length (drop at xs)) (recordSize 0)
+  pub end-last : begins 0 (drop at xs) ≡ true → wordAt (drop at xs) 0 ≡ count → isEnd count (drop at xs) ≡ eqb (length (drop at xs)) (recordSize 0)
   unfolding isEnd
-  end-last e d = and-skip (begins 0 (drop at xs)) _ e ∙ and-skip (eqb (number (take 8 (drop 3 (drop at xs)))) count) _ (eq-eqb _ count (sym word-there ∙ d))
+  end-last e d = and-skip (begins 0 (drop at xs)) _ e ∙ and-skip (eqb (wordAt (drop at xs) 0) count) _ (eq-eqb _ count d)
 
 -- ---- kind after kind: what was scanned is what the decoder reads
 

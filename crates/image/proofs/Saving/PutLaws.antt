@@ -1,13 +1,14 @@
 -- Writing bytes: one paste after another, and the turns of the loops that write.
-use Prim.Native.Nat.{ℕ, zero, suc, _+_, _-_, _*_, _/_, _%_, _≤_, _<_}
+use Prim.Native.Nat.{ℕ, suc, _+_, _-_, _*_, _/_, _%_, _≤_, _<_}
 use mathlib.Core.Bool.{true}
 use mathlib.Core.Path.{_≡_, refl, sym, ap, _∙_}
+use mathlib.Core.Option.{Option·getD}
 use mathlib.Core.List.{List, [], _∷_, _++_, map, append-assoc, append-nil}
 use native.Mathlib.Nat.{add-zero}
 use native.Mathlib.Numerals.{add-one}
 use native.Mathlib.Omega.{arith}
 use borrow.Author.Tests.{leb-true}
-use lib.Dec.{leb}
+use lib.Dec.{leb, eqb}
 use lib.ListN.{length, take, drop, getD, set, length-append, length-map, length-drop, take-append-drop}
 use lib.Seq
 use lib.Seq.{length-take-le, take-length, sets-eq, take-at, drop-append-add, drop-drop, drop-cons, paste-suc}
@@ -15,10 +16,10 @@ use Rattle.records.specs.Words.{paste}
 use Rattle.records.specs.Records.{records, flat}
 use Rattle.records.proofs.Words.RecordLaws.{records-split, length-records, row}
 use Rattle.records.proofs.Tables.TableLaws.{Wide, wide-records, length-flat}
-use Rattle.questions.proofs.Tests.{both}
+use Rattle.questions.proofs.Tests.{split, both}
 use Rattle.questions.specs.Lists.{all}
-use Rattle.image.specs.Image.{bytes, recordBytes, wordCounts}
-use Rattle.image.specs.Reader.{wordCount, recordSize}
+use Rattle.image.specs.Image.{bytes, recordBytes, Kind, layout, lastKind}
+use Rattle.image.specs.Reader.{wordsAmong, wordCount, recordSize}
 use Rattle.image.proofs.Reading.ByteLaws.{length-bytes, length-words-bytes}
 
 -- ---- pastes
@@ -124,12 +125,13 @@ length-rows kind w n xs h =
 -- no kind has more than 22 words
 pub count-few : (kind : ℕ) → wordCount kind ≤ 22
 unfolding all
-count-few kind = below wordCounts kind refl
+count-few kind = below (lastKind ∷ layout) refl
   where
-    below : (xs : List ℕ) (k : ℕ) → all (λ (x : ℕ). leb x 22) xs ≡ true → getD xs k 0 ≤ 22
-    below [] k a = omega arith
-    below (x ∷ xs) zero a = leb-true x 22 (both (leb x 22) _ a .0)
-    below (x ∷ xs) (suc k) a = below xs k (both (leb x 22) _ a .1)
+    below : (xs : List Kind) → all (λ (x : Kind). leb (x .words) 22) xs ≡ true → Option·getD (wordsAmong xs kind) 0 ≤ 22
+    below [] a = omega arith
+    below (x ∷ xs) a =
+        let b = both (leb (x .words) 22) _ a in
+        split (eqb (x .kind) kind) (λ e. rw e (leb-true (x .words) 22 (b .0))) (λ e. rw e (below xs (b .1)))
 
 -- n records of w words, w as it was answered for the kind, are within so many words, and from a place on within so many bytes
 pub record Within (n w at words size : ℕ) : Type 0 where

@@ -1,12 +1,14 @@
 -- What `save` writes is the image: the pastes of each kind, one after the other, and the tables' records, which are those of the state.
 use Prim.Native.Nat.{ℕ, _+_, _*_, _≤_}
 use mathlib.Core.Path.{_≡_, refl, sym, ap, _∙_}
-use mathlib.Core.List.{List, _∷_, _++_}
+use mathlib.Core.List.{List, _∷_, _++_, append-nil}
 use mathlib.Core.Option.{Option, none, some}
 use native.Mathlib.Omega.{arith}
 use lib.Ieee.{Float}
-use lib.ListN.{length, getD, length-append}
+use lib.ListN.{length, take, getD, length-append}
+use lib.Seq.{take-length}
 use Rattle.records.specs.Words.{paste}
+use Rattle.records.specs.Records.{records, flat}
 use Rattle.peers.specs.declared.peer_demand.PeerDemand.{PeerDemand}
 use Rattle.peers.specs.Peers.State.{PeerTables}
 use Rattle.limiter.specs.declared.Limiter.{Limiter}
@@ -29,6 +31,11 @@ still a n r xs ys l h p = ap length p ∙ length-pasted a r xs (omega arith)
 pub length-table-bytes : (kind n : ℕ) (xs : List ℕ) → n * wordCount kind ≤ length xs → length (tableBytes kind n xs) ≡ n * recordSize kind
 unfolding tableBytes
 length-table-bytes kind n xs h = length-rows kind (wordCount kind) n xs h
+
+-- a table of one record
+pub one-row : (kind : ℕ) (ws : List ℕ) → length ws ≡ wordCount kind → tableBytes kind 1 ws ≡ recordBytes kind ws
+unfolding tableBytes records flat
+one-row kind ws e = append-nil (recordBytes kind (take (wordCount kind) ws)) ∙ ap (recordBytes kind) (ap (λ (n : ℕ). take n ws) (sym e) ∙ take-length ws)
 
 -- ---- kinds 5 to 7
 module _ (p : PeerDemand) (t : PeerTables) (ready : PeersReady p t) where
@@ -70,25 +77,27 @@ module _ (l : Limiter) (t : LimiterTables) (ready : LimiterReady l t) where
   settings-sized ws e = length-record-bytes 1 13 ws (ap length e ∙ settings-long (settingsOf l))
 
   pub limiter-pasted :
-      (b c : ℕ) (ws out v x y z : List ℕ)
+      (a b c : ℕ) (ws out v x y z : List ℕ)
       → ws ≡ settingsWords (settingsOf l)
       → limiterLength l ≤ length out
-      → b ≡ recordSize 1 + l .keys * recordSize 2
+      → a ≡ recordSize 1
+      → b ≡ a + l .keys * recordSize 2
       → c ≡ b + l .hot * recordSize 3
-      → v ≡ paste 0 (recordBytes 1 ws) out
-      → x ≡ paste (recordSize 1) (tableBytes 2 (l .keys) (t .keys)) v
+      → v ≡ paste 0 (tableBytes 1 1 ws) out
+      → x ≡ paste a (tableBytes 2 (l .keys) (t .keys)) v
       → y ≡ paste b (tableBytes 3 (l .hot) (t .hot)) x
       → z ≡ paste c (tableBytes 4 (l .shadows) (t .shadows)) y
       → z ≡ paste 0 (limiterBytes l t) out
   unfolding limiterBytes
-  limiter-pasted b c ws out v x y z ew h eb ec ev ex ey ez =
+  limiter-pasted a b c ws out v x y z ew h ea eb ec ev ex ey ez =
       let l1 = settings-sized ws ew in
       let l2 = length-table-bytes 2 (l .keys) (t .keys) (ready .keys) in
       let l3 = length-table-bytes 3 (l .hot) (t .hot) (ready .hot) in
-      let s = still 0 _ _ out v l1 (omega arith) ev in
-      let r = still (recordSize 1) _ _ v x l2 (omega arith) ex in
-      pasted 0 (recordSize 1) _ _ _ out v z l1 refl (omega arith) ev
-      (pasted (recordSize 1) b _ _ _ v x z l2 eb (omega arith) ex
+      let e1 : v ≡ paste 0 (recordBytes 1 ws) out = ev ∙ ap (λ (r : List ℕ). paste 0 r out) (one-row 1 ws (ap length ew ∙ settings-long (settingsOf l))) in
+      let s = still 0 _ _ out v l1 (omega arith) e1 in
+      let r = still a _ _ v x l2 (omega arith) ex in
+      pasted 0 a _ _ _ out v z l1 ea (omega arith) e1
+      (pasted a b _ _ _ v x z l2 eb (omega arith) ex
       (pasted b c _ _ _ x y z l3 ec (omega arith) ey ez))
       ∙ ap (λ (us : List ℕ). paste 0 (recordBytes 1 us ++ (tableBytes 2 (l .keys) (t .keys) ++ (tableBytes 3 (l .hot) (t .hot) ++ tableBytes 4 (l .shadows) (t .shadows)))) out) ew
 

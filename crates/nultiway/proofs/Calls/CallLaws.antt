@@ -16,7 +16,8 @@ use Rattle.gcra.specs.declared.Decision.the-variants.{Allow, Deny}
 use Rattle.questions.specs.Questions.{Question, Answer, given, passes, firstNo}
 use Rattle.questions.proofs.Answers.{passed-none, none-passed}
 use Rattle.limiter.specs.declared.Limit.{Limit}
-use Rattle.nultiway.specs.Values.{isLimiter, limiterAsked, roomAsked}
+use Rattle.limiter.specs.State.{Lengths, haveRoom}
+use Rattle.nultiway.specs.Values.{limiterOf, isLimiter, limiterAsked, roomAsked}
 use Rattle.nultiway.specs.Calls.{Called, Changes, Answers, Tells, numberOf, answerPut, decisionWords}
 use Rattle.nultiway.specs.LimiterCalls.{capGiven, shadowGiven, shadowWords}
 
@@ -33,22 +34,29 @@ by-questions qs r c f g = split (passes qs) (λ p. f p (c .answered p)) (λ p. g
 -- ---- a limiter's words
 
 -- what a limiter's questions say where they are passed
-pub record Open (ws : List ℕ) (room : Bool) : Type 0 where
-  pub passed : passes (limiterAsked ws room) ≡ true
+pub record Open (ws : List ℕ) (n : Lengths) (room : Bool) : Type 0 where
+  pub passed : passes (limiterAsked ws n room) ≡ true
   pub long : 16 ≤ length ws
+  pub tables : haveRoom (limiterOf ws .config) n ≡ true
   pub others : room ≡ true
   pub value : isLimiter ws ≡ true
 
-pub was-open : (ws : List ℕ) (room : Bool) → passes (limiterAsked ws room) ≡ true → Open ws room
+pub was-open : (ws : List ℕ) (n : Lengths) (room : Bool) → passes (limiterAsked ws n room) ≡ true → Open ws n room
 unfolding passes
-was-open ws room p =
-    let a = both (leb 16 (length ws) && room) _ p in
-    let b = both (leb 16 (length ws)) room (a .0) in
+was-open ws n room p =
+    let t = haveRoom (limiterOf ws .config) n in
+    let a = both (leb 16 (length ws) && (t && room)) _ p in
+    let b = both (leb 16 (length ws)) (t && room) (a .0) in
+    let d = both t room (b .1) in
     let c = both (isLimiter ws) true (a .1) in
-    record { passed = p; long = leb-true _ _ (b .0); others = b .1; value = c .0 }
+    record { passed = p; long = leb-true _ _ (b .0); tables = d .0; others = d .1; value = c .0 }
 
-pub opened : (ws : List ℕ) (room : Bool) (n : ℕ) → n ≡ firstNo (limiterAsked ws room) → n ≡ 0 → Open ws room
-opened ws room n e z = was-open ws room (passed-none (limiterAsked ws room) n (lit< tt, (lit< tt, tt)) e z)
+pub opened : (ws : List ℕ) (n : Lengths) (room : Bool) (k : ℕ) → k ≡ firstNo (limiterAsked ws n room) → k ≡ 0 → Open ws n room
+opened ws n room k e z = was-open ws n room (passed-none (limiterAsked ws n room) k (lit< tt, (lit< tt, tt)) e z)
+
+-- the questions with a test that the code worked out
+pub asked-with : (ws : List ℕ) (n : Lengths) {k : ℕ} {b d : Bool} → k ≡ firstNo (limiterAsked ws n b) → b ≡ d → k ≡ firstNo (limiterAsked ws n d)
+asked-with ws n e h = e ∙ ap (λ (t : Bool). firstNo (limiterAsked ws n t)) h
 
 -- ---- one question
 

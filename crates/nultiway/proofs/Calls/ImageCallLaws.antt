@@ -1,21 +1,15 @@
 -- Laws: the calls on the saved image.
 use Prim.Native.Nat.{ℕ}
-use mathlib.Core.Path.{_≡_, sym, ap, _∙_}
-use mathlib.Core.Bool.{Bool}
+use mathlib.Core.Path.{_≡_, sym, ap}
 use mathlib.Core.List.{List}
 use Rattle.records.specs.Words.{paste}
-use Rattle.questions.specs.Questions.{Answer, refused, given, firstNo}
+use Rattle.questions.specs.Questions.{Answer, refused, given}
 use Rattle.peers.specs.declared.peer_demand.PeerDemand.{PeerDemand}
 use Rattle.limiter.specs.declared.Limiter.{Limiter}
 use Rattle.image.specs.declared.Loaded.{Loaded}
-use Rattle.nultiway.specs.Values.{limiterAsked}
 use Rattle.nultiway.specs.Calls.{numberOf, answerPut}
 use Rattle.nultiway.specs.ImageCalls.{loadedLimiter, loadedPeers, PutLoaded}
 use Rattle.nultiway.proofs.Calls.CallLaws.{said-put}
-
--- the limiter's questions, with a test that the code worked out
-pub asked-with : (ws : List ℕ) {n : ℕ} {b d : Bool} → n ≡ firstNo (limiterAsked ws b) → b ≡ d → n ≡ firstNo (limiterAsked ws d)
-asked-with ws e k = e ∙ ap (λ (t : Bool). firstNo (limiterAsked ws t)) k
 
 -- ---- what is read, and what is loaded
 

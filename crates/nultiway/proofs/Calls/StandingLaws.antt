@@ -15,14 +15,16 @@ use Rattle.questions.proofs.Tests.{split, both, and-intro, contradiction}
 use Rattle.questions.specs.Questions.{Question, answer, given, passes, firstNo}
 use Rattle.questions.proofs.Answers.{answer-passed, none-passed, first-rest, passed-none}
 use Rattle.questions.specs.Lists.{all}
+use Rattle.peers.specs.Peers.State as peer-state
 use Rattle.peers.specs.Peers.State.{PeerTables}
+use Rattle.records.specs.Records.{fits}
 use Rattle.records.specs.Typed.{isWord}
 use Rattle.limiter.specs.declared.Limit.{Limit}
 use Rattle.limiter.specs.declared.Config.{Config}
 use Rattle.limiter.specs.declared.Limiter.{Limiter}
 use Rattle.limiter.specs.declared.LimiterAnswer.{LimiterAnswer}
 use Rattle.limiter.specs.declared.Tally.{Tally}
-use Rattle.limiter.specs.State.{LimiterTables, isF64, capOf, capFits, validCap, stateOf, valueOf, unitsIn}
+use Rattle.limiter.specs.State.{LimiterTables, lengths, haveRoom, isF64, capOf, capFits, validCap, stateOf, valueOf, unitsIn}
 use Rattle.limiter.specs.Calls.{here, stateQuestions, newState, newQuestions, limiterAnswer}
 use Rattle.limiter.proofs.States.RecordValidLaws.{limit-rate, limit-burst}
 use Rattle.limiter.proofs.States.StateValidLaws.{valid-says}
@@ -31,7 +33,7 @@ use Rattle.limiter.proofs.Calls.NewValidLaws.{GivenConfig}
 use Rattle.limiter.proofs.LimiterTheorems.{Sound, passes-sound, sound-passes, here-valid, new-passes, cap-again, recorded-again, plain-tick-again, shares-tick-again, checked-again, checked-in-again, traced-again, checked-each-again}
 use Rattle.image.proofs.Saving.PutLaws.{length-pasted}
 use Rattle.image.proofs.Loading.JudgeLaws.{small-burst}
-use Rattle.nultiway.specs.Values.{limiterWords, limiterOf, isLimiter, limiterAsked, peersOf, roomAsked}
+use Rattle.nultiway.specs.Values.{limiterWords, limiterOf, isLimiter, limiterAsked, peersOf, peersRoom, roomAsked}
 use Rattle.nultiway.specs.Calls.{numberOf, answerPut}
 use Rattle.nultiway.specs.LimiterCalls.{New, Ask, SetCap, Record, Tick, TickWithShares, CheckEach, Check, CheckIn, CheckInTraced}
 use Rattle.nultiway.proofs.Words.ValueLaws.{Typed, limiter-put, limiter-is, limiter-long}
@@ -49,9 +51,11 @@ pub record Stands (ws : List ℕ) (t : LimiterTables) : Type 0 where
 pub stands-asked : (ws : List ℕ) (t : LimiterTables) → Stands ws t → Ask ws t 0
 unfolding passes
 stands-asked ws t s =
-    let qs : List Question = limiterAsked ws true in
+    let qs : List Question = limiterAsked ws (lengths t) true in
     let p : passes qs ≡ true =
-    and-intro _ _ (and-intro (leb 16 (length ws)) true (le-leb _ _ (s .long)) refl) (and-intro (isLimiter ws) true (s .value) refl) in
+    and-intro _ _
+    (and-intro (leb 16 (length ws)) _ (le-leb _ _ (s .long)) (and-intro (haveRoom (limiterOf ws .config) (lengths t)) true (s .sound .room) refl))
+    (and-intro (isLimiter ws) true (s .value) refl) in
     sym (none-passed (stateQuestions (limiterOf ws) t) (sound-passes (limiterOf ws) t (s .sound)))
     ∙ first-rest qs (stateQuestions (limiterOf ws) t) p
 
@@ -98,14 +102,14 @@ left-stands ws ws′ t′ l h e s =
 module _ (ws : List ℕ) (t : LimiterTables) (r : ℕ) (ws′ : List ℕ) (s : Stands ws t) where
   pub set-cap-stands : (cap : Option Float) → capFits cap ≡ true → SetCap ws t cap r ws′ → Stands ws′ t
   set-cap-stands cap f c =
-      by-questions (limiterAsked ws true) r c
+      by-questions (limiterAsked ws (lengths t) true) r c
       (λ p a. left-stands ws ws′ t (a .result .limiter) (s .long) (a .value) (cap-again (limiterOf ws) t t (s .sound) cap (a .result) f (a .kept)))
       (λ u. same-stands ws ws′ t t u refl s)
 
   module _ (t′ : LimiterTables) where
     pub record-stands : (key : ℕ) (y : Tally) (k : Limit) (now n : ℕ) → Given key k now → Record ws t key y k now n r ws′ t′ → Stands ws′ t′
     record-stands key y k now n w c =
-        by-questions (limiterAsked ws true) r c
+        by-questions (limiterAsked ws (lengths t) true) r c
         (λ p a.
         left-stands ws ws′ t′ (a .result .limiter) (s .long) (a .value)
         (recorded-again (limiterOf ws) t t′ (s .sound) key y k now n (a .result) w (a .kept)))
@@ -113,7 +117,7 @@ module _ (ws : List ℕ) (t : LimiterTables) (r : ℕ) (ws′ : List ℕ) (s : S
 
     pub tick-stands : (now n : ℕ) → isWord now ≡ true → Tick ws t now n r ws′ t′ → Stands ws′ t′
     tick-stands now n w c =
-        by-questions (limiterAsked ws true) r c
+        by-questions (limiterAsked ws (lengths t) true) r c
         (λ p a.
         left-stands ws ws′ t′ (a .result .limiter) (s .long) (a .value)
         (plain-tick-again (limiterOf ws) t t′ (s .sound) now n (a .result) w (a .kept)))
@@ -125,7 +129,7 @@ module _ (ws : List ℕ) (t : LimiterTables) (r : ℕ) (ws′ : List ℕ) (s : S
         → TickWithShares ws t ps pt now n r ws′ t′
         → Stands ws′ t′
     tick-with-shares-stands ps pt now n w c =
-        by-questions (limiterAsked ws (leb 3 (length ps))) r c
+        by-questions (limiterAsked ws (lengths t) (peersRoom (length ps) (peer-state.lengths pt))) r c
         (λ p a.
         left-stands ws ws′ t′ (a .result .limiter) (s .long) (a .value)
         (shares-tick-again (limiterOf ws) t t′ (s .sound) (peersOf ps) pt now n (a .result) w (a .kept)))
@@ -138,7 +142,7 @@ module _ (ws : List ℕ) (t : LimiterTables) (r : ℕ) (ws′ : List ℕ) (s : S
           → CheckEach ws t list count n out r ws′ t′ out′
           → Stands ws′ t′
       check-each-stands list count n w c =
-          by-questions (limiterAsked ws true) r c
+          by-questions (limiterAsked ws (lengths t) (fits (length list) 2 count)) r c
           (λ p a.
           left-stands ws ws′ t′ (a .result .limiter) (s .long) (a .value)
           (checked-each-again (limiterOf ws) t t′ (s .sound) list count n out out′ (a .result) w (a .kept)))
@@ -146,7 +150,7 @@ module _ (ws : List ℕ) (t : LimiterTables) (r : ℕ) (ws′ : List ℕ) (s : S
 
       pub check-stands : (key now n : ℕ) → isWord key ≡ true → isWord now ≡ true → Check ws t out key now n r ws′ t′ out′ → Stands ws′ t′
       check-stands key now n hk hn c =
-          by-questions (limiterAsked ws (leb 2 (length out))) r c
+          by-questions (limiterAsked ws (lengths t) (leb 2 (length out))) r c
           (λ p a.
           left-stands ws ws′ t′ (a .result .limiter) (s .long) (a .value)
           (checked-again (limiterOf ws) t t′ (s .sound) key now n (a .result) hk hn (a .kept)))
@@ -154,7 +158,7 @@ module _ (ws : List ℕ) (t : LimiterTables) (r : ℕ) (ws′ : List ℕ) (s : S
 
       pub check-in-stands : (key : ℕ) (k : Limit) (now n : ℕ) → Given key k now → CheckIn ws t out key k now n r ws′ t′ out′ → Stands ws′ t′
       check-in-stands key k now n w c =
-          by-questions (limiterAsked ws (leb 2 (length out))) r c
+          by-questions (limiterAsked ws (lengths t) (leb 2 (length out))) r c
           (λ p a.
           left-stands ws ws′ t′ (a .result .limiter) (s .long) (a .value)
           (checked-in-again (limiterOf ws) t t′ (s .sound) key k now n (a .result) w (a .kept)))
@@ -166,7 +170,7 @@ module _ (ws : List ℕ) (t : LimiterTables) (r : ℕ) (ws′ : List ℕ) (s : S
           → CheckInTraced ws t out key k shadow now n r ws′ t′ out′
           → Stands ws′ t′
       check-in-traced-stands key k shadow now n w c =
-          by-questions (limiterAsked ws (leb 5 (length out))) r c
+          by-questions (limiterAsked ws (lengths t) (leb 5 (length out))) r c
           (λ p a.
           left-stands ws ws′ t′ (a .result .limiter) (s .long) (a .value)
           (traced-again (limiterOf ws) t t′ (s .sound) key k shadow now n (a .result) w (a .kept)))

@@ -18,14 +18,15 @@ use Rattle.peers.specs.declared.peer_demand.PeerDemand.{PeerDemand}
 use Rattle.peers.specs.declared.peer_demand.ChangeAnswer.{ChangeAnswer}
 use Rattle.peers.specs.declared.peer_demand.PeersChanged.{PeersChanged}
 use Rattle.peers.specs.declared.peer_demand.DemandReport.{DemandReport}
+use Rattle.peers.specs.Peers.State as peer-state
 use Rattle.peers.specs.Peers.State.{PeersState, PeerTables}
 use Rattle.demand.specs.Answers.{lenAnswer}
 use Rattle.peers.specs.Peers.Calls as demand
-use Rattle.limiter.specs.State.{LimiterTables}
+use Rattle.limiter.specs.State.{LimiterTables, lengths}
 use Rattle.image.specs.Image.{image}
 use Rattle.image.specs.Calls as image-calls
 use Rattle.image.specs.Reader.{stateRead}
-use Rattle.nultiway.specs.Values.{limiterOf, limiterAsked, peersWords, peersOf, roomAsked}
+use Rattle.nultiway.specs.Values.{limiterOf, limiterAsked, peersWords, peersOf, peersRoom, roomAsked}
 use Rattle.nultiway.specs.Calls.{numberOf, decisionWords, oneWord}
 use Rattle.nultiway.specs.LoneCalls.{gcraWords, gcraOf, gcraAsked, CheckGcra, SetQuota}
 use Rattle.nultiway.specs.ImageCalls.{loadedLimiter, loadedPeers, Save, Load}
@@ -34,6 +35,7 @@ use Rattle.nultiway.proofs.Words.ValueLaws.{peers-back}
 use Rattle.nultiway.proofs.Refusals.RefusalLaws.{not-all, no-words, kept, answered-or-not}
 use Rattle.nultiway.proofs.Words.GcraWordLaws.{gcra-all, gcra-kept}
 use Rattle.nultiway.proofs.Words.ReportLaws.{report-all}
+use Rattle.nultiway.proofs.Calls.RoomLaws.{peers-three}
 
 -- ---- a Gcra
 
@@ -78,7 +80,7 @@ pub save-unmoved :
     → Save ws t ps pt out answer r out′ answer′
     → (out′ ≡ out) × (answer′ ≡ answer)
 save-unmoved ws t ps pt out answer r out′ answer′ h c =
-    answered-or-not (limiterAsked ws (leb 3 (length ps) && leb 1 (length answer))) r c
+    answered-or-not (limiterAsked ws (lengths t) (leb 1 (length answer) && peersRoom (length ps) (peer-state.lengths pt))) r c
     (λ p a.
     let x = a .result in
     let qs : List Question = image-calls.saveQuestions (limiterOf ws) t (peersOf ps) pt out in
@@ -129,9 +131,10 @@ three ps p = leb-true 3 (length ps) (both (leb 3 (length ps)) true p .0)
 module _ (ps : List ℕ) (t : PeerTables) (r : ℕ) (ps′ : List ℕ) (t′ : PeerTables) (h : r ≡ 0 → ⊥) where
   pub apply-unmoved : (peer : ℕ) (report : DemandReport) (ws : List ℕ) (now : ℕ) → Apply ps t peer report ws now r ps′ t′ → (ps′ ≡ ps) × (t′ ≡ t)
   apply-unmoved peer report ws now c =
-      answered-or-not (reportAsked (length ps) ws (report .count)) r c
+      answered-or-not (reportAsked (peersRoom (length ps) (peer-state.lengths t)) ws (report .count)) r c
       (λ p a.
-      let l = report-all (length ps) ws (report .count) p .three in
+      let room : Bool = peersRoom (length ps) (peer-state.lengths t) in
+      let l = peers-three (length ps) (peer-state.lengths t) (report-all room ws (report .count) p .others) in
       change-unmoved ps t r ps′ t′ _ _ (a .result) h l (a .kept) (a .number) (a .value))
 
   pub forget-unmoved : (peer : ℕ) → Forget ps t peer r ps′ t′ → (ps′ ≡ ps) × (t′ ≡ t)

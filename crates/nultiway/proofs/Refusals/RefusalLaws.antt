@@ -8,10 +8,12 @@ use lib.Dec.{leb}
 use lib.Ieee.{Float}
 use lib.ListN.{length}
 use Rattle.records.specs.Words.{paste}
+use Rattle.records.specs.Records.{fits}
 use Rattle.questions.proofs.Tests.{split, contradiction}
 use Rattle.questions.specs.Questions.{Question, Answer, refused, given, answer, passes, firstNo, changed}
 use Rattle.questions.proofs.Answers.{answer-passed}
 use Rattle.demand.specs.declared.answers.LenAnswer.{LenAnswer}
+use Rattle.peers.specs.Peers.State as peer-state
 use Rattle.peers.specs.Peers.State.{PeerTables}
 use Rattle.peers.specs.Peers.Calls.{changeAnswer}
 use Rattle.demand.specs.Answers.{lenAnswer}
@@ -19,9 +21,9 @@ use Rattle.limiter.specs.declared.Limit.{Limit}
 use Rattle.limiter.specs.declared.Limiter.{Limiter}
 use Rattle.limiter.specs.declared.Changed.{Changed}
 use Rattle.limiter.specs.declared.Tally.{Tally}
-use Rattle.limiter.specs.State.{LimiterState, LimiterTables}
+use Rattle.limiter.specs.State.{LimiterState, LimiterTables, Lengths, lengths}
 use Rattle.limiter.specs.Calls.{Acts, Ticking, Lists, stateQuestions, eachAsked, outputQuestions}
-use Rattle.nultiway.specs.Values.{limiterWords, limiterOf, limiterAsked}
+use Rattle.nultiway.specs.Values.{limiterWords, limiterOf, limiterAsked, peersRoom}
 use Rattle.nultiway.specs.Calls.{Called, Tells, numberOf, answerPut, decisionWords, oneWord}
 use Rattle.nultiway.specs.LimiterCalls.{tracedWords, SetCap, Record, Tick, TickWithShares, CheckEach, Check, CheckIn, CheckInTraced, HotDemand, MostDenied, MostShadowDenied}
 use Rattle.nultiway.proofs.Calls.CallLaws.{by-questions, Open, was-open}
@@ -54,12 +56,12 @@ kept qs before after x e p = e ∙ ap (λ (b : Bool). cond b after before) p
 
 -- the limiter's words, written back
 words-kept :
-    (ws ws′ : List ℕ) (room : Bool) (l : Limiter)
-    → Open ws room
+    (ws ws′ : List ℕ) (n : Lengths) (room : Bool) (l : Limiter)
+    → Open ws n room
     → l ≡ limiterOf ws
     → ws′ ≡ paste 0 (limiterWords l) ws
     → ws′ ≡ ws
-words-kept ws ws′ room l o e w = w ∙ ap (λ (x : Limiter). paste 0 (limiterWords x) ws) e ∙ limiter-back ws (o .long) (o .value)
+words-kept ws ws′ n room l o e w = w ∙ ap (λ (x : Limiter). paste 0 (limiterWords x) ws) e ∙ limiter-back ws (o .long) (o .value)
 
 -- of a call's own questions, which change nothing, or of the crate's
 pub answered-or-not : {U X : Type 0} (qs : List Question) (r : ℕ) → Called qs r U X → (passes qs ≡ true → X → U) → U
@@ -67,7 +69,7 @@ answered-or-not qs r c f = by-questions qs r c f (λ u. u)
 
 -- ---- calls of the crate
 
-module _ (ws ws′ : List ℕ) (room : Bool) (r : ℕ) (p : passes (limiterAsked ws room) ≡ true) (h : r ≡ 0 → ⊥) where
+module _ (ws ws′ : List ℕ) (m : Lengths) (room : Bool) (r : ℕ) (p : passes (limiterAsked ws m room) ≡ true) (h : r ≡ 0 → ⊥) where
   -- the limiter's words and the tables
   acts-unmoved :
       {A : Type 0} {said : Answer A} {qs : List Question} {v : A} {after : LimiterState} {t : LimiterTables} {l′ : Limiter} {t′ : LimiterTables}
@@ -77,7 +79,7 @@ module _ (ws ws′ : List ℕ) (room : Bool) (r : ℕ) (p : passes (limiterAsked
       → (passes qs ≡ false) × (ws′ ≡ ws) × (t′ ≡ t)
   acts-unmoved {A} {said} {qs} {v} {after} {t} {l′} {t′} a n w =
       let q : passes qs ≡ false = not-all v qs said (a .answered) (λ z. h (n ∙ z)) in
-      (q, words-kept ws ws′ room l′ (was-open ws room p) (kept qs _ _ l′ (a .limiter) q) w, kept qs _ _ t′ (a .words) q)
+      (q, words-kept ws ws′ m room l′ (was-open ws m room p) (kept qs _ _ l′ (a .limiter) q) w, kept qs _ _ t′ (a .words) q)
 
   -- and the answer's
   answers-unmoved :
@@ -100,7 +102,7 @@ module _ (ws ws′ : List ℕ) (room : Bool) (r : ℕ) (p : passes (limiterAsked
       → (ws′ ≡ ws) × (t′ ≡ t)
   tick-unmoved {qs} {after} {t} {x} {t′} a n w =
       let q : passes qs ≡ false = not-all tt qs (changeAnswer (x .answer)) (a .answered) (λ z. h (n ∙ z)) in
-      (words-kept ws ws′ room (x .limiter) (was-open ws room p) (kept qs _ _ (x .limiter) (a .limiter) q) w, a .unmoved q)
+      (words-kept ws ws′ m room (x .limiter) (was-open ws m room p) (kept qs _ _ (x .limiter) (a .limiter) q) w, a .unmoved q)
 
 -- an output of entries
 list-unmoved :
@@ -128,21 +130,21 @@ tells-unmoved {said = said} {words = words} qs out out′ r c h =
 module _ (ws : List ℕ) (t : LimiterTables) (out answer : List ℕ) (r : ℕ) (out′ answer′ : List ℕ) (h : r ≡ 0 → ⊥) where
   pub hot-demand-unmoved : HotDemand ws t out answer r out′ answer′ → (out′ ≡ out) × (answer′ ≡ answer)
   hot-demand-unmoved c =
-      answered-or-not (limiterAsked ws (leb 1 (length answer))) r c
+      answered-or-not (limiterAsked ws (lengths t) (leb 1 (length answer))) r c
       (λ p a.
       let z : numberOf (lenAnswer (a .result)) ≡ 0 → ⊥ = λ e. h (a .number ∙ e) in
       (list-unmoved (a .kept) z, no-words (lenAnswer (a .result)) oneWord answer answer′ z (a .answer)))
 
   pub most-denied-unmoved : (k : ℕ) → MostDenied ws t k out answer r out′ answer′ → (out′ ≡ out) × (answer′ ≡ answer)
   most-denied-unmoved k c =
-      answered-or-not (limiterAsked ws (leb 1 (length answer))) r c
+      answered-or-not (limiterAsked ws (lengths t) (leb 1 (length answer))) r c
       (λ p a.
       let z : numberOf (lenAnswer (a .result)) ≡ 0 → ⊥ = λ e. h (a .number ∙ e) in
       (list-unmoved (a .kept) z, no-words (lenAnswer (a .result)) oneWord answer answer′ z (a .answer)))
 
   pub most-shadow-denied-unmoved : (k : ℕ) → MostShadowDenied ws t k out answer r out′ answer′ → (out′ ≡ out) × (answer′ ≡ answer)
   most-shadow-denied-unmoved k c =
-      answered-or-not (limiterAsked ws (leb 1 (length answer))) r c
+      answered-or-not (limiterAsked ws (lengths t) (leb 1 (length answer))) r c
       (λ p a.
       let z : numberOf (lenAnswer (a .result)) ≡ 0 → ⊥ = λ e. h (a .number ∙ e) in
       (list-unmoved (a .kept) z, no-words (lenAnswer (a .result)) oneWord answer answer′ z (a .answer)))
@@ -151,30 +153,30 @@ module _ (ws : List ℕ) (t : LimiterTables) (out answer : List ℕ) (r : ℕ) (
 module _ (ws : List ℕ) (t : LimiterTables) (r : ℕ) (ws′ : List ℕ) (h : r ≡ 0 → ⊥) where
   pub set-cap-unmoved : (cap : Option Float) → SetCap ws t cap r ws′ → ws′ ≡ ws
   set-cap-unmoved cap c =
-      answered-or-not (limiterAsked ws true) r c
+      answered-or-not (limiterAsked ws (lengths t) true) r c
       (λ p a.
       let x = a .result in
       let qs : List Question = stateQuestions (limiterOf ws) t in
       let q : passes qs ≡ false = not-all tt qs (changeAnswer (x .answer)) (a .kept .answered) (λ z. h (a .number ∙ z)) in
-      words-kept ws ws′ true (x .limiter) (was-open ws true p) (kept qs _ _ (x .limiter) (a .kept .limiter) q) (a .value))
+      words-kept ws ws′ (lengths t) true (x .limiter) (was-open ws (lengths t) true p) (kept qs _ _ (x .limiter) (a .kept .limiter) q) (a .value))
 
   module _ (t′ : LimiterTables) where
     pub record-unmoved : (key : ℕ) (y : Tally) (k : Limit) (now n : ℕ) → Record ws t key y k now n r ws′ t′ → (ws′ ≡ ws) × (t′ ≡ t)
     record-unmoved key y k now n c =
-        answered-or-not (limiterAsked ws true) r c
-        (λ p a. let u = acts-unmoved ws ws′ true r p h (a .kept) (a .number) (a .value) in (u .1, u .2))
+        answered-or-not (limiterAsked ws (lengths t) true) r c
+        (λ p a. let u = acts-unmoved ws ws′ (lengths t) true r p h (a .kept) (a .number) (a .value) in (u .1, u .2))
 
     pub tick-call-unmoved : (now n : ℕ) → Tick ws t now n r ws′ t′ → (ws′ ≡ ws) × (t′ ≡ t)
     tick-call-unmoved now n c =
-        answered-or-not (limiterAsked ws true) r c (λ p a. tick-unmoved ws ws′ true r p h (a .kept) (a .number) (a .value))
+        answered-or-not (limiterAsked ws (lengths t) true) r c (λ p a. tick-unmoved ws ws′ (lengths t) true r p h (a .kept) (a .number) (a .value))
 
     pub tick-with-shares-unmoved :
         (ps : List ℕ) (pt : PeerTables) (now n : ℕ)
         → TickWithShares ws t ps pt now n r ws′ t′
         → (ws′ ≡ ws) × (t′ ≡ t)
     tick-with-shares-unmoved ps pt now n c =
-        answered-or-not (limiterAsked ws (leb 3 (length ps))) r c
-        (λ p a. tick-unmoved ws ws′ (leb 3 (length ps)) r p h (a .kept) (a .number) (a .value))
+        answered-or-not (limiterAsked ws (lengths t) (peersRoom (length ps) (peer-state.lengths pt))) r c
+        (λ p a. tick-unmoved ws ws′ (lengths t) (peersRoom (length ps) (peer-state.lengths pt)) r p h (a .kept) (a .number) (a .value))
 
     module _ (out out′ : List ℕ) where
       pub check-each-unmoved :
@@ -182,25 +184,25 @@ module _ (ws : List ℕ) (t : LimiterTables) (r : ℕ) (ws′ : List ℕ) (h : r
           → CheckEach ws t list count n out r ws′ t′ out′
           → (ws′ ≡ ws) × (t′ ≡ t) × (out′ ≡ out)
       check-each-unmoved list count n c =
-          answered-or-not (limiterAsked ws true) r c
+          answered-or-not (limiterAsked ws (lengths t) (fits (length list) 2 count)) r c
           (λ p a.
-          let u = acts-unmoved ws ws′ true r p h (a .kept .acts) (a .number) (a .value) in
+          let u = acts-unmoved ws ws′ (lengths t) (fits (length list) 2 count) r p h (a .kept .acts) (a .number) (a .value) in
           (u .1, u .2, kept (eachAsked (limiterOf ws) t list count n out) _ _ out′ (a .kept .output) (u .0)))
 
       pub check-unmoved : (key now n : ℕ) → Check ws t out key now n r ws′ t′ out′ → (ws′ ≡ ws) × (t′ ≡ t) × (out′ ≡ out)
       check-unmoved key now n c =
-          answered-or-not (limiterAsked ws (leb 2 (length out))) r c
-          (λ p a. answers-unmoved ws ws′ (leb 2 (length out)) r p h decisionWords out out′ (a .kept) (a .number) (a .value) (a .answer))
+          answered-or-not (limiterAsked ws (lengths t) (leb 2 (length out))) r c
+          (λ p a. answers-unmoved ws ws′ (lengths t) (leb 2 (length out)) r p h decisionWords out out′ (a .kept) (a .number) (a .value) (a .answer))
 
       pub check-in-unmoved : (key : ℕ) (k : Limit) (now n : ℕ) → CheckIn ws t out key k now n r ws′ t′ out′ → (ws′ ≡ ws) × (t′ ≡ t) × (out′ ≡ out)
       check-in-unmoved key k now n c =
-          answered-or-not (limiterAsked ws (leb 2 (length out))) r c
-          (λ p a. answers-unmoved ws ws′ (leb 2 (length out)) r p h decisionWords out out′ (a .kept) (a .number) (a .value) (a .answer))
+          answered-or-not (limiterAsked ws (lengths t) (leb 2 (length out))) r c
+          (λ p a. answers-unmoved ws ws′ (lengths t) (leb 2 (length out)) r p h decisionWords out out′ (a .kept) (a .number) (a .value) (a .answer))
 
       pub check-in-traced-unmoved :
           (key : ℕ) (k : Limit) (shadow : Option Limit) (now n : ℕ)
           → CheckInTraced ws t out key k shadow now n r ws′ t′ out′
           → (ws′ ≡ ws) × (t′ ≡ t) × (out′ ≡ out)
       check-in-traced-unmoved key k shadow now n c =
-          answered-or-not (limiterAsked ws (leb 5 (length out))) r c
-          (λ p a. answers-unmoved ws ws′ (leb 5 (length out)) r p h tracedWords out out′ (a .kept) (a .number) (a .value) (a .answer))
+          answered-or-not (limiterAsked ws (lengths t) (leb 5 (length out))) r c
+          (λ p a. answers-unmoved ws ws′ (lengths t) (leb 5 (length out)) r p h tracedWords out out′ (a .kept) (a .number) (a .value) (a .answer))

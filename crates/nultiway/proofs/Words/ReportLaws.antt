@@ -76,53 +76,57 @@ module _ (origin epoch round : ℕ) (ws : List ℕ) (count : ℕ) where
 
 -- ---- questions 1 and 2
 
-module _ (peers : ℕ) (ws : List ℕ) (count : ℕ) where
+module _ (room : Bool) (ws : List ℕ) (count : ℕ) where
   fits :
       {m : ℕ} {b : Bool}
       → m ≡ min count 65
-      → (leb 3 peers && leb (m * 3) (length ws)) ≡ b
-      → (leb 3 peers && leb (min count 65 * 3) (length ws)) ≡ b
-  fits e k = ap (λ (m : ℕ). leb 3 peers && leb (m * 3) (length ws)) (sym e) ∙ k
+      → (room && leb (m * 3) (length ws)) ≡ b
+      → (room && leb (min count 65 * 3) (length ws)) ≡ b
+  fits e k = ap (λ (m : ℕ). room && leb (m * 3) (length ws)) (sym e) ∙ k
 
   listed : {n : ℕ} {b : Bool} → n ≡ min count 64 → all isListed (records 3 n ws) ≡ b → all isListed (records 3 (min count 64) ws) ≡ b
   listed e k = ap (λ (n : ℕ). all isListed (records 3 n ws)) (sym e) ∙ k
 
-  pub report-short : {m : ℕ} → m ≡ min count 65 → (leb 3 peers && leb (m * 3) (length ws)) ≡ false → 1 ≡ firstNo (reportAsked peers ws count)
+  pub report-short : {m : ℕ} → m ≡ min count 65 → (room && leb (m * 3) (length ws)) ≡ false → 1 ≡ firstNo (reportAsked room ws count)
   report-short e k = first-no 1 _ (fits e k)
 
   pub report-other :
       {m n : ℕ}
       → m ≡ min count 65
-      → (leb 3 peers && leb (m * 3) (length ws)) ≡ true
+      → (room && leb (m * 3) (length ws)) ≡ true
       → n ≡ min count 64
       → all isListed (records 3 n ws) ≡ false
-      → 2 ≡ firstNo (reportAsked peers ws count)
+      → 2 ≡ firstNo (reportAsked room ws count)
   report-other e k f l = first-yes 1 _ (fits e k) (first-no 2 [] (listed f l))
 
   pub report-fit :
       {m n : ℕ}
       → m ≡ min count 65
-      → (leb 3 peers && leb (m * 3) (length ws)) ≡ true
+      → (room && leb (m * 3) (length ws)) ≡ true
       → n ≡ min count 64
       → all isListed (records 3 n ws) ≡ true
-      → 0 ≡ firstNo (reportAsked peers ws count)
+      → 0 ≡ firstNo (reportAsked room ws count)
   report-fit e k f l = first-yes 1 _ (fits e k) (first-yes 2 [] (listed f l) first-none)
 
   -- what holds where both are passed
   pub record Taken : Type 0 where
-    pub all-passed : passes (reportAsked peers ws count) ≡ true
-    pub three : 3 ≤ peers
+    pub all-passed : passes (reportAsked room ws count) ≡ true
+    pub others : room ≡ true
     pub long : min count 65 * 3 ≤ length ws
 
-  pub report-all : passes (reportAsked peers ws count) ≡ true → Taken
+  pub report-all : passes (reportAsked room ws count) ≡ true → Taken
   unfolding passes
   report-all p =
-      let a = both (leb 3 peers && leb (min count 65 * 3) (length ws)) _ p in
-      let b = both (leb 3 peers) (leb (min count 65 * 3) (length ws)) (a .0) in
-      record { all-passed = p; three = leb-true 3 peers (b .0); long = leb-true (min count 65 * 3) (length ws) (b .1) }
+      let a = both (room && leb (min count 65 * 3) (length ws)) _ p in
+      let b = both room (leb (min count 65 * 3) (length ws)) (a .0) in
+      record { all-passed = p; others = b .0; long = leb-true (min count 65 * 3) (length ws) (b .1) }
 
-  pub report-passed : {n : ℕ} → n ≡ firstNo (reportAsked peers ws count) → n ≡ 0 → Taken
-  report-passed {n} e z = report-all (passed-none (reportAsked peers ws count) n (omega arith, omega arith) e z)
+  -- the questions with a test that the code worked out
+  pub report-with : {k : ℕ} {b : Bool} → k ≡ firstNo (reportAsked b ws count) → b ≡ room → k ≡ firstNo (reportAsked room ws count)
+  report-with e h = e ∙ ap (λ (t : Bool). firstNo (reportAsked t ws count)) h
+
+  pub report-passed : {n : ℕ} → n ≡ firstNo (reportAsked room ws count) → n ≡ 0 → Taken
+  report-passed {n} e z = report-all (passed-none (reportAsked room ws count) n (omega arith, omega arith) e z)
 
 -- what was read, and the id that was made
 pub sent :

@@ -16,18 +16,19 @@ use Rattle.records.specs.Records.{records, flat, table, fits, splice, overwrite
 use Rattle.questions.proofs.Tests.{and-intro, eqb-self}
 use Rattle.records.proofs.Order.OrderLaws.{same-eq, eq-same}
 use Rattle.peers.specs.declared.peer_demand.PeerDemand.{PeerDemand}
-use Rattle.records.specs.Fields.{timeOf}
+use Rattle.records.specs.Fields.{timeOf, timeWords}
 use Rattle.records.proofs.Words.FieldLaws.{time-of-words}
 use Rattle.limiter.specs.declared.Config.{Config}
 use Rattle.limiter.specs.declared.Cap.{Cap}
 use Rattle.limiter.specs.declared.LastTick.{LastTick}
 use Rattle.limiter.specs.declared.Limiter.{Limiter}
-use Rattle.limiter.specs.State.{Settings, settingsWords, settingsOf, isF64, capFits, capOf, lastTickOf, capFrom, lastTickFrom}
+use Rattle.limiter.specs.State.{settingsWords, settingsOf, isF64, capFits, capWords, capOf, lastTickOf, capFrom, lastTickFrom}
 use Rattle.limiter.proofs.Checking.LiftLaws.{cap-forth, tick-forth}
 use Rattle.image.specs.Reader as reader
 use Rattle.image.specs.LoadSteps.{configFrom}
 use Rattle.image.proofs.Reading.StateWordLaws.{float-of-word, settings-long}
 use Rattle.nultiway.specs.Values.{limiterWords, limiterOf, isLimiter, peersWords, peersOf}
+use Rattle.nultiway.specs.LimiterCalls.{configWords}
 
 -- ---- words at the front
 
@@ -80,27 +81,29 @@ limiter-read ws w g x t e a b c = λ i.
       shadows = getD ws 15 0;
     }
 
--- thirteen words, one by one, before others
-abbrev pub oneByOne : List ℕ → List ℕ → List ℕ
-oneByOne w rest =
+-- the words of a configuration, a cap and a time, one by one, before others
+abbrev pub oneByOne : (w c t rest : List ℕ) → List ℕ
+oneByOne w c t rest =
     getD w 0 0 ∷ getD w 1 0 ∷ getD w 2 0 ∷ getD w 3 0 ∷ getD w 4 0 ∷ getD w 5 0 ∷ getD w 6 0 ∷ getD w 7 0 ∷ getD w 8 0
-    ∷ getD w 9 0 ∷ getD w 10 0 ∷ getD w 11 0 ∷ getD w 12 0 ∷ rest
+    ∷ getD c 0 0 ∷ getD c 1 0 ∷ getD t 0 0 ∷ getD t 1 0 ∷ rest
 
 apart :
     (c : Config) (x : Option Float) (t : Option ℕ) (rest : List ℕ)
-    → let s : Settings = record { config = c; cap = x; lastTick = t } in oneByOne (settingsWords s) rest ≡ settingsWords s ++ rest
+    → oneByOne (configWords c) (capWords x) (timeWords t) rest ≡ settingsWords (record { config = c; cap = x; lastTick = t }) ++ rest
 unfolding settingsWords
 apart c none t rest = refl
 apart c (some x) t rest = refl
 
 pub limiter-written :
-    (l : Limiter) (w : List ℕ)
-    → w ≡ settingsWords (settingsOf l)
-    → oneByOne w (l .keys ∷ l .hot ∷ l .shadows ∷ []) ≡ limiterWords l
+    (l : Limiter) {w c t : List ℕ}
+    → w ≡ configWords (l .config)
+    → c ≡ capWords (capOf (l .cap))
+    → t ≡ timeWords (lastTickOf (l .«last_tick»))
+    → oneByOne w c t (l .keys ∷ l .hot ∷ l .shadows ∷ []) ≡ limiterWords l
 unfolding limiterWords
-limiter-written l w e =
+limiter-written l e f g =
     let rest : List ℕ = l .keys ∷ l .hot ∷ l .shadows ∷ [] in
-    ap (λ (k : List ℕ). oneByOne k rest) e ∙ apart (l .config) (capOf (l .cap)) (lastTickOf (l .«last_tick»)) rest
+    (λ i. oneByOne (e i) (f i) (g i) rest) ∙ apart (l .config) (capOf (l .cap)) (lastTickOf (l .«last_tick»)) rest
 
 -- ---- the limiter comes back
 

@@ -62,16 +62,18 @@ started-stands {c} {h} w b =
       peers = subst (λ (x : PeerDemand). PeersStand x (h .peerTables) (newStates c .peers)) (sym (p .1)) (new-peers-stand c (h .peerTables));
     }
 
+-- what the program then holds, given these tables
+abbrev pub begun : Config → LimiterTables → PeerTables → Memory
+begun c t pt = record { limiter = valueOf (newState c); tables = t; peers = newPeers; peerTables = pt }
+
 -- There is one to start with, of any settings and tables that pass the questions of `new`.
 pub can-start :
     (c : Config) (t : LimiterTables) (pt : PeerTables) → passes (newQuestions c t) ≡ true → passes (peers.newQuestions pt) ≡ true
-    → (h : Memory) × Started c h
-can-start c t pt l p = (
-  record { limiter = valueOf (newState c); tables = t; peers = newPeers; peerTables = pt },
-  record {
-    tables = t;
-    peerTables = pt;
-    limiter = answer-passed (valueOf (newState c)) (newQuestions c t) l;
-    peers = answer-passed newPeers (peers.newQuestions pt) p;
-  },
-)
+    → Started c (begun c t pt)
+can-start c t pt l p =
+    record {
+      tables = t;
+      peerTables = pt;
+      limiter = answer-passed (valueOf (newState c)) (newQuestions c t) l;
+      peers = answer-passed newPeers (peers.newQuestions pt) p;
+    }

@@ -7,8 +7,8 @@ use mathlib.Core.Bool.{true, _&&_}
 use mathlib.Core.List.{List, _++_, map}
 use borrow.Author.Tests.{leb-true}
 use lib.Dec.{leb}
-use lib.ListN.{length, take, drop, take-append-drop, length-map}
-use lib.Seq.{take-append-le}
+use lib.ListN.{length, take, drop, take-append-drop, length-take, length-map}
+use lib.Seq.{take-append-le, length-front}
 use Rattle.records.specs.Records.{records}
 use Rattle.records.proofs.Words.RecordLaws.{length-records}
 use Rattle.questions.proofs.Tests.{both}
@@ -41,6 +41,10 @@ lent-records w m n xs h = sym (front-records w m (take n xs) (drop n xs) h) ∙ 
 -- words that come back as they were lent
 pub back-same : (n : ℕ) (xs : List ℕ) → length (take n xs) ≡ n → putBack (take n xs) xs ≡ xs
 back-same n xs e = ap (λ (k : ℕ). take n xs ++ drop k xs) e ∙ take-append-drop n xs
+
+-- and words that come back as many as were lent leave the table as long as it was
+pub back-long : (n : ℕ) (part whole : List ℕ) → length part ≡ length (take n whole) → length (putBack part whole) ≡ length whole
+back-long n part whole e = length-front whole part (length part) (omega (arith, e, length-take n whole, length-take (length part) whole))
 
 -- ---- the limiter
 

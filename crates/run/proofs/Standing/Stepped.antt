@@ -1,4 +1,4 @@
--- A call on holdings that stand for a state leaves holdings that stand for the state after the call, refused or not.
+-- A call on holdings that stand for a state leaves holdings that stand for the state after the call, refused or not, in tables as long.
 use Prim.Native.Nat.{ℕ, _^_}
 use mathlib.Core.Path.{_≡_, refl, sym, ap, _∙_, subst}
 use mathlib.Core.Bool.{Bool, true, false, cond}
@@ -22,7 +22,7 @@ use Rattle.peers.proofs.Peers.Departures.DepartureLaws.{forget-valid, leave-val
 use Rattle.limiter.specs.declared.Limit.{Limit}
 use Rattle.limiter.specs.declared.Limiter.{Limiter}
 use Rattle.limiter.specs.State as limiter-state
-use Rattle.limiter.specs.State.{parametersOf, Settings, LimiterState, LimiterTables, haveRoom, isF64, valueOf, unitsOf, unitsFor}
+use Rattle.limiter.specs.State.{parametersOf, Settings, LimiterState, LimiterTables, lengths, haveRoom, isF64, valueOf, unitsOf, unitsFor}
 use Rattle.limiter.specs.Checks.{ownLimit, keyDecision, shadowDecision, checkIn, checkTraced, recordTally, setCap, checkEach, clusterQuestions, checkQuestions, checkInQuestions, tracedQuestions, recordQuestions}
 use Rattle.limiter.specs.Ticks.{noOthers, peersOthers, tickWith, tick, tickWithShares}
 use Rattle.limiter.specs.Calls.{eachQuestions}
@@ -35,9 +35,9 @@ use Rattle.image.specs.Image.{State}
 use Rattle.run.specs.Run.{Memory, Lent, Change, What, Call, Reply, Does, Acts, Step, withLimiter, withPeers, lend, lentBy, returned}
 use Rattle.run.specs.Typed.{typedReport, typed, typedWhat}
 use Rattle.run.specs.Trace.{limiterOnly, peersOnly, onPeers, asked, made, after}
-use Rattle.run.proofs.Standing.Stands.{LimiterStands, PeersStand, Stands, putTables, putPeers, back-same, limiter-lent}
+use Rattle.run.proofs.Standing.Stands.{LimiterStands, PeersStand, Stands, putTables, putPeers, back-same, back-long, limiter-lent}
 use Rattle.run.proofs.Standing.Asked.{asking, same-changed, passes-room, passes-rest, limiter-agrees, peers-agree, both-agree}
-use Rattle.run.proofs.Standing.Left.{Leaves, left-stands, Lasting, acts-leave, ticking-leaves, cap-leaves, PeersLasting, changes-leave, acts-there, ticking-there}
+use Rattle.run.proofs.Standing.Left.{Leaves, left-long, left-stands, Lasting, acts-leave, ticking-leaves, cap-leaves, PeersLasting, changes-leave, acts-there, ticking-there}
 
 -- a limit's rate, with a key and a reading
 given : (key : ℕ) (x : Limit) (now : ℕ) → isWord key ≡ true → isWord now ≡ true → isF64 (x .rate) ≡ true → Given key x now
@@ -72,6 +72,11 @@ peers-alone :
 peers-alone s y true l p = record { limiter = l; peers = p }
 peers-alone s y false l p = record { limiter = l; peers = p }
 
+-- what a call leaves of what it was lent stands for a state, put back, and is as long
+record LeftOf (n : Lent) (h part : Memory) (y : State) : Type 0 where
+  stands : Stands (returned part h) y
+  long : lentBy part ≡ lentBy (lend n h)
+
 module _ {h : Memory} {s : State} (n : Lent) (enough : lentBy (lend n h) ≡ n) (st : Stands h s) where
   -- the lent tables put back as they are
   limiter-still : LimiterStands (h .limiter) (putTables (h .tables) (lend n h .tables)) (s .limiter)
@@ -99,22 +104,30 @@ module _ {h : Memory} {s : State} (n : Lent) (enough : lentBy (lend n h) ≡ n) 
       (st .peers)
 
   -- a call that reads leaves what was there
-  still : Stands (returned (lend n h) h) s
-  still = record { limiter = limiter-still; peers = peers-still }
+  still : LeftOf n h (lend n h) s
+  still = record { stands = record { limiter = limiter-still; peers = peers-still }; long = refl }
 
   -- a call on the limiter leaves the peers
   limiter-steps :
       {qs : List Question} {y : LimiterState} {l′ : Limiter} {t′ : LimiterTables}
-      → Leaves LimiterStands (putTables (h .tables)) qs y (h .limiter) (lend n h .tables) l′ t′
-      → Stands (returned (withLimiter (lend n h) l′ t′) h) (changed qs s (limiterOnly s y))
-  limiter-steps {qs} {y} u = limiter-alone s y (passes qs) (left-stands u limiter-still) peers-still
+      → Leaves LimiterStands (putTables (h .tables)) lengths qs y (h .limiter) (lend n h .tables) l′ t′
+      → LeftOf n h (withLimiter (lend n h) l′ t′) (changed qs s (limiterOnly s y))
+  limiter-steps {qs} {y} u =
+      record {
+        stands = limiter-alone s y (passes qs) (left-stands u limiter-still) peers-still;
+        long = (λ i. record { limiter = left-long u i; peers = peer-state.lengths (lend n h .peerTables) });
+      }
 
   -- and one on the peers the limiter
   peers-step :
       {qs : List Question} {y : PeersState} {p′ : PeerDemand} {t′ : PeerTables}
-      → Leaves PeersStand (putPeers (h .peerTables)) qs y (h .peers) (lend n h .peerTables) p′ t′
-      → Stands (returned (withPeers (lend n h) p′ t′) h) (changed qs s (peersOnly s y))
-  peers-step {qs} {y} u = peers-alone s y (passes qs) limiter-still (left-stands u peers-still)
+      → Leaves PeersStand (putPeers (h .peerTables)) peer-state.lengths qs y (h .peers) (lend n h .peerTables) p′ t′
+      → LeftOf n h (withPeers (lend n h) p′ t′) (changed qs s (peersOnly s y))
+  peers-step {qs} {y} u =
+      record {
+        stands = peers-alone s y (passes qs) limiter-still (left-stands u peers-still);
+        long = (λ i. record { limiter = lengths (lend n h .tables); peers = left-long u i });
+      }
 
   -- the room that question 1 finds, for a state with the same settings
   lasts : {y : LimiterState} → haveRoom (s .limiter .settings .config) (n .limiter) ≡ true → y .settings .config ≡ s .limiter .settings .config
@@ -147,7 +160,7 @@ module _ {h : Memory} {s : State} (n : Lent) (enough : lentBy (lend n h) ≡ n) 
       → t′ ≡ changed (asking [] rest (peer-state.haveRoom (peer-state.lengths pt)) (peer-state.isValid p pt) (peer-state.stateOf p pt)) pt
       (peer-state.written (change (peer-state.stateOf p pt)) pt)
       → (passes (rest (s .peers)) ≡ true → peer-state.valid (change (s .peers)) ≡ true)
-      → Stands (returned (withPeers (lend n h) p′ t′) h) (changed (onPeers n s ++ rest (s .peers)) s (peersOnly s (change (s .peers))))
+      → LeftOf n h (withPeers (lend n h) p′ t′) (changed (onPeers n s ++ rest (s .peers)) s (peersOnly s (change (s .peers))))
   peers-change rest change value words keeps =
       let g = peers-agree n enough st in
       peers-step
@@ -168,8 +181,7 @@ module _ {h : Memory} {s : State} (n : Lent) (enough : lentBy (lend n h) ≡ n) 
       (both (hasPlace sender (s .peers .peers)) true (b .1) .0) (st .peers .valid)
 
   -- ---- each call that changes
-  pub does-stand : (c : Change) {r : Reply} {h′ : Memory} → typed c ≡ true → Does (lend n h) c r h′
-      → Stands (returned h′ h) (after n (What.changes c) s)
+  does-stand : (c : Change) {r : Reply} {h′ : Memory} → typed c ≡ true → Does (lend n h) c r h′ → LeftOf n h h′ (after n (What.changes c) s)
   unfolding typed asked made checkIn checkTraced recordTally tickWith limiter-state.stateOf
   does-stand (Change.check key now m) w (Does.checks c) =
       let b = both (isWord key) (isWord now) w in
@@ -262,12 +274,42 @@ module _ {h : Memory} {s : State} (n : Lent) (enough : lentBy (lend n h) ≡ n) 
       (λ e. expire-valid now maxAge (s .peers) (st .peers .valid))
 
   -- a call of either kind
-  acts-stand : (c : What) {r : Reply} {h′ : Memory} → typedWhat c ≡ true → Acts (lend n h) c r h′ → Stands (returned h′ h) (after n c s)
+  acts-stand : (c : What) {r : Reply} {h′ : Memory} → typedWhat c ≡ true → Acts (lend n h) c r h′ → LeftOf n h h′ (after n c s)
   acts-stand (What.changes c) w (Acts.does d) = does-stand c w d
   acts-stand (What.reads c) w (Acts.does-tell d) = still
 
 -- ---- a call as a whole
+
+-- words that come back as many as were lent leave the tables as long as they were
+back-as-long : (n : Lent) (h part : Memory) → lentBy part ≡ lentBy (lend n h) → lentBy (returned part h) ≡ lentBy h
+unfolding peer-state.lengths
+back-as-long n h part e =
+    (λ i. record {
+      limiter =
+          record {
+            keys = back-long (n .limiter .keys) (part .tables .keys) (h .tables .keys) (ap (λ (k : Lent). k .limiter .keys) e) i;
+            hot = back-long (n .limiter .hot) (part .tables .hot) (h .tables .hot) (ap (λ (k : Lent). k .limiter .hot) e) i;
+            shadows = back-long (n .limiter .shadows) (part .tables .shadows) (h .tables .shadows) (ap (λ (k : Lent). k .limiter .shadows) e) i;
+          };
+      peers =
+          record {
+            peers = back-long (n .peers .peers) (part .peerTables .peers) (h .peerTables .peers) (ap (λ (k : Lent). k .peers .peers) e) i;
+            snapshotKeys =
+                back-long (n .peers .snapshotKeys) (part .peerTables .snapshotKeys) (h .peerTables .snapshotKeys)
+                (ap (λ (k : Lent). k .peers .snapshotKeys) e) i;
+            contested =
+                back-long (n .peers .contested) (part .peerTables .contested) (h .peerTables .contested) (ap (λ (k : Lent). k .peers .contested) e) i;
+          };
+    })
+
+-- what it leaves stands for the state that the definitions leave
 pub steps-stand : {h h′ : Memory} {s : State} {c : Call} {r : Reply} → Stands h s → typedWhat (c .what) ≡ true → Step h c r h′
     → Stands h′ (after (c .lent) (c .what) s)
 steps-stand {h} {h′} {s} {c} st w step =
-    subst (λ (a : Memory). Stands a (after (c .lent) (c .what) s)) (sym (step .back)) (acts-stand (c .lent) (step .enough) st (c .what) w (step .acts))
+    subst (λ (a : Memory). Stands a (after (c .lent) (c .what) s)) (sym (step .back))
+    (acts-stand (c .lent) (step .enough) st (c .what) w (step .acts) .stands)
+
+-- and the tables stay as long
+pub steps-long : {h h′ : Memory} {s : State} {c : Call} {r : Reply} → Stands h s → typedWhat (c .what) ≡ true → Step h c r h′ → lentBy h′ ≡ lentBy h
+steps-long {h} {h′} {s} {c} st w step =
+    ap lentBy (step .back) ∙ back-as-long (c .lent) h (step .after) (acts-stand (c .lent) (step .enough) st (c .what) w (step .acts) .long)

@@ -1,9 +1,11 @@
-//! Answers scripts of calls, as the program `replay` does, through the Rust binding. It knows the calls that the library
-//! has: the limiter's, the peers', images, and those on lone quotas and meters. With the argument `--images` each answer
-//! is followed by length and hash of the image that a save would write then.
+//! Answers scripts of calls, as the program `replay` does, through the Rust binding. It knows all calls but the float
+//! helpers' (`l.u2f` to `l.totcmp`), of which the library has not all. With the argument `--images` each answer is
+//! followed by length and hash of the image that a save would write then.
 
+mod demand;
 #[path = "../../../oracle/driver/src/fields.rs"]
 mod fields;
+mod hot_set;
 mod images;
 mod limiter;
 mod limiter_readers;
@@ -21,8 +23,16 @@ use state::{Call, State};
 /// The longest line that can be a call.
 const LONGEST_LINE: usize = 3 << 20;
 
-const LAYERS: &[&[(&str, Call)]] =
-    &[state::CALLS, meter::CALLS, peers::CALLS, limiter::CALLS, limiter_readers::CALLS, images::CALLS];
+const LAYERS: &[&[(&str, Call)]] = &[
+    state::CALLS,
+    meter::CALLS,
+    demand::CALLS,
+    hot_set::CALLS,
+    peers::CALLS,
+    limiter::CALLS,
+    limiter_readers::CALLS,
+    images::CALLS,
+];
 
 fn answer(table: &HashMap<&[u8], Call>, state: &mut State, line: &[u8]) -> Option<String> {
     if line.len() > LONGEST_LINE {

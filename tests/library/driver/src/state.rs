@@ -2,7 +2,7 @@
 
 use nultiway::sizes::{CONTESTED_SIZE, HOT_WORDS, KEY_WORDS, MAX_HOT, MAX_KEYS};
 use nultiway::sizes::{PEER_TABLE_SIZE, SHADOW_WORDS, SNAPSHOT_KEYS_SIZE};
-use nultiway::{Limiter, PeerDemand, Refused, limiter, peer_demand};
+use nultiway::{HotSet, Limiter, PeerDemand, Refused, limiter, peer_demand};
 
 use crate::fields::Fields;
 
@@ -24,6 +24,7 @@ const WHOLE: [usize; 6] = [
 pub struct State {
     pub limiter: Option<Limiter>,
     pub peers: Option<PeerDemand>,
+    pub hot_set: Option<HotSet>,
     /// The image that `load` takes.
     pub kept: Vec<u8>,
     /// How many words of each table are lent.
@@ -34,7 +35,7 @@ pub struct State {
 
 impl Default for State {
     fn default() -> Self {
-        Self { limiter: None, peers: None, kept: Vec::new(), lent: WHOLE, rest: Default::default() }
+        Self { limiter: None, peers: None, hot_set: None, kept: Vec::new(), lent: WHOLE, rest: Default::default() }
     }
 }
 

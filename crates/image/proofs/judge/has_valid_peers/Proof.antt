@@ -1,12 +1,29 @@
 -- `has_valid_peers` meets its contract: the tables that the records are read into pass question 1.
-use mathlib.Core.Path.{ap, _∙_}
+use mathlib.Core.Path.{refl, ap, _∙_}
 use Prim.Native.Nat.{ℕ}
 use lib.Dec.{eqb}
 use lib.ListN.{replicate, length-replicate}
+use native.Mathlib.Omega.{arith}
 use borrow.Author.Needs.{needs}
 use Rattle.image.proofs.Loading.AskLaws.{peers-asked}
 use Rattle.image.proofs.judge.has_valid_peers.Statement.{statement}
 use Rattle.image.proofs.judge.has_valid_peers.Tie as tie
+
+-- each table is long enough for as many records as may be found
+read-table-requires : tie.Need-read-table-requires
+read-table-requires c κs =
+    let s = c .before .before in
+    (omega (arith, s .pre .1 .peers, length-replicate {A = ℕ} 384 0), omega (arith, s .pre .0 .peers), refl)
+
+read-table-requires-2 : tie.Need-read-table-requires-2
+read-table-requires-2 c κs =
+    let s = c .before .before .before .before .before in
+    (omega (arith, s .pre .1 .snapshot-keys, length-replicate {A = ℕ} 8192 0), omega (arith, s .pre .0 .snapshot-keys), refl)
+
+read-table-requires-3 : tie.Need-read-table-requires-3
+read-table-requires-3 c κs =
+    let s = c .before .before .before .before .before .before .before .before in
+    (omega (arith, s .pre .1 .contested, length-replicate {A = ℕ} 49152 0), omega (arith, s .pre .0 .contested), refl)
 
 returns : tie.Need-returns
 returns c =
@@ -27,11 +44,11 @@ has-valid-peers-spec =
     tie.close
     (tie.spec
     (λ c. search needs)
-    (λ c κs. search needs)
+    read-table-requires
     (λ c. search needs)
-    (λ c κs. search needs)
+    read-table-requires-2
     (λ c. search needs)
-    (λ c κs. search needs)
+    read-table-requires-3
     (λ c κs. search needs)
     (λ c. search needs)
     (λ c. search needs)

@@ -1,10 +1,10 @@
 -- `judge` meets its contract: each test is one that every image passes, and together they are question 13.
 use Prim.Native.Nat.{ℕ}
-use mathlib.Core.Path.{_≡_, ap, _∙_, subst}
+use mathlib.Core.Path.{_≡_, refl, ap, _∙_, subst}
 use mathlib.Core.List.{List}
 use native.Mathlib.Omega.{arith}
 use borrow.Author.Needs.{needs}
-use lib.ListN.{drop, length-replicate}
+use lib.ListN.{drop, replicate, length-replicate}
 use Rattle.records.specs.Records.{same}
 use Rattle.questions.specs.Questions.{given}
 use Rattle.questions.proofs.Tests.{told-no, told-yes}
@@ -45,7 +45,8 @@ reads : (l : tie.After-limiter-of) → let s = begun (counted l) in Reads (first
 reads l =
     let s = begun (counted l) in
     subst (λ (ws : List ℕ). Reads ws (found s) (l .limiter-of .result))
-    (words-read (bytes s) _ _ (length-replicate {A = ℕ} 13 0) (l .before .before .read-words .ensures)) (l .limiter-of .ensures)
+    (words-read (bytes s) (found s) (s .pre) (few (counted l)) (replicate 13 0) _ (length-replicate {A = ℕ} 13 0) (l .before .before .read-table .ensures))
+    (l .limiter-of .ensures)
 
 -- the settings' words beside those that were read
 abbrev made : tie.After-are-same → tie.After-limiter-of
@@ -56,7 +57,8 @@ same-is a =
     let l = made a in
     let s = begun (counted l) in
     a .are-same .ensures
-    ∙ (λ i. same (a .before .before .before .settings-words .ensures i) (words-read (bytes s) _ _ (length-replicate {A = ℕ} 13 0) (l .before .before .read-words .ensures) i))
+    ∙ (λ i. same (a .before .before .before .settings-words .ensures i)
+    (words-read (bytes s) (found s) (s .pre) (few (counted l)) (replicate 13 0) _ (length-replicate {A = ℕ} 13 0) (l .before .before .read-table .ensures) i))
 
 returns : tie.Need-returns
 returns c = alone-no 13 _ (no-few _ _ (c .before .before .before .pre) (told-no (c .before .are-few .ensures) (c .if1 .taken)))
@@ -69,11 +71,11 @@ returns-2 c =
     let n = c .before in
     alone-no 13 _ (no-end _ _ (begun (n .before .before) .pre) (told-no (end-is n) (c .if2 .taken)))
 
-read-words-requires : tie.Need-read-words-requires
-read-words-requires c κs =
+read-table-requires : tie.Need-read-table-requires
+read-table-requires c κs =
     let e = c .before .before .before .before in
     let r = begun e .pre .settings in
-    omega (arith, r .ends, r .within, few e .settings, length-replicate {A = ℕ} 13 0)
+    (omega (arith, few e .settings, length-replicate {A = ℕ} 13 0), omega (arith, r .ends, r .within), refl)
 
 returns-3 : tie.Need-returns-3
 returns-3 c =
@@ -135,7 +137,7 @@ judge-spec =
     (λ c κs. search needs)
     returns-2
     (λ c. search needs)
-    read-words-requires
+    read-table-requires
     (λ c κs. search needs)
     (λ c κs. search needs)
     (λ c. search needs)

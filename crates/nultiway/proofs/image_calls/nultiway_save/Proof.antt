@@ -1,40 +1,58 @@
 -- By the words, then by the answer.
 use borrow.Author.Needs.{needs}
+use borrow.Author.Tests.{leb-true}
 use Prim.Native.Nat.{_≤_}
-use mathlib.Core.Path.{refl}
-use mathlib.Core.Bool.{_&&_}
+use mathlib.Core.Path.{_≡_, refl, ap, _∙_}
+use mathlib.Core.Bool.{Bool, _&&_}
 use lib.Dec.{leb}
 use lib.ListN.{length}
-use Rattle.nultiway.proofs.Calls.CallLaws.{refused-call, passed-call, Open, opened, tells}
-use Rattle.nultiway.proofs.Calls.ImageCallLaws.{asked-with, both-read}
-use Rattle.nultiway.proofs.Calls.RoomLaws.{both-long}
+use Rattle.questions.specs.Questions.{firstNo}
+use Rattle.questions.proofs.Tests.{both}
+use Rattle.peers.specs.Peers.State as peer-state
+use Rattle.limiter.specs.State.{Lengths, tables, lengths}
+use Rattle.nultiway.specs.Values.{limiterAsked, peersRoom}
+use Rattle.nultiway.proofs.Calls.CallLaws.{refused-call, passed-call, Open, opened, asked-with, tells}
+use Rattle.nultiway.proofs.Calls.ImageCallLaws.{both-read}
+use Rattle.nultiway.proofs.Calls.RoomLaws.{peers-lengths, peers-three}
 use Rattle.nultiway.proofs.image_calls.nultiway_save.Statement.{statement}
 use Rattle.nultiway.proofs.image_calls.nultiway_save.Tie as tie
 
+abbrev start : tie.After-ask-limiter → tie.Start
+start k = k .before .before .before .before .before .before .before .before .before .before .before .before
+
+-- how many words the limiter's tables have, and whether the answer and the peers have room
+abbrev long : tie.Start → Lengths
+long s = lengths (tables (s .args .keys .now) (s .args .hot .now) (s .args .shadows .now))
+
+abbrev peerTables : tie.Start → peer-state.PeerTables
+peerTables s = peer-state.tables (s .args .peer-table .now) (s .args .snapshot-keys .now) (s .args .contested .now)
+
+abbrev room : tie.Start → Bool
+room s = peersRoom (length (s .args .peers .now)) (peer-state.lengths (peerTables s))
+
+abbrev others : tie.Start → Bool
+others s = leb 1 (length (s .args .answer .now)) && room s
+
+asked : (k : tie.After-ask-limiter) → let s = start k in k .ask-limiter .result ≡ firstNo (limiterAsked (s .args .limiter .now) (long s) (others s))
+asked k =
+    let s = start k in
+    asked-with (s .args .limiter .now) (long s) (k .ask-limiter .ensures)
+    (k .before .peers-have-room .ensures
+    ∙ ap (λ (b : Bool). leb 1 (length (s .args .answer .now)) && b) (peers-lengths (length (s .args .peers .now)) (peerTables s)))
+
 -- the questions of the lent words are passed
-passed :
-    (e : tie.Else1)
-    → let a = e .before .before .before .before .before .before .before .before .before .before .before .before .before .args in
-    Open (a .limiter .now) (leb 3 (length (a .peers .now)) && leb 1 (length (a .answer .now)))
-passed e =
-    let a = e .before .before .before .before .before .before .before .before .before .before .before .before .before .args in
-    opened _ _ _ (asked-with (a .limiter .now) (e .before .ask-limiter .ensures) (e .before .before .are-long .ensures)) (e .if1 .left)
+passed : (e : tie.Else1) → let s = start (e .before) in Open (s .args .limiter .now) (long s) (others s)
+passed e = opened _ _ _ _ (asked (e .before)) (e .if1 .left)
 
 -- and the other buffers have their words
-fits :
-    (e : tie.Else1)
-    → let a = e .before .before .before .before .before .before .before .before .before .before .before .before .before .args in
-    (3 ≤ length (a .peers .now)) × (1 ≤ length (a .answer .now))
+fits : (e : tie.Else1) → let s = start (e .before) in (3 ≤ length (s .args .peers .now)) × (1 ≤ length (s .args .answer .now))
 fits e =
-    let a = e .before .before .before .before .before .before .before .before .before .before .before .before .before .args in
-    both-long 3 (length (a .peers .now)) 1 (length (a .answer .now)) (passed e .others)
+    let s = start (e .before) in
+    let b = both (leb 1 (length (s .args .answer .now))) (room s) (passed e .others) in
+    (peers-three _ _ (b .1), leb-true _ _ (b .0))
 
 returns : tie.Need-returns
-returns c =
-    let m₁ = c .before .before .before .before .before .before .before .before .before .before .before .before in
-    let a = m₁ .before .args in
-    let are-long = c .before .before .are-long in
-    refused-call _ _ (asked-with (a .limiter .now) (c .before .ask-limiter .ensures) (are-long .ensures)) (c .if1 .taken) (refl, refl)
+returns c = refused-call _ _ (asked (c .before)) (c .if1 .taken) (refl, refl)
 
 limiter-of-requires : tie.Need-limiter-of-requires
 limiter-of-requires c κs = passed c .long

@@ -2,6 +2,7 @@
 use mathlib.Core.Bool.{true}
 use mathlib.Core.Path.{refl}
 use borrow.Author.Needs.{needs}
+use Rattle.limiter.specs.State.{tables, lengths}
 use Rattle.nultiway.proofs.Calls.CallLaws.{refused-call, passed-call, Open, opened, changes}
 use Rattle.nultiway.proofs.limiter_changes.nultiway_set_cap.Statement.{statement}
 use Rattle.nultiway.proofs.limiter_changes.nultiway_set_cap.Tie as tie
@@ -10,8 +11,11 @@ abbrev start : tie.After-ask-limiter → tie.Start
 start a = a .before .before .before .before .before .before
 
 -- the questions of the lent words are passed
-passed : (e : tie.Else1) → let s = start (e .before) in Open (s .args .limiter .now) true
-passed e = opened _ _ _ (e .before .ask-limiter .ensures) (e .if1 .left)
+passed :
+    (e : tie.Else1)
+    → let a = start (e .before) .args in
+    Open (a .limiter .now) (lengths (tables (a .keys .now) (a .hot .now) (a .shadows .now))) true
+passed e = opened _ _ _ _ (e .before .ask-limiter .ensures) (e .if1 .left)
 
 returns : tie.Need-returns
 returns c = refused-call _ _ (c .before .ask-limiter .ensures) (c .if1 .taken) refl

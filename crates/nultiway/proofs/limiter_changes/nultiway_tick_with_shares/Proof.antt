@@ -1,22 +1,42 @@
 -- `nultiway_tick_with_shares` meets its contract.
-use mathlib.Core.Path.{refl}
+use mathlib.Core.Path.{_≡_, refl, _∙_}
+use mathlib.Core.Bool.{Bool}
 use borrow.Author.Needs.{needs}
-use borrow.Author.Tests.{leb-true}
-use lib.Dec.{leb}
 use lib.ListN.{length}
-use Rattle.nultiway.proofs.Calls.CallLaws.{refused-call, passed-call, Open, opened, changes}
+use Rattle.questions.specs.Questions.{firstNo}
+use Rattle.peers.specs.Peers.State as peer-state
+use Rattle.limiter.specs.State.{Lengths, tables, lengths}
+use Rattle.nultiway.specs.Values.{limiterAsked, peersRoom}
+use Rattle.nultiway.proofs.Calls.CallLaws.{refused-call, passed-call, Open, opened, asked-with, changes}
+use Rattle.nultiway.proofs.Calls.RoomLaws.{peers-lengths, peers-three}
 use Rattle.nultiway.proofs.limiter_changes.nultiway_tick_with_shares.Statement.{statement}
 use Rattle.nultiway.proofs.limiter_changes.nultiway_tick_with_shares.Tie as tie
 
 abbrev start : tie.After-ask-limiter → tie.Start
-start a = a .before .before .before .before .before .before .before .before .before .before
+start a = a .before .before .before .before .before .before .before .before .before .before .before
+
+-- how many words the limiter's tables have, and whether the peers have room
+abbrev long : tie.Start → Lengths
+long s = lengths (tables (s .args .keys .now) (s .args .hot .now) (s .args .shadows .now))
+
+abbrev peerTables : tie.Start → peer-state.PeerTables
+peerTables s = peer-state.tables (s .args .peer-table .now) (s .args .snapshot-keys .now) (s .args .contested .now)
+
+abbrev room : tie.Start → Bool
+room s = peersRoom (length (s .args .peers .now)) (peer-state.lengths (peerTables s))
+
+asked : (k : tie.After-ask-limiter) → let s = start k in k .ask-limiter .result ≡ firstNo (limiterAsked (s .args .limiter .now) (long s) (room s))
+asked k =
+    let s = start k in
+    asked-with (s .args .limiter .now) (long s) (k .ask-limiter .ensures)
+    (k .before .before .peers-have-room .ensures ∙ peers-lengths (length (s .args .peers .now)) (peerTables s))
 
 -- the questions of the lent words are passed
-passed : (e : tie.Else1) → let s = start (e .before) in Open (s .args .limiter .now) (leb 3 (length (s .args .peers .now)))
-passed e = opened _ _ _ (e .before .ask-limiter .ensures) (e .if1 .left)
+passed : (e : tie.Else1) → let s = start (e .before) in Open (s .args .limiter .now) (long s) (room s)
+passed e = opened _ _ _ _ (asked (e .before)) (e .if1 .left)
 
 returns : tie.Need-returns
-returns c = refused-call _ _ (c .before .ask-limiter .ensures) (c .if1 .taken) (refl, refl)
+returns c = refused-call _ _ (asked (c .before)) (c .if1 .taken) (refl, refl)
 
 -- where the crate is called, and what comes before it
 abbrev entered : tie.After-tick-with-shares → tie.Else1
@@ -29,7 +49,7 @@ limiter-of-requires : tie.Need-limiter-of-requires
 limiter-of-requires c κs = passed (c .before) .long
 
 peers-of-requires : tie.Need-peers-of-requires
-peers-of-requires c κs = leb-true _ _ (passed (c .before .before) .others)
+peers-of-requires c κs = peers-three _ _ (passed (c .before .before) .others)
 
 put-limiter-requires : tie.Need-put-limiter-requires
 put-limiter-requires c κs = passed (entered (called c)) .long
@@ -48,6 +68,7 @@ pub nultiway-tick-with-shares-spec : {M : Type 1} → statement M
 nultiway-tick-with-shares-spec =
     tie.close
     (tie.spec
+    (λ c κs. search needs)
     (λ c κs. search needs)
     (λ c. search needs)
     returns

@@ -4,6 +4,7 @@ use borrow.Author.Needs.{needs}
 use borrow.Author.Tests.{leb-true}
 use lib.Dec.{leb}
 use lib.ListN.{length}
+use Rattle.limiter.specs.State.{tables, lengths}
 use Rattle.nultiway.proofs.Calls.CallLaws.{refused-call, passed-call, Open, opened, answers}
 use Rattle.nultiway.proofs.limiter_checks.nultiway_check.Statement.{statement}
 use Rattle.nultiway.proofs.limiter_checks.nultiway_check.Tie as tie
@@ -12,8 +13,11 @@ abbrev start : tie.After-ask-limiter → tie.Start
 start a = a .before .before .before .before .before .before .before
 
 -- the questions of the lent words are passed
-passed : (e : tie.Else1) → let s = start (e .before) in Open (s .args .limiter .now) (leb 2 (length (s .args .answer .now)))
-passed e = opened _ _ _ (e .before .ask-limiter .ensures) (e .if1 .left)
+passed :
+    (e : tie.Else1)
+    → let a = start (e .before) .args in
+    Open (a .limiter .now) (lengths (tables (a .keys .now) (a .hot .now) (a .shadows .now))) (leb 2 (length (a .answer .now)))
+passed e = opened _ _ _ _ (e .before .ask-limiter .ensures) (e .if1 .left)
 
 returns : tie.Need-returns
 returns c = refused-call _ _ (c .before .ask-limiter .ensures) (c .if1 .taken) (refl, refl, refl)

@@ -13,22 +13,21 @@ use Rattle.nultiway.proofs.values.is_limiter.Statement.{statement}
 use Rattle.nultiway.proofs.values.is_limiter.Tie as tie
 
 slice-aggregate-are-same-2 : tie.Need-slice-aggregate-are-same-2
-slice-aggregate-are-same-2 c = sym (length-take-le 16 (c .before .before .before .before .before .args .words .now) (omega arith))
+slice-aggregate-are-same-2 c = sym (length-take-le 16 (c .before .before .before .before .args .words .now) (omega arith))
 
 returns : tie.Need-returns
 unfolding isLimiter
 returns c =
     let w = c .before .before .before in
-    let l = w .before in
+    let s = w .before .before in
     c .are-same .ensures
-    ∙ ap (λ (k : List ℕ). same k (take 16 (l .before .before .args .words .now)))
-    (w .limiter-words .ensures ∙ ap (λ (x : Limiter). limiterWords x) (l .limiter-of .ensures))
+    ∙ ap (λ (k : List ℕ). same k (take 16 (s .args .words .now)))
+    (w .limiter-words .ensures ∙ ap (λ (x : Limiter). limiterWords x) (s .pre .1))
 
 pub is-limiter-spec : {M : Type 1} → statement M
 is-limiter-spec =
     tie.close
     (tie.spec
-    (λ c κs. search needs)
     (λ c κs. search needs)
     (λ c. search needs)
     slice-aggregate-are-same-2
