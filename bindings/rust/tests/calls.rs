@@ -6,7 +6,7 @@ use nultiway::gcra::{step, MAX_BURST, MAX_INTERVAL};
 use nultiway::hot_set::Update;
 use nultiway::peer_demand::{round_is_newer, stale_after_rounds, try_stale_after_rounds};
 use nultiway::proto::{DemandReport, KeyDemand};
-use nultiway::{Config, Decision, Demand, Gcra, HotSet, Limit, Limiter, PeerDemand, Quota, Tally};
+use nultiway::{words, Config, Decision, Demand, Gcra, HotSet, Limit, Limiter, PeerDemand, Quota, Tally};
 
 const SECOND: u64 = 1_000_000_000;
 
@@ -126,6 +126,32 @@ fn spoiled_tables_are_refused() {
     assert_eq!(limiter.try_check(1, 0, 2).unwrap_err().number(), 2);
     limiter.tables_mut().keys.clear();
     assert_eq!(limiter.try_ask().unwrap_err().number(), 1);
+}
+
+#[test]
+fn short_tables_come_before_words_that_are_no_limiter() {
+    let (limiter, _) = used();
+    let (mut spoiled, tables) = (*limiter.words(), limiter.tables());
+    let asked = |words: &[u64], keys: &[u64]| words::limiter_ask(words, keys, &tables.hot, &tables.shadows);
+    assert_eq!(asked(&spoiled, &tables.keys), 0);
+    // A flag of the cap that is neither 0 nor 1.
+    spoiled[9] = 2;
+    assert_eq!(asked(&spoiled, &tables.keys), 2);
+    assert_eq!(asked(&spoiled, &tables.keys[1..]), 1);
+}
+
+#[test]
+fn short_tables_come_before_words_that_are_no_report() {
+    let mut peers = PeerDemand::new();
+    let (mut counts, tables) = (*peers.words(), peers.tables_mut());
+    let mut applied = |peer_table: &mut [u64], flag: u64| {
+        let (keys, contested) = (&mut tables.snapshot_keys, &mut tables.contested);
+        words::peers_apply(&mut counts, peer_table, keys, contested, 1, 1, 1, 1, &[5, 0, flag], 1, 0)
+    };
+    let mut peer_table = vec![0; nultiway::sizes::PEER_TABLE_SIZE];
+    assert_eq!(applied(&mut peer_table, 2), 2);
+    assert_eq!(applied(&mut peer_table[1..], 2), 1);
+    assert_eq!(applied(&mut peer_table, 1), 0);
 }
 
 #[test]
