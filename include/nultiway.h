@@ -5,7 +5,8 @@
  * A function that answers uint8_t answers 0, or the number of the first question that the call
  * fails (enum nultiway_question); then no lent word or byte has changed. No pointer may be NULL,
  * even with a length of 0, and no buffer that is written may overlap another of the same call.
- * Lengths count words (bytes of an image). Longer buffers may be lent.
+ * Lengths count what a buffer is of: words, doubles, bools, the bytes of an image. Longer buffers may
+ * be lent.
  *
  * Values stand in words that the caller keeps and lends:
  * - a limiter: rate (bits of a double), burst, alpha (bits), floor factor (bits), cooldown, hot set

@@ -197,6 +197,31 @@ fn new_key(limiter: Limiter, key: u64, limit: Limit, reading: u64, cluster_size:
     }
 }
 
+// Where a key can't be looked up, as in a table that no valid limiter has: the longest interval, and
+// a TAT that denies at every reading below 2^63.
+fn denied_entry(key: u64, limit: Limit) -> KeyEntry {
+    let started = Estimator::starting_at(0);
+    KeyEntry {
+        tracked: false,
+        place: 0,
+        state: KeyState {
+            key,
+            limit,
+            demand: started,
+            requests: started,
+            denials: started,
+            shadow_denials: started,
+            gcra: Gcra {
+                quota: Quota {
+                    interval: MAX_INTERVAL,
+                    burst: limit.burst,
+                },
+                tat: Tat::At(u64::MAX),
+            },
+        },
+    }
+}
+
 // The key found, with the call's limit, or a new one.
 pub(crate) fn entry(
     limiter: Limiter,
@@ -223,11 +248,7 @@ pub(crate) fn entry(
             place,
             state: new_key(limiter, key, limit, reading, cluster_size),
         },
-        records::Found::Unfit => KeyEntry {
-            tracked: false,
-            place: 0,
-            state: new_key(limiter, key, limit, reading, cluster_size).spent(),
-        },
+        records::Found::Unfit => denied_entry(key, limit),
     }
 }
 
@@ -391,8 +412,7 @@ pub(crate) fn check_key(
     ensures { λ r. ⌜ ChecksKey limiter (keys .entry .now) key limit reading «cluster_size» r (keys .exit .now) ⌝ }
 {
     let found = entry(limiter, keys, key, limit, reading, cluster_size);
-    let state = found.state;
-    let asked = ask_meter(state.gcra, reading);
+    let asked = ask_meter(found.state.gcra, reading);
     let decision = asked.decision;
     let raised = raise(limiter, keys, found, 1, denied(decision), 0, asked.gcra);
     let left = raised.limiter;

@@ -11,15 +11,14 @@ use Rattle.limiter.specs.State.{unitsIn, unitsFor}
 ask-meter-requires : tie.Need-ask-meter-requires
 unfolding unitsFor
 ask-meter-requires c κs =
-    let o = c .before in
-    let s = o .before .before .before in
+    let s = c .before .before .before in
     entry-quota (s .args .limiter) (s .args .keys .now) (s .pre .0) (s .args .key) (s .args .limit) (s .args .reading) (s .args .cluster-size)
-    (s .pre .1) _ (o .entry .ensures)
+    (s .pre .1) _ (c .entry .ensures)
 
 raise-requires : tie.Need-raise-requires
 raise-requires c κs =
     let m = c .before .before in
-    let o = m .before .before in
+    let o = m .before in
     let s = o .before .before .before in
     let q = entry-quota (s .args .limiter) (s .args .keys .now) (s .pre .0) (s .args .key) (s .args .limit) (s .args .reading) (s .args .cluster-size)
     (s .pre .1) _ (o .entry .ensures) in (
@@ -37,7 +36,7 @@ returns c =
     let x = c .before .before .before .before in
     let d = x .before in
     let m = d .before .before in
-    let o = m .before .before in
+    let o = m .before in
     let s = o .before .before .before in
     check-acts (s .args .limiter) (s .args .keys .now) (s .pre .0) (s .args .key) (s .args .limit) (s .args .reading) (s .args .cluster-size)
     (s .pre .1) _ (o .entry .ensures)

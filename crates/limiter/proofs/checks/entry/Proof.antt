@@ -56,10 +56,9 @@ returns-2 c =
 
 returns-3 : tie.Need-returns-3
 returns-3 c =
-    let n = c .before .before in
-    let f = n .before .before in
+    let f = c .before .before .before in
     let s = f .before .before in
-    never-unfit-key (s .args .limiter) (s .args .keys .now) (s .pre) (s .args .key) (sym (n .enum-told .given .1) ∙ f .find .ensures)
+    never-unfit-key (s .args .limiter) (s .args .keys .now) (s .pre) (s .args .key) (sym (c .before .enum-told .given .1) ∙ f .find .ensures)
 
 pub entry-spec : {M : Type 1} → statement M
 entry-spec =
@@ -73,7 +72,6 @@ entry-spec =
     (λ c. search needs)
     (λ c κs. search needs)
     (λ c. search needs)
-    (λ c κs. search needs)
     (λ c κs. search needs)
     returns
     returns-2
