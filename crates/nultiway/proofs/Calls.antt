@@ -1,6 +1,5 @@
--- Calls by their questions and lent words, and what every call keeps.
+-- Calls by their questions and lent words.
 pub mod CallLaws
-pub mod StandingLaws
 pub mod RoomLaws
 pub mod ImageCallLaws
 pub mod PeerCallLaws

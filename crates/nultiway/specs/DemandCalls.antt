@@ -61,32 +61,37 @@ demandAsked ws room = (1 asks (leb 6 (length ws) && room)) ∷ (2 asks isDemand 
 -- ---- an estimator made
 
 -- `nultiway_demand_new`: the words of the new estimator
-abbrev pub NewDemand : (c : ℕ) (ws : List ℕ) (r : ℕ) (ws′ : List ℕ) → Type 0
-NewDemand c = TellsAlone {R = Demand} given (given (estimator.new c)) demandWords 6
+abbrev pub DemandNew : (ws : List ℕ) (c : ℕ) (r : ℕ) (ws′ : List ℕ) → Type 0
+DemandNew ws c = TellsAlone {R = Demand} given (given (estimator.new c)) demandWords 6 ws
 
 -- `nultiway_demand_starting_at`
-abbrev pub DemandStartingAt : (c now : ℕ) (ws : List ℕ) (r : ℕ) (ws′ : List ℕ) → Type 0
-DemandStartingAt c now = TellsAlone {R = Demand} given (given (estimator.startingAt c now)) demandWords 6
+abbrev pub DemandStartingAt : (ws : List ℕ) (c now : ℕ) (r : ℕ) (ws′ : List ℕ) → Type 0
+DemandStartingAt ws c now = TellsAlone {R = Demand} given (given (estimator.startingAt c now)) demandWords 6 ws
 
 -- ---- an estimator changed: its words are those of what the crate's function answers, and as they were where that is 'no'
 
--- `nultiway_demand_record_attempts`, and `nultiway_demand_record_attempt` of one
-abbrev pub RecordAttempts : (ws : List ℕ) (n : ℕ) (r : ℕ) (ws′ : List ℕ) → Type 0
-RecordAttempts ws n r ws′ =
+-- `nultiway_demand_record_attempts`
+abbrev pub DemandRecordAttempts : (ws : List ℕ) (n : ℕ) (r : ℕ) (ws′ : List ℕ) → Type 0
+DemandRecordAttempts ws n r ws′ =
     Called (demandAsked ws true) r (ws′ ≡ ws)
-    (Tells (λ (d : Demand) (x : DemandAnswer). demand.demandAnswer x ≡ demand.recordAttempts d n) (demandOf ws) demand.demandAnswer demandWords ws r ws′)
+    (Tells (λ (d : Demand) (x : DemandAnswer). demand.demandAnswer x ≡ demand.recordAttempts d n) (demandOf ws) demand.demandAnswer demandWords
+    ws r ws′)
+
+-- `nultiway_demand_record_attempt`: one attempt
+abbrev pub DemandRecordAttempt : (ws : List ℕ) (r : ℕ) (ws′ : List ℕ) → Type 0
+DemandRecordAttempt ws r ws′ = DemandRecordAttempts ws 1 r ws′
 
 -- `nultiway_demand_tick`
-abbrev pub TickDemand : (ws : List ℕ) (now : ℕ) (r : ℕ) (ws′ : List ℕ) → Type 0
-TickDemand ws now r ws′ =
+abbrev pub DemandTick : (ws : List ℕ) (now : ℕ) (r : ℕ) (ws′ : List ℕ) → Type 0
+DemandTick ws now r ws′ =
     Called (demandAsked ws true) r (ws′ ≡ ws)
     (Tells (λ (d : Demand) (x : DemandAnswer). demand.demandAnswer x ≡ demand.tick d now) (demandOf ws) demand.demandAnswer demandWords ws r ws′)
 
 -- ---- an estimator read
 
 -- `nultiway_demand_has_pending`
-abbrev pub HasPending : (ws answer : List ℕ) (r : ℕ) (answer′ : List ℕ) → Type 0
-HasPending ws answer r answer′ =
+abbrev pub DemandHasPending : (ws answer : List ℕ) (r : ℕ) (answer′ : List ℕ) → Type 0
+DemandHasPending ws answer r answer′ =
     Called (demandAsked ws (leb 1 (length answer))) r (answer′ ≡ answer)
     (Tells (λ (d : Demand) (x : FlagAnswer). flagAnswer x ≡ demand.hasPending d) (demandOf ws) flagAnswer flagWords answer r answer′)
 
@@ -97,8 +102,8 @@ DemandRate ws answer r answer′ =
     (Tells (λ (d : Demand) (x : RateAnswer). demand.rateAnswer x ≡ demand.rate d) (demandOf ws) demand.rateAnswer floatWords answer r answer′)
 
 -- `nultiway_demand_unbiased_rate`
-abbrev pub UnbiasedRate : (ws answer : List ℕ) (r : ℕ) (answer′ : List ℕ) → Type 0
-UnbiasedRate ws answer r answer′ =
+abbrev pub DemandUnbiasedRate : (ws answer : List ℕ) (r : ℕ) (answer′ : List ℕ) → Type 0
+DemandUnbiasedRate ws answer r answer′ =
     Called (demandAsked ws (leb 1 (length answer))) r (answer′ ≡ answer)
     (Tells (λ (d : Demand) (x : RateAnswer). demand.rateAnswer x ≡ demand.unbiasedRate d) (demandOf ws) demand.rateAnswer floatWords answer r answer′)
 
@@ -109,5 +114,5 @@ abbrev pub Share : (v : View) (answer : List ℕ) (r : ℕ) (answer′ : List �
 Share v = TellsAlone shareAnswer (share v) floatWords 1
 
 -- `nultiway_stale_after_rounds`
-abbrev pub StaleAfterRounds : (n : ℕ) (out : List ℕ) (r : ℕ) (out′ : List ℕ) → Type 0
+abbrev pub StaleAfterRounds : (n : ℕ) (answer : List ℕ) (r : ℕ) (answer′ : List ℕ) → Type 0
 StaleAfterRounds n = TellsAlone roundsAnswer (answer (clusterQuestions n) (staleAfterRounds n)) oneWord 1

@@ -93,21 +93,21 @@ TellsHotSet promise said words size ws answer r answer′ =
     Called (hotSetAnswerAsked ws answer size) r (answer′ ≡ answer) (Tells promise (hotSetOf ws) said words answer r answer′)
 
 -- `nultiway_hot_set_is_hot`
-abbrev pub IsHot : (xs : List ℕ) (key : ℕ) (ws answer : List ℕ) (r : ℕ) (answer′ : List ℕ) → Type 0
-IsHot xs key = TellsHotSet (λ (s : HotSet) (x : FlagAnswer). hot.SaidHot s xs key x) flagAnswer flagWords 1
+abbrev pub IsHot : (ws xs : List ℕ) (key : ℕ) (answer : List ℕ) (r : ℕ) (answer′ : List ℕ) → Type 0
+IsHot ws xs key = TellsHotSet (λ (s : HotSet) (x : FlagAnswer). hot.SaidHot s xs key x) flagAnswer flagWords 1 ws
 
 -- `nultiway_hot_set_is_primary`
-abbrev pub IsPrimary : (xs : List ℕ) (key : ℕ) (ws answer : List ℕ) (r : ℕ) (answer′ : List ℕ) → Type 0
-IsPrimary xs key = TellsHotSet (λ (s : HotSet) (x : FlagAnswer). hot.SaidPrimary s xs key x) flagAnswer flagWords 1
+abbrev pub IsPrimary : (ws xs : List ℕ) (key : ℕ) (answer : List ℕ) (r : ℕ) (answer′ : List ℕ) → Type 0
+IsPrimary ws xs key = TellsHotSet (λ (s : HotSet) (x : FlagAnswer). hot.SaidPrimary s xs key x) flagAnswer flagWords 1 ws
 
 -- `nultiway_hot_set_hot_since`
-abbrev pub HotSince : (xs : List ℕ) (key : ℕ) (ws answer : List ℕ) (r : ℕ) (answer′ : List ℕ) → Type 0
-HotSince xs key = TellsHotSet (λ (s : HotSet) (x : SinceAnswer). hot.SaidSince s xs key x) hot.sinceAnswer timeWords 2
+abbrev pub HotSince : (ws xs : List ℕ) (key : ℕ) (answer : List ℕ) (r : ℕ) (answer′ : List ℕ) → Type 0
+HotSince ws xs key = TellsHotSet (λ (s : HotSet) (x : SinceAnswer). hot.SaidSince s xs key x) hot.sinceAnswer timeWords 2 ws
 
 -- `nultiway_hot_set_len`
-abbrev pub Len : (xs : List ℕ) (ws answer : List ℕ) (r : ℕ) (answer′ : List ℕ) → Type 0
-Len xs = TellsHotSet (λ (s : HotSet) (x : LenAnswer). hot.SaidLen s xs x) lenAnswer oneWord 1
+abbrev pub Len : (ws xs : List ℕ) (answer : List ℕ) (r : ℕ) (answer′ : List ℕ) → Type 0
+Len ws xs = TellsHotSet (λ (s : HotSet) (x : LenAnswer). hot.SaidLen s xs x) lenAnswer oneWord 1 ws
 
 -- `nultiway_hot_set_is_empty`
-abbrev pub IsEmpty : (xs : List ℕ) (ws answer : List ℕ) (r : ℕ) (answer′ : List ℕ) → Type 0
-IsEmpty xs = TellsHotSet (λ (s : HotSet) (x : FlagAnswer). hot.SaidEmpty s xs x) flagAnswer flagWords 1
+abbrev pub IsEmpty : (ws xs : List ℕ) (answer : List ℕ) (r : ℕ) (answer′ : List ℕ) → Type 0
+IsEmpty ws xs = TellsHotSet (λ (s : HotSet) (x : FlagAnswer). hot.SaidEmpty s xs x) flagAnswer flagWords 1 ws

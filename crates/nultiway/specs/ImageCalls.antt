@@ -14,7 +14,7 @@ use Rattle.limiter.specs.State.{LimiterTables, lengths}
 use Rattle.image.specs.declared.Loaded.{Loaded}
 use Rattle.image.specs.declared.LoadAnswer.{LoadAnswer}
 use Rattle.image.specs.Calls as image
-use Rattle.nultiway.specs.Values.{limiterWords, limiterOf, limiterAsked, peersWords, peersOf, peersRoom, roomAsked}
+use Rattle.nultiway.specs.Values.{limiterWidth, limiterWords, limiterOf, limiterAsked, peersWidth, peersWords, peersOf, peersRoom, roomAsked}
 use Rattle.nultiway.specs.Calls.{Called, Tells, numberOf, answerPut, oneWord}
 
 -- `nultiway_save`: how many bytes
@@ -57,5 +57,5 @@ abbrev pub Load :
     → PeerTables
     → Type 0
 Load bs ws t ps pt r ws′ t′ ps′ pt′ =
-    Called (roomAsked (leb 16 (length ws) && leb 3 (length ps))) r ((ws′ ≡ ws) × (t′ ≡ t) × (ps′ ≡ ps) × (pt′ ≡ pt))
+    Called (roomAsked (leb limiterWidth (length ws) && leb peersWidth (length ps))) r ((ws′ ≡ ws) × (t′ ≡ t) × (ps′ ≡ ps) × (pt′ ≡ pt))
     (Loading bs ws t ps pt r ws′ t′ ps′ pt′)

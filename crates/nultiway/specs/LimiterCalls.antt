@@ -41,7 +41,7 @@ use Rattle.limiter.specs.declared.Changed.{Changed}
 use Rattle.limiter.specs.State.{LimiterTables, lengths, floatWord}
 use Rattle.limiter.specs.Calls as limiter
 use Rattle.limiter.specs.Calls.{Decisions}
-use Rattle.nultiway.specs.Values.{limiterWords, limiterOf, limiterAsked, peersOf, peersRoom, roomAsked}
+use Rattle.nultiway.specs.Values.{limiterWidth, limiterWords, limiterOf, limiterAsked, peersOf, peersRoom, roomAsked}
 use Rattle.nultiway.specs.Calls.{Called, Changes, Answers, Tells, oneWord, decisionWords, quotaWords, floatWords, flagWords}
 
 -- ---- arguments
@@ -115,7 +115,7 @@ configWords c =
 -- `nultiway_limiter_new`: the words of the new limiter
 abbrev pub New : (ws : List ℕ) → LimiterTables → Config → (r : ℕ) → (ws′ : List ℕ) → Type 0
 New ws t c r ws′ =
-    Called (roomAsked (leb 16 (length ws))) r (ws′ ≡ ws)
+    Called (roomAsked (leb limiterWidth (length ws))) r (ws′ ≡ ws)
     (Tells (λ (k : Config) (x : LimiterAnswer). limiter.IsNew k t x) c limiter.limiterAnswer limiterWords ws r ws′)
 
 -- `nultiway_limiter_ask`
@@ -169,6 +169,7 @@ CheckEach ws t list count n out r ws′ t′ out′ =
 
 -- ---- checks, which answer a decision
 
+-- Over the promise of the crate's function of the limiter that the lent words stand for and of its result.
 abbrev pub Checking :
     (ws : List ℕ) → LimiterTables → (answer : List ℕ)
     → (r : ℕ) → (ws′ : List ℕ) → LimiterTables → (answer′ : List ℕ) → (Limiter → Checked → Type 0) → Type 0
@@ -179,23 +180,23 @@ Checking ws t answer r ws′ t′ answer′ promise =
 
 -- `nultiway_check`
 abbrev pub Check :
-    (ws : List ℕ) → LimiterTables → (answer : List ℕ) → (key now n : ℕ)
+    (ws : List ℕ) → LimiterTables → (key now n : ℕ) → (answer : List ℕ)
     → (r : ℕ) → (ws′ : List ℕ) → LimiterTables → (answer′ : List ℕ) → Type 0
-Check ws t answer key now n r ws′ t′ answer′ =
+Check ws t key now n answer r ws′ t′ answer′ =
     Checking ws t answer r ws′ t′ answer′ (λ (l : Limiter) (x : Checked). limiter.Checks l t key now n x t′)
 
 -- `nultiway_check_in`
 abbrev pub CheckIn :
-    (ws : List ℕ) → LimiterTables → (answer : List ℕ) → (key : ℕ) → Limit → (now n : ℕ)
+    (ws : List ℕ) → LimiterTables → (key : ℕ) → Limit → (now n : ℕ) → (answer : List ℕ)
     → (r : ℕ) → (ws′ : List ℕ) → LimiterTables → (answer′ : List ℕ) → Type 0
-CheckIn ws t answer key k now n r ws′ t′ answer′ =
+CheckIn ws t key k now n answer r ws′ t′ answer′ =
     Checking ws t answer r ws′ t′ answer′ (λ (l : Limiter) (x : Checked). limiter.ChecksIn l t key k now n x t′)
 
 -- `nultiway_check_in_traced`: the decision, then the shadow's
 abbrev pub CheckInTraced :
-    (ws : List ℕ) → LimiterTables → (answer : List ℕ) → (key : ℕ) → Limit → Option Limit → (now n : ℕ)
+    (ws : List ℕ) → LimiterTables → (key : ℕ) → Limit → Option Limit → (now n : ℕ) → (answer : List ℕ)
     → (r : ℕ) → (ws′ : List ℕ) → LimiterTables → (answer′ : List ℕ) → Type 0
-CheckInTraced ws t answer key k shadow now n r ws′ t′ answer′ =
+CheckInTraced ws t key k shadow now n answer r ws′ t′ answer′ =
     Called (limiterAsked ws (lengths t) (leb 5 (length answer))) r ((ws′ ≡ ws) × (t′ ≡ t) × (answer′ ≡ answer))
     (Answers (λ (v : Limiter × Option Limit) (x : TracedCheck). limiter.ChecksTraced (v .0) t key k (v .1) now n x t′) (limiterOf ws, shadow)
     (λ (x : TracedCheck). limiter.tracedAnswer (x .answer)) tracedWords (λ (x : TracedCheck). limiterWords (x .limiter)) ws answer r ws′ answer′)
@@ -209,64 +210,81 @@ abbrev pub Telling :
 Telling ws t size answer r answer′ said words promise =
     Called (limiterAsked ws (lengths t) (leb size (length answer))) r (answer′ ≡ answer) (Tells promise (limiterOf ws) said words answer r answer′)
 
-abbrev pub NewKeyQuota : (ws : List ℕ) → LimiterTables → (answer : List ℕ) → Limit → (n r : ℕ) → (answer′ : List ℕ) → Type 0
-NewKeyQuota ws t answer k n r answer′ =
+-- `nultiway_new_key_quota`: a new key's quota under a limit
+abbrev pub NewKeyQuota : (ws : List ℕ) → LimiterTables → Limit → (n : ℕ) → (answer : List ℕ) → (r : ℕ) → (answer′ : List ℕ) → Type 0
+NewKeyQuota ws t k n answer r answer′ =
     Telling ws t 2 answer r answer′ quotaAnswer quotaWords (λ (l : Limiter) (x : QuotaAnswer). limiter.TellsNewKeyQuota l t k n x)
 
-abbrev pub NewKeyFactor : (ws : List ℕ) → LimiterTables → (answer : List ℕ) → (n r : ℕ) → (answer′ : List ℕ) → Type 0
-NewKeyFactor ws t answer n r answer′ =
+-- `nultiway_new_key_factor`: a new key's part of its limit
+abbrev pub NewKeyFactor : (ws : List ℕ) → LimiterTables → (n : ℕ) → (answer : List ℕ) → (r : ℕ) → (answer′ : List ℕ) → Type 0
+NewKeyFactor ws t n answer r answer′ =
     Telling ws t 1 answer r answer′ rateAnswer floatWords (λ (l : Limiter) (x : RateAnswer). limiter.TellsNewKeyFactor l t n x)
 
-abbrev pub Rates : (ws : List ℕ) → LimiterTables → (answer : List ℕ) → (key r : ℕ) → (answer′ : List ℕ) → Type 0
-Rates ws t answer key r answer′ =
+-- `nultiway_key_rates`: a tracked key's rates
+abbrev pub LimiterKeyRates : (ws : List ℕ) → LimiterTables → (key : ℕ) → (answer : List ℕ) → (r : ℕ) → (answer′ : List ℕ) → Type 0
+LimiterKeyRates ws t key answer r answer′ =
     Telling ws t 4 answer r answer′ limiter.ratesAnswer ratesWords (λ (l : Limiter) (x : RatesAnswer). limiter.TellsRates l t key x)
 
-abbrev pub KeyQuota : (ws : List ℕ) → LimiterTables → (answer : List ℕ) → (key r : ℕ) → (answer′ : List ℕ) → Type 0
-KeyQuota ws t answer key r answer′ =
+-- `nultiway_quota`: a tracked key's quota
+abbrev pub LimiterQuota : (ws : List ℕ) → LimiterTables → (key : ℕ) → (answer : List ℕ) → (r : ℕ) → (answer′ : List ℕ) → Type 0
+LimiterQuota ws t key answer r answer′ =
     Telling ws t 3 answer r answer′ limiter.keyQuotaAnswer keyQuotaWords (λ (l : Limiter) (x : KeyQuotaAnswer). limiter.TellsQuota l t key x)
 
-abbrev pub KeyLimit : (ws : List ℕ) → LimiterTables → (answer : List ℕ) → (key r : ℕ) → (answer′ : List ℕ) → Type 0
-KeyLimit ws t answer key r answer′ =
+-- `nultiway_limit`: a tracked key's limit
+abbrev pub LimiterLimit : (ws : List ℕ) → LimiterTables → (key : ℕ) → (answer : List ℕ) → (r : ℕ) → (answer′ : List ℕ) → Type 0
+LimiterLimit ws t key answer r answer′ =
     Telling ws t 3 answer r answer′ limiter.limitAnswer limitWords (λ (l : Limiter) (x : LimitAnswer). limiter.TellsLimit l t key x)
 
-abbrev pub Settings : (ws : List ℕ) → LimiterTables → (answer : List ℕ) → (r : ℕ) → (answer′ : List ℕ) → Type 0
-Settings ws t answer r answer′ =
+-- `nultiway_config`: the settings
+abbrev pub LimiterConfig : (ws : List ℕ) → LimiterTables → (answer : List ℕ) → (r : ℕ) → (answer′ : List ℕ) → Type 0
+LimiterConfig ws t answer r answer′ =
     Telling ws t 9 answer r answer′ limiter.configAnswer configWords (λ (l : Limiter) (x : ConfigAnswer). limiter.TellsConfig l t x)
 
-abbrev pub HotSince : (ws : List ℕ) → LimiterTables → (answer : List ℕ) → (key r : ℕ) → (answer′ : List ℕ) → Type 0
-HotSince ws t answer key r answer′ =
+-- `nultiway_hot_since`: when a hot key came into the hot set
+abbrev pub HotSince : (ws : List ℕ) → LimiterTables → (key : ℕ) → (answer : List ℕ) → (r : ℕ) → (answer′ : List ℕ) → Type 0
+HotSince ws t key answer r answer′ =
     Telling ws t 2 answer r answer′ sinceAnswer timeWords (λ (l : Limiter) (x : SinceAnswer). limiter.TellsHotSince l t key x)
 
-abbrev pub IsHot : (ws : List ℕ) → LimiterTables → (answer : List ℕ) → (key r : ℕ) → (answer′ : List ℕ) → Type 0
-IsHot ws t answer key r answer′ =
+-- `nultiway_is_hot`: whether a key is hot
+abbrev pub IsHot : (ws : List ℕ) → LimiterTables → (key : ℕ) → (answer : List ℕ) → (r : ℕ) → (answer′ : List ℕ) → Type 0
+IsHot ws t key answer r answer′ =
     Telling ws t 1 answer r answer′ flagAnswer flagWords (λ (l : Limiter) (x : FlagAnswer). limiter.TellsHot l t key x)
 
-abbrev pub IsTracked : (ws : List ℕ) → LimiterTables → (answer : List ℕ) → (key r : ℕ) → (answer′ : List ℕ) → Type 0
-IsTracked ws t answer key r answer′ =
+-- `nultiway_tracked`: whether a key is tracked
+abbrev pub Tracked : (ws : List ℕ) → LimiterTables → (key : ℕ) → (answer : List ℕ) → (r : ℕ) → (answer′ : List ℕ) → Type 0
+Tracked ws t key answer r answer′ =
     Telling ws t 1 answer r answer′ flagAnswer flagWords (λ (l : Limiter) (x : FlagAnswer). limiter.TellsTracked l t key x)
 
-abbrev pub CountKeys : (ws : List ℕ) → LimiterTables → (answer : List ℕ) → (r : ℕ) → (answer′ : List ℕ) → Type 0
-CountKeys ws t answer r answer′ = Telling ws t 1 answer r answer′ lenAnswer oneWord (λ (l : Limiter) (x : LenAnswer). limiter.CountsKeys l t x)
+-- `nultiway_hot_keys`: how many keys are hot
+abbrev pub HotKeys : (ws : List ℕ) → LimiterTables → (answer : List ℕ) → (r : ℕ) → (answer′ : List ℕ) → Type 0
+HotKeys ws t answer r answer′ =
+    Telling ws t 1 answer r answer′ lenAnswer oneWord (λ (l : Limiter) (x : LenAnswer). limiter.CountsHot l t x)
 
-abbrev pub CountHot : (ws : List ℕ) → LimiterTables → (answer : List ℕ) → (r : ℕ) → (answer′ : List ℕ) → Type 0
-CountHot ws t answer r answer′ = Telling ws t 1 answer r answer′ lenAnswer oneWord (λ (l : Limiter) (x : LenAnswer). limiter.CountsHot l t x)
+-- `nultiway_tracked_keys`: how many keys are tracked
+abbrev pub TrackedKeys : (ws : List ℕ) → LimiterTables → (answer : List ℕ) → (r : ℕ) → (answer′ : List ℕ) → Type 0
+TrackedKeys ws t answer r answer′ =
+    Telling ws t 1 answer r answer′ lenAnswer oneWord (λ (l : Limiter) (x : LenAnswer). limiter.CountsKeys l t x)
 
 -- ---- lists: the output is the crate's, the answer how many entries
 
+-- Over the promise of the crate's function of the limiter that the lent words stand for and of its result.
 abbrev pub Listing :
     (ws : List ℕ) → LimiterTables → (out answer : List ℕ) → (r : ℕ) → (out′ answer′ : List ℕ) → (Limiter → LenAnswer → Type 0) → Type 0
 Listing ws t out answer r out′ answer′ promise =
     Called (limiterAsked ws (lengths t) (leb 1 (length answer))) r ((out′ ≡ out) × (answer′ ≡ answer))
     (Tells promise (limiterOf ws) lenAnswer oneWord answer r answer′)
 
+-- `nultiway_hot_demand`: the hot keys, greatest demand first
 abbrev pub HotDemand : (ws : List ℕ) → LimiterTables → (out answer : List ℕ) → (r : ℕ) → (out′ answer′ : List ℕ) → Type 0
 HotDemand ws t out answer r out′ answer′ =
     Listing ws t out answer r out′ answer′ (λ (l : Limiter) (x : LenAnswer). limiter.ListsHotDemand l t out x out′)
 
+-- `nultiway_most_denied`: the first k keys by denials a second
 abbrev pub MostDenied : (ws : List ℕ) → LimiterTables → (k : ℕ) → (out answer : List ℕ) → (r : ℕ) → (out′ answer′ : List ℕ) → Type 0
 MostDenied ws t k out answer r out′ answer′ =
     Listing ws t out answer r out′ answer′ (λ (l : Limiter) (x : LenAnswer). limiter.ListsMostDenied l t k out x out′)
 
+-- `nultiway_most_shadow_denied`: the first k keys by shadow denials a second
 abbrev pub MostShadowDenied : (ws : List ℕ) → LimiterTables → (k : ℕ) → (out answer : List ℕ) → (r : ℕ) → (out′ answer′ : List ℕ) → Type 0
 MostShadowDenied ws t k out answer r out′ answer′ =
     Listing ws t out answer r out′ answer′ (λ (l : Limiter) (x : LenAnswer). limiter.ListsMostShadowDenied l t k out x out′)

@@ -59,24 +59,24 @@ TellsAlone {R} {A} said right words size answer r answer′ =
     (Tells (λ (a : Answer A) (x : R). said x ≡ a) right said words answer r answer′)
 
 -- `nultiway_quota_new`
-abbrev pub NewQuota : (rate burst : ℕ) (answer : List ℕ) (r : ℕ) (answer′ : List ℕ) → Type 0
-NewQuota rate burst = TellsAlone gcra.quotaAnswer (gcra.quotaNew rate burst) quotaWords 2
+abbrev pub QuotaNew : (rate burst : ℕ) (answer : List ℕ) (r : ℕ) (answer′ : List ℕ) → Type 0
+QuotaNew rate burst = TellsAlone gcra.quotaAnswer (gcra.quotaNew rate burst) quotaWords 2
 
 -- `nultiway_quota_per_second`
 abbrev pub QuotaPerSecond : (rate : Float) (burst : ℕ) (answer : List ℕ) (r : ℕ) (answer′ : List ℕ) → Type 0
 QuotaPerSecond rate burst = TellsAlone gcra.quotaAnswer (gcra.quotaPerSecond rate burst) quotaWords 2
 
 -- `nultiway_quota_unpack`
-abbrev pub UnpackQuota : (word : ℕ) (answer : List ℕ) (r : ℕ) (answer′ : List ℕ) → Type 0
-UnpackQuota word = TellsAlone gcra.quotaAnswer (gcra.quotaUnpack word) quotaWords 2
+abbrev pub QuotaUnpack : (word : ℕ) (answer : List ℕ) (r : ℕ) (answer′ : List ℕ) → Type 0
+QuotaUnpack word = TellsAlone gcra.quotaAnswer (gcra.quotaUnpack word) quotaWords 2
 
 -- `nultiway_quota_pack`
-abbrev pub PackQuota : (q : Quota) (answer : List ℕ) (r : ℕ) (answer′ : List ℕ) → Type 0
-PackQuota q = TellsAlone gcra.numberAnswer (gcra.quotaPack q) oneWord 1
+abbrev pub QuotaPack : (q : Quota) (answer : List ℕ) (r : ℕ) (answer′ : List ℕ) → Type 0
+QuotaPack q = TellsAlone gcra.numberAnswer (gcra.quotaPack q) oneWord 1
 
 -- `nultiway_quota_rate_per_sec`
-abbrev pub QuotaRate : (q : Quota) (answer : List ℕ) (r : ℕ) (answer′ : List ℕ) → Type 0
-QuotaRate q = TellsAlone gcra.rateAnswer (gcra.quotaRate q) floatWords 1
+abbrev pub QuotaRatePerSec : (q : Quota) (answer : List ℕ) (r : ℕ) (answer′ : List ℕ) → Type 0
+QuotaRatePerSec q = TellsAlone gcra.rateAnswer (gcra.quotaRate q) floatWords 1
 
 -- `nultiway_quota_ceiling`
 abbrev pub QuotaCeiling : (q : Quota) (window : ℕ) (answer : List ℕ) (r : ℕ) (answer′ : List ℕ) → Type 0
@@ -85,37 +85,37 @@ QuotaCeiling q window = TellsAlone gcra.numberAnswer (gcra.quotaCeiling q window
 -- ---- a Gcra
 
 -- `nultiway_gcra_new`: the words of the new Gcra
-abbrev pub NewGcra : (q : Quota) (ws : List ℕ) (r : ℕ) (ws′ : List ℕ) → Type 0
-NewGcra q = TellsAlone gcra.gcraAnswer (gcra.gcraNew q) gcraWords 4
+abbrev pub GcraNew : (ws : List ℕ) (q : Quota) (r : ℕ) (ws′ : List ℕ) → Type 0
+GcraNew ws q = TellsAlone gcra.gcraAnswer (gcra.gcraNew q) gcraWords 4 ws
 
 -- `nultiway_gcra_check`
-abbrev pub CheckGcra : (ws answer : List ℕ) (now : ℕ) (r : ℕ) (ws′ answer′ : List ℕ) → Type 0
-CheckGcra ws answer now r ws′ answer′ =
+abbrev pub GcraCheck : (ws : List ℕ) (now : ℕ) (answer : List ℕ) (r : ℕ) (ws′ answer′ : List ℕ) → Type 0
+GcraCheck ws now answer r ws′ answer′ =
     Called (gcraAsked ws (leb 2 (length answer))) r ((ws′ ≡ ws) × (answer′ ≡ answer))
     (Answers (λ (g : Gcra) (x : Checked). gcra.GcraChecks g now x) (gcraOf ws) (λ (x : Checked). gcra.checkAnswer (x .answer)) decisionWords
     (λ (x : Checked). gcraWords (x .gcra)) ws answer r ws′ answer′)
 
 -- `nultiway_gcra_set_quota`
-abbrev pub SetQuota : (ws : List ℕ) (q : Quota) (now : ℕ) (r : ℕ) (ws′ : List ℕ) → Type 0
-SetQuota ws q now r ws′ =
+abbrev pub GcraSetQuota : (ws : List ℕ) (q : Quota) (now : ℕ) (r : ℕ) (ws′ : List ℕ) → Type 0
+GcraSetQuota ws q now r ws′ =
     Called (gcraAsked ws true) r (ws′ ≡ ws)
     (Changes (λ (g : Gcra) (x : QuotaSet). gcra.GcraSets g q now x) (gcraOf ws) (λ (x : QuotaSet). gcra.setAnswer (x .answer))
     (λ (x : QuotaSet). gcraWords (x .gcra)) ws r ws′)
 
 -- `nultiway_gcra_has_debt`
-abbrev pub HasDebt : (ws answer : List ℕ) (now : ℕ) (r : ℕ) (answer′ : List ℕ) → Type 0
-HasDebt ws answer now r answer′ =
+abbrev pub GcraHasDebt : (ws : List ℕ) (now : ℕ) (answer : List ℕ) (r : ℕ) (answer′ : List ℕ) → Type 0
+GcraHasDebt ws now answer r answer′ =
     Called (gcraAsked ws (leb 1 (length answer))) r (answer′ ≡ answer)
     (Tells (λ (g : Gcra) (x : DebtAnswer). gcra.debtAnswer x ≡ gcra.gcraHasDebt g now) (gcraOf ws) gcra.debtAnswer flagWords answer r answer′)
 
 -- `nultiway_gcra_retry_after`
-abbrev pub RetryAfter : (ws answer : List ℕ) (now : ℕ) (r : ℕ) (answer′ : List ℕ) → Type 0
-RetryAfter ws answer now r answer′ =
+abbrev pub GcraRetryAfter : (ws : List ℕ) (now : ℕ) (answer : List ℕ) (r : ℕ) (answer′ : List ℕ) → Type 0
+GcraRetryAfter ws now answer r answer′ =
     Called (gcraAsked ws (leb 2 (length answer))) r (answer′ ≡ answer)
     (Tells (λ (g : Gcra) (x : RetryAnswer). gcra.retryAnswer x ≡ gcra.gcraRetryAfter g now) (gcraOf ws) gcra.retryAnswer timeWords answer r answer′)
 
--- ---- `nultiway_step`
+-- ---- a step
 
--- the crate's `step` has no question
-abbrev pub StepAlone : (tat packed now : ℕ) (answer : List ℕ) (r : ℕ) (answer′ : List ℕ) → Type 0
-StepAlone tat packed now = TellsAlone {R = Stepped} given (given (step unitNanos tat packed now)) steppedWords 3
+-- `nultiway_step`: the crate's `step` has no question
+abbrev pub Step : (tat packed now : ℕ) (answer : List ℕ) (r : ℕ) (answer′ : List ℕ) → Type 0
+Step tat packed now = TellsAlone {R = Stepped} given (given (step unitNanos tat packed now)) steppedWords 3

@@ -25,7 +25,7 @@ use Rattle.peers.specs.Peers.State.{PeerTables, lengths}
 use Rattle.demand.specs.Answers.{flagAnswer, lenAnswer}
 use Rattle.peers.specs.Peers.Calls as demand
 use Rattle.questions.specs.Questions.{Question, _asks_, Answer}
-use Rattle.nultiway.specs.Values.{peersWords, peersOf, peersRoom, roomAsked}
+use Rattle.nultiway.specs.Values.{peersWidth, peersWords, peersOf, peersRoom, roomAsked}
 use Rattle.nultiway.specs.Calls.{Called, Changes, Tells, numberOf, oneWord, floatWords, flagWords}
 
 -- ---- the words of answers
@@ -39,7 +39,7 @@ heardWords (some h) = 1 ∷ toBits binary32 (h .demand) ∷ flagWord (h .primary
 
 -- question 1 of the peers' words
 abbrev pub peersAsked : List ℕ → List Question
-peersAsked ps = roomAsked (leb 3 (length ps))
+peersAsked ps = roomAsked (leb peersWidth (length ps))
 
 -- `nultiway_peers_new`: the words of the new peers
 abbrev pub New : (ps : List ℕ) → PeerTables → (r : ℕ) (ps′ : List ℕ) → Type 0
@@ -117,16 +117,17 @@ pub record Sent : Type 0 where
   pub peer : ℕ
   pub report : DemandReport
 
--- `nultiway_peers_apply`
+-- `nultiway_peers_apply`, of the report that the lent words and the numbers stand for
 abbrev pub Apply :
     (ps : List ℕ)
     → PeerTables
-    → (peer : ℕ) (report : DemandReport) (ws : List ℕ) (now : ℕ) (r : ℕ) (ps′ : List ℕ)
+    → (peer origin epoch round : ℕ) (ws : List ℕ) (count now : ℕ) (r : ℕ) (ps′ : List ℕ)
     → PeerTables
     → Type 0
-Apply ps t peer report ws now r ps′ t′ =
+Apply ps t peer origin epoch round ws count now r ps′ t′ =
     ChangesPeers (λ (v : Sent) (x : PeersChanged). demand.Applies (v .peers) t (v .peer) (v .report) now x t′)
-    (record { peers = peersOf ps; peer = peer; report = report }) (reportAsked (peersRoom (length ps) (lengths t)) ws (report .count)) ps t r ps′ t′
+    (record { peers = peersOf ps; peer = peer; report = reportOf origin epoch round ws count })
+    (reportAsked (peersRoom (length ps) (lengths t)) ws count) ps t r ps′ t′
 
 -- ---- calls that read
 
@@ -145,30 +146,30 @@ abbrev pub TellsPeers :
     → (ps answer : List ℕ) (r : ℕ) (answer′ : List ℕ)
     → Type 0
 TellsPeers promise v said words size ps answer r answer′ =
-    Called (roomAsked (leb 3 (length ps) && leb size (length answer))) r (answer′ ≡ answer) (Tells promise v said words answer r answer′)
+    Called (roomAsked (leb peersWidth (length ps) && leb size (length answer))) r (answer′ ≡ answer) (Tells promise v said words answer r answer′)
 
 -- `nultiway_peers_get`
-abbrev pub Get : PeerTables → (peer key : ℕ) (ps answer : List ℕ) (r : ℕ) (answer′ : List ℕ) → Type 0
-Get t peer key ps =
+abbrev pub Get : (ps : List ℕ) → PeerTables → (peer key : ℕ) (answer : List ℕ) (r : ℕ) (answer′ : List ℕ) → Type 0
+Get ps t peer key =
     TellsPeers (λ (v : Named) (x : HeardAnswer). demand.Gets (v .peers) t (v .peer) key x) (record { peers = peersOf ps; peer = peer })
     demand.heardAnswer heardWords 5 ps
 
 -- `nultiway_peers_total`
-abbrev pub Total : PeerTables → (key : ℕ) (ps answer : List ℕ) (r : ℕ) (answer′ : List ℕ) → Type 0
-Total t key ps = TellsPeers (λ (p : PeerDemand) (x : TotalAnswer). demand.Totals p t key x) (peersOf ps) demand.totalAnswer floatWords 1 ps
+abbrev pub Total : (ps : List ℕ) → PeerTables → (key : ℕ) (answer : List ℕ) (r : ℕ) (answer′ : List ℕ) → Type 0
+Total ps t key = TellsPeers (λ (p : PeerDemand) (x : TotalAnswer). demand.Totals p t key x) (peersOf ps) demand.totalAnswer floatWords 1 ps
 
 -- `nultiway_peers_hot_elsewhere`
-abbrev pub HotElsewhere : PeerTables → (key : ℕ) (ps answer : List ℕ) (r : ℕ) (answer′ : List ℕ) → Type 0
-HotElsewhere t key ps = TellsPeers (λ (p : PeerDemand) (x : FlagAnswer). demand.TellsHotElsewhere p t key x) (peersOf ps) flagAnswer
-    flagWords 1 ps
+abbrev pub HotElsewhere : (ps : List ℕ) → PeerTables → (key : ℕ) (answer : List ℕ) (r : ℕ) (answer′ : List ℕ) → Type 0
+HotElsewhere ps t key =
+    TellsPeers (λ (p : PeerDemand) (x : FlagAnswer). demand.TellsHotElsewhere p t key x) (peersOf ps) flagAnswer flagWords 1 ps
 
 -- `nultiway_peers_len`
-abbrev pub Len : PeerTables → (ps answer : List ℕ) (r : ℕ) (answer′ : List ℕ) → Type 0
-Len t ps = TellsPeers (λ (p : PeerDemand) (x : LenAnswer). demand.Counts p t x) (peersOf ps) lenAnswer oneWord 1 ps
+abbrev pub Len : (ps : List ℕ) → PeerTables → (answer : List ℕ) (r : ℕ) (answer′ : List ℕ) → Type 0
+Len ps t = TellsPeers (λ (p : PeerDemand) (x : LenAnswer). demand.Counts p t x) (peersOf ps) lenAnswer oneWord 1 ps
 
 -- `nultiway_peers_is_empty`
-abbrev pub IsEmpty : PeerTables → (ps answer : List ℕ) (r : ℕ) (answer′ : List ℕ) → Type 0
-IsEmpty t ps = TellsPeers (λ (p : PeerDemand) (x : FlagAnswer). demand.TellsEmpty p t x) (peersOf ps) flagAnswer flagWords 1 ps
+abbrev pub IsEmpty : (ps : List ℕ) → PeerTables → (answer : List ℕ) (r : ℕ) (answer′ : List ℕ) → Type 0
+IsEmpty ps t = TellsPeers (λ (p : PeerDemand) (x : FlagAnswer). demand.TellsEmpty p t x) (peersOf ps) flagAnswer flagWords 1 ps
 
 -- ---- calls that read of many keys
 
@@ -179,13 +180,13 @@ pub record Says {R A : Type 0} (promise : PeerDemand → R → Type 0) (v : Peer
   pub number : r ≡ numberOf (said result)
 
 -- `nultiway_peers_total_of_each`
-abbrev pub TotalOfEach : PeerTables → (ps keys : List ℕ) (width count : ℕ) (out : List Float) (r : ℕ) (out′ : List Float) → Type 0
-TotalOfEach t ps keys width count out r out′ =
+abbrev pub TotalOfEach : (ps : List ℕ) → PeerTables → (keys : List ℕ) (width count : ℕ) (out : List Float) (r : ℕ) (out′ : List Float) → Type 0
+TotalOfEach ps t keys width count out r out′ =
     Called (peersAsked ps) r (out′ ≡ out)
     (Says (λ (p : PeerDemand) (x : ChangeAnswer). demand.TotalsEach p t width count keys out x out′) (peersOf ps) demand.changeAnswer r)
 
 -- `nultiway_peers_hot_elsewhere_of_each`
-abbrev pub HotElsewhereOfEach : PeerTables → (ps keys : List ℕ) (width count : ℕ) (out : List Bool) (r : ℕ) (out′ : List Bool) → Type 0
-HotElsewhereOfEach t ps keys width count out r out′ =
+abbrev pub HotElsewhereOfEach : (ps : List ℕ) → PeerTables → (keys : List ℕ) (width count : ℕ) (out : List Bool) (r : ℕ) (out′ : List Bool) → Type 0
+HotElsewhereOfEach ps t keys width count out r out′ =
     Called (peersAsked ps) r (out′ ≡ out)
     (Says (λ (p : PeerDemand) (x : ChangeAnswer). demand.TellsHotElsewhereEach p t width count keys out x out′) (peersOf ps) demand.changeAnswer r)

@@ -17,6 +17,10 @@ use Rattle.image.specs.LoadSteps.{configFrom}
 
 -- ---- the limiter
 
+-- the words of a limiter
+abbrev pub limiterWidth : ℕ
+limiterWidth = 16
+
 -- the thirteen words of the image's kind 1, then how many key, hot and shadow records are in use
 unfoldable pub limiterWords : Limiter → List ℕ
 limiterWords l = settingsWords (settingsOf l) ++ (l .keys ∷ l .hot ∷ l .shadows ∷ [])
@@ -35,14 +39,18 @@ limiterOf ws =
 
 -- the words are those of the limiter that they stand for: reading and writing back would not change them
 unfoldable pub isLimiter : List ℕ → Bool
-isLimiter ws = same (limiterWords (limiterOf ws)) (take 16 ws)
+isLimiter ws = same (limiterWords (limiterOf ws)) (take limiterWidth ws)
 
 -- question 1 of the limiter's words, of its tables by the sizes in those words, whatever else they hold, and of whether the call's other buffers have
 -- room; question 2 of the words
 abbrev pub limiterAsked : List ℕ → Lengths → Bool → List Question
-limiterAsked ws n room = (1 asks (leb 16 (length ws) && (haveRoom (limiterOf ws .config) n && room))) ∷ (2 asks isLimiter ws) ∷ []
+limiterAsked ws n room = (1 asks (leb limiterWidth (length ws) && (haveRoom (limiterOf ws .config) n && room))) ∷ (2 asks isLimiter ws) ∷ []
 
 -- ---- the peers: how many peers, snapshot keys and contested keys are in use; any three words are a value
+
+-- the words of the peers
+abbrev pub peersWidth : ℕ
+peersWidth = 3
 
 unfoldable pub peersWords : PeerDemand → List ℕ
 peersWords p = p .peers ∷ p .«snapshot_keys» ∷ p .contested ∷ []
@@ -52,7 +60,7 @@ peersOf ws = record { peers = getD ws 0 0; «snapshot_keys» = getD ws 1 0; cont
 
 -- the peers have their words, and their tables, whose sizes are fixed, theirs
 abbrev pub peersRoom : (words : ℕ) → PeerLengths → Bool
-peersRoom words n = leb 3 words && peer-state.haveRoom n
+peersRoom words n = leb peersWidth words && peer-state.haveRoom n
 
 -- question 1 alone, where any words are a value
 abbrev pub roomAsked : Bool → List Question

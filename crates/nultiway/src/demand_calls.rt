@@ -133,7 +133,7 @@ fn put_rate(to: &mut [u64], said: RateAnswer) -> u8
 #[no_mangle]
 pub extern "C" fn nultiway_demand_new(demand: &mut [u64], time_constant: u64) -> u8
     ensures { λ r. ⌜
-        Calls.NewDemand «time_constant» (now (demand .entry)) r (now (demand .exit))
+        Calls.DemandNew (now (demand .entry)) «time_constant» r (now (demand .exit))
         ⌝ }
 {
     if demand.len() < DEMAND_WORDS {
@@ -152,7 +152,7 @@ pub extern "C" fn nultiway_demand_starting_at(
     reading: u64,
 ) -> u8
     ensures { λ r. ⌜
-        Calls.DemandStartingAt «time_constant» reading (now (demand .entry)) r
+        Calls.DemandStartingAt (now (demand .entry)) «time_constant» reading r
         (now (demand .exit))
         ⌝ }
 {
@@ -166,7 +166,7 @@ pub extern "C" fn nultiway_demand_starting_at(
 // Counts one attempt on an estimator.
 #[no_mangle]
 pub extern "C" fn nultiway_demand_record_attempt(demand: &mut [u64]) -> u8
-    ensures { λ r. ⌜ Calls.RecordAttempts (now (demand .entry)) 1 r (now (demand .exit)) ⌝ }
+    ensures { λ r. ⌜ Calls.DemandRecordAttempt (now (demand .entry)) r (now (demand .exit)) ⌝ }
 {
     let no = ask_demand(demand, true);
     if no != 0 {
@@ -180,7 +180,7 @@ pub extern "C" fn nultiway_demand_record_attempt(demand: &mut [u64]) -> u8
 #[no_mangle]
 pub extern "C" fn nultiway_demand_record_attempts(demand: &mut [u64], attempts: u64) -> u8
     ensures { λ r. ⌜
-        Calls.RecordAttempts (now (demand .entry)) attempts r (now (demand .exit))
+        Calls.DemandRecordAttempts (now (demand .entry)) attempts r (now (demand .exit))
         ⌝ }
 {
     let no = ask_demand(demand, true);
@@ -194,7 +194,7 @@ pub extern "C" fn nultiway_demand_record_attempts(demand: &mut [u64], attempts: 
 // Moves an estimator's rate by the attempts counted since its last tick, and counts from 0 again.
 #[no_mangle]
 pub extern "C" fn nultiway_demand_tick(demand: &mut [u64], reading: u64) -> u8
-    ensures { λ r. ⌜ Calls.TickDemand (now (demand .entry)) reading r (now (demand .exit)) ⌝ }
+    ensures { λ r. ⌜ Calls.DemandTick (now (demand .entry)) reading r (now (demand .exit)) ⌝ }
 {
     let no = ask_demand(demand, true);
     if no != 0 {
@@ -208,7 +208,7 @@ pub extern "C" fn nultiway_demand_tick(demand: &mut [u64], reading: u64) -> u8
 #[no_mangle]
 pub extern "C" fn nultiway_demand_has_pending(demand: &[u64], answer: &mut [u64]) -> u8
     ensures { λ r. ⌜
-        Calls.HasPending (now (demand .entry)) (now (answer .entry)) r (now (answer .exit))
+        Calls.DemandHasPending (now (demand .entry)) (now (answer .entry)) r (now (answer .exit))
         ⌝ }
 {
     let no = ask_demand(demand, 1 <= answer.len());
@@ -238,7 +238,8 @@ pub extern "C" fn nultiway_demand_rate(demand: &[u64], answer: &mut [u64]) -> u8
 #[no_mangle]
 pub extern "C" fn nultiway_demand_unbiased_rate(demand: &[u64], answer: &mut [u64]) -> u8
     ensures { λ r. ⌜
-        Calls.UnbiasedRate (now (demand .entry)) (now (answer .entry)) r (now (answer .exit))
+        Calls.DemandUnbiasedRate (now (demand .entry)) (now (answer .entry)) r
+        (now (answer .exit))
         ⌝ }
 {
     let no = ask_demand(demand, 1 <= answer.len());

@@ -130,7 +130,7 @@ fn set_number(said: SetAnswer) -> u8
 #[no_mangle]
 pub extern "C" fn nultiway_gcra_new(gcra: &mut [u64], interval: u64, burst: u32) -> u8
     ensures { λ r. ⌜
-        Calls.NewGcra (record { interval = interval; burst = burst }) (now (gcra .entry)) r
+        Calls.GcraNew (now (gcra .entry)) (record { interval = interval; burst = burst }) r
         (now (gcra .exit))
         ⌝ }
 {
@@ -145,7 +145,7 @@ pub extern "C" fn nultiway_gcra_new(gcra: &mut [u64], interval: u64, burst: u32)
 #[no_mangle]
 pub extern "C" fn nultiway_gcra_check(gcra: &mut [u64], reading: u64, answer: &mut [u64]) -> u8
     ensures { λ r. ⌜
-        Calls.CheckGcra (now (gcra .entry)) (now (answer .entry)) reading r (now (gcra .exit))
+        Calls.GcraCheck (now (gcra .entry)) reading (now (answer .entry)) r (now (gcra .exit))
         (now (answer .exit))
         ⌝ }
 {
@@ -170,8 +170,8 @@ pub extern "C" fn nultiway_gcra_set_quota(
     reading: u64,
 ) -> u8
     ensures { λ r. ⌜
-        Calls.SetQuota (now (gcra .entry)) (record { interval = interval; burst = burst }) reading r
-        (now (gcra .exit))
+        Calls.GcraSetQuota (now (gcra .entry)) (record { interval = interval; burst = burst })
+        reading r (now (gcra .exit))
         ⌝ }
 {
     let no = ask_gcra(gcra, true);
@@ -191,7 +191,7 @@ pub extern "C" fn nultiway_gcra_set_quota(
 #[no_mangle]
 pub extern "C" fn nultiway_gcra_has_debt(gcra: &[u64], reading: u64, answer: &mut [u64]) -> u8
     ensures { λ r. ⌜
-        Calls.HasDebt (now (gcra .entry)) (now (answer .entry)) reading r (now (answer .exit))
+        Calls.GcraHasDebt (now (gcra .entry)) reading (now (answer .entry)) r (now (answer .exit))
         ⌝ }
 {
     let no = ask_gcra(gcra, 1 <= answer.len());
@@ -206,7 +206,8 @@ pub extern "C" fn nultiway_gcra_has_debt(gcra: &[u64], reading: u64, answer: &mu
 #[no_mangle]
 pub extern "C" fn nultiway_gcra_retry_after(gcra: &[u64], reading: u64, answer: &mut [u64]) -> u8
     ensures { λ r. ⌜
-        Calls.RetryAfter (now (gcra .entry)) (now (answer .entry)) reading r (now (answer .exit))
+        Calls.GcraRetryAfter (now (gcra .entry)) reading (now (answer .entry)) r
+        (now (answer .exit))
         ⌝ }
 {
     let no = ask_gcra(gcra, 2 <= answer.len());

@@ -139,7 +139,7 @@ pub extern "C" fn nultiway_hot_set_is_hot(
     answer: &mut [u64],
 ) -> u8
     ensures { λ r. ⌜
-        Calls.IsHot (now (entries .entry)) key (now («hot_set» .entry)) (now (answer .entry)) r
+        Calls.IsHot (now («hot_set» .entry)) (now (entries .entry)) key (now (answer .entry)) r
         (now (answer .exit))
         ⌝ }
 {
@@ -159,7 +159,7 @@ pub extern "C" fn nultiway_hot_set_is_primary(
     answer: &mut [u64],
 ) -> u8
     ensures { λ r. ⌜
-        Calls.IsPrimary (now (entries .entry)) key (now («hot_set» .entry)) (now (answer .entry)) r
+        Calls.IsPrimary (now («hot_set» .entry)) (now (entries .entry)) key (now (answer .entry)) r
         (now (answer .exit))
         ⌝ }
 {
@@ -179,7 +179,7 @@ pub extern "C" fn nultiway_hot_set_hot_since(
     answer: &mut [u64],
 ) -> u8
     ensures { λ r. ⌜
-        Calls.HotSince (now (entries .entry)) key (now («hot_set» .entry)) (now (answer .entry)) r
+        Calls.HotSince (now («hot_set» .entry)) (now (entries .entry)) key (now (answer .entry)) r
         (now (answer .exit))
         ⌝ }
 {
@@ -194,7 +194,7 @@ pub extern "C" fn nultiway_hot_set_hot_since(
 #[no_mangle]
 pub extern "C" fn nultiway_hot_set_len(hot_set: &[u64], entries: &[u64], answer: &mut [u64]) -> u8
     ensures { λ r. ⌜
-        Calls.Len (now (entries .entry)) (now («hot_set» .entry)) (now (answer .entry)) r
+        Calls.Len (now («hot_set» .entry)) (now (entries .entry)) (now (answer .entry)) r
         (now (answer .exit))
         ⌝ }
 {
@@ -213,7 +213,7 @@ pub extern "C" fn nultiway_hot_set_is_empty(
     answer: &mut [u64],
 ) -> u8
     ensures { λ r. ⌜
-        Calls.IsEmpty (now (entries .entry)) (now («hot_set» .entry)) (now (answer .entry)) r
+        Calls.IsEmpty (now («hot_set» .entry)) (now (entries .entry)) (now (answer .entry)) r
         (now (answer .exit))
         ⌝ }
 {

@@ -25,8 +25,8 @@ pub extern "C" fn nultiway_check(
     answer: &mut [u64],
 ) -> u8
     ensures { λ r. ⌜
-        Calls.Check (now (limiter .entry)) (atEntry keys hot shadows) (now (answer .entry)) key
-        reading «cluster_size» r
+        Calls.Check (now (limiter .entry)) (atEntry keys hot shadows) key reading «cluster_size»
+        (now (answer .entry)) r
         (now (limiter .exit)) (atExit keys hot shadows) (now (answer .exit))
         ⌝ }
 {
@@ -58,10 +58,9 @@ pub extern "C" fn nultiway_check_in(
     answer: &mut [u64],
 ) -> u8
     ensures { λ r. ⌜
-        Calls.CheckIn (now (limiter .entry)) (atEntry keys hot shadows) (now (answer .entry))
-        key (Calls.limit rate burst)
-        reading «cluster_size» r (now (limiter .exit)) (atExit keys hot shadows)
-        (now (answer .exit))
+        Calls.CheckIn (now (limiter .entry)) (atEntry keys hot shadows) key
+        (Calls.limit rate burst) reading «cluster_size» (now (answer .entry)) r
+        (now (limiter .exit)) (atExit keys hot shadows) (now (answer .exit))
         ⌝ }
 {
     let room = 2 <= answer.len();
@@ -108,10 +107,10 @@ pub extern "C" fn nultiway_check_in_traced(
     answer: &mut [u64],
 ) -> u8
     ensures { λ r. ⌜
-        Calls.CheckInTraced (now (limiter .entry)) (atEntry keys hot shadows)
-        (now (answer .entry)) key (Calls.limit rate burst)
+        Calls.CheckInTraced (now (limiter .entry)) (atEntry keys hot shadows) key
+        (Calls.limit rate burst)
         (Calls.shadowGiven «has_shadow» (Calls.limit «shadow_rate» «shadow_burst»)) reading
-        «cluster_size» r
+        «cluster_size» (now (answer .entry)) r
         (now (limiter .exit)) (atExit keys hot shadows) (now (answer .exit))
         ⌝ }
 {

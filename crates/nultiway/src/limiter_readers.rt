@@ -28,7 +28,7 @@ pub extern "C" fn nultiway_new_key_quota(
 ) -> u8
     ensures { λ r. ⌜
         Calls.NewKeyQuota (now (limiter .entry)) (atEntry keys hot shadows)
-        (now (answer .entry)) (Calls.limit rate burst) «cluster_size» r (now (answer .exit))
+        (Calls.limit rate burst) «cluster_size» (now (answer .entry)) r (now (answer .exit))
         ⌝ }
 {
     let room = 2 <= answer.len();
@@ -56,8 +56,8 @@ pub extern "C" fn nultiway_new_key_factor(
     answer: &mut [u64],
 ) -> u8
     ensures { λ r. ⌜
-        Calls.NewKeyFactor (now (limiter .entry)) (atEntry keys hot shadows)
-        (now (answer .entry)) «cluster_size» r (now (answer .exit))
+        Calls.NewKeyFactor (now (limiter .entry)) (atEntry keys hot shadows) «cluster_size»
+        (now (answer .entry)) r (now (answer .exit))
         ⌝ }
 {
     let room = 1 <= answer.len();
@@ -82,8 +82,8 @@ pub extern "C" fn nultiway_key_rates(
     answer: &mut [u64],
 ) -> u8
     ensures { λ r. ⌜
-        Calls.Rates (now (limiter .entry)) (atEntry keys hot shadows) (now (answer .entry)) key
-        r (now (answer .exit))
+        Calls.LimiterKeyRates (now (limiter .entry)) (atEntry keys hot shadows) key
+        (now (answer .entry)) r (now (answer .exit))
         ⌝ }
 {
     let room = 4 <= answer.len();
@@ -106,8 +106,8 @@ pub extern "C" fn nultiway_quota(
     answer: &mut [u64],
 ) -> u8
     ensures { λ r. ⌜
-        Calls.KeyQuota (now (limiter .entry)) (atEntry keys hot shadows) (now (answer .entry))
-        key r (now (answer .exit))
+        Calls.LimiterQuota (now (limiter .entry)) (atEntry keys hot shadows) key
+        (now (answer .entry)) r (now (answer .exit))
         ⌝ }
 {
     let room = 3 <= answer.len();
@@ -130,8 +130,8 @@ pub extern "C" fn nultiway_limit(
     answer: &mut [u64],
 ) -> u8
     ensures { λ r. ⌜
-        Calls.KeyLimit (now (limiter .entry)) (atEntry keys hot shadows) (now (answer .entry))
-        key r (now (answer .exit))
+        Calls.LimiterLimit (now (limiter .entry)) (atEntry keys hot shadows) key
+        (now (answer .entry)) r (now (answer .exit))
         ⌝ }
 {
     let room = 3 <= answer.len();
@@ -153,8 +153,8 @@ pub extern "C" fn nultiway_config(
     answer: &mut [u64],
 ) -> u8
     ensures { λ r. ⌜
-        Calls.Settings (now (limiter .entry)) (atEntry keys hot shadows) (now (answer .entry))
-        r (now (answer .exit))
+        Calls.LimiterConfig (now (limiter .entry)) (atEntry keys hot shadows)
+        (now (answer .entry)) r (now (answer .exit))
         ⌝ }
 {
     let room = 9 <= answer.len();
@@ -177,8 +177,8 @@ pub extern "C" fn nultiway_hot_since(
     answer: &mut [u64],
 ) -> u8
     ensures { λ r. ⌜
-        Calls.HotSince (now (limiter .entry)) (atEntry keys hot shadows) (now (answer .entry))
-        key r (now (answer .exit))
+        Calls.HotSince (now (limiter .entry)) (atEntry keys hot shadows) key
+        (now (answer .entry)) r (now (answer .exit))
         ⌝ }
 {
     let room = 2 <= answer.len();
@@ -201,8 +201,8 @@ pub extern "C" fn nultiway_is_hot(
     answer: &mut [u64],
 ) -> u8
     ensures { λ r. ⌜
-        Calls.IsHot (now (limiter .entry)) (atEntry keys hot shadows) (now (answer .entry)) key
-        r (now (answer .exit))
+        Calls.IsHot (now (limiter .entry)) (atEntry keys hot shadows) key
+        (now (answer .entry)) r (now (answer .exit))
         ⌝ }
 {
     let room = 1 <= answer.len();
@@ -225,8 +225,8 @@ pub extern "C" fn nultiway_tracked(
     answer: &mut [u64],
 ) -> u8
     ensures { λ r. ⌜
-        Calls.IsTracked (now (limiter .entry)) (atEntry keys hot shadows) (now (answer .entry))
-        key r (now (answer .exit))
+        Calls.Tracked (now (limiter .entry)) (atEntry keys hot shadows) key
+        (now (answer .entry)) r (now (answer .exit))
         ⌝ }
 {
     let room = 1 <= answer.len();
@@ -248,8 +248,8 @@ pub extern "C" fn nultiway_hot_keys(
     answer: &mut [u64],
 ) -> u8
     ensures { λ r. ⌜
-        Calls.CountHot (now (limiter .entry)) (atEntry keys hot shadows) (now (answer .entry))
-        r (now (answer .exit))
+        Calls.HotKeys (now (limiter .entry)) (atEntry keys hot shadows)
+        (now (answer .entry)) r (now (answer .exit))
         ⌝ }
 {
     let room = 1 <= answer.len();
@@ -271,8 +271,8 @@ pub extern "C" fn nultiway_tracked_keys(
     answer: &mut [u64],
 ) -> u8
     ensures { λ r. ⌜
-        Calls.CountKeys (now (limiter .entry)) (atEntry keys hot shadows) (now (answer .entry))
-        r (now (answer .exit))
+        Calls.TrackedKeys (now (limiter .entry)) (atEntry keys hot shadows)
+        (now (answer .entry)) r (now (answer .exit))
         ⌝ }
 {
     let room = 1 <= answer.len();

@@ -16,7 +16,7 @@ pub const STEP_WORDS: usize = 3;
 // Makes the quota of a whole number of requests a second: interval and burst.
 #[no_mangle]
 pub extern "C" fn nultiway_quota_new(rate: u32, burst: u32, answer: &mut [u64]) -> u8
-    ensures { λ r. ⌜ Calls.NewQuota rate burst (now (answer .entry)) r (now (answer .exit)) ⌝ }
+    ensures { λ r. ⌜ Calls.QuotaNew rate burst (now (answer .entry)) r (now (answer .exit)) ⌝ }
 {
     if answer.len() < QUOTA_WORDS {
         return 1;
@@ -41,7 +41,7 @@ pub extern "C" fn nultiway_quota_per_second(rate: f64, burst: u32, answer: &mut 
 // Reads the quota that a packed word holds: interval and burst.
 #[no_mangle]
 pub extern "C" fn nultiway_quota_unpack(word: u64, answer: &mut [u64]) -> u8
-    ensures { λ r. ⌜ Calls.UnpackQuota word (now (answer .entry)) r (now (answer .exit)) ⌝ }
+    ensures { λ r. ⌜ Calls.QuotaUnpack word (now (answer .entry)) r (now (answer .exit)) ⌝ }
 {
     if answer.len() < QUOTA_WORDS {
         return 1;
@@ -53,7 +53,7 @@ pub extern "C" fn nultiway_quota_unpack(word: u64, answer: &mut [u64]) -> u8
 #[no_mangle]
 pub extern "C" fn nultiway_quota_pack(interval: u64, burst: u32, answer: &mut [u64]) -> u8
     ensures { λ r. ⌜
-        Calls.PackQuota (record { interval = interval; burst = burst }) (now (answer .entry)) r
+        Calls.QuotaPack (record { interval = interval; burst = burst }) (now (answer .entry)) r
         (now (answer .exit))
         ⌝ }
 {
@@ -68,8 +68,8 @@ pub extern "C" fn nultiway_quota_pack(interval: u64, burst: u32, answer: &mut [u
 #[no_mangle]
 pub extern "C" fn nultiway_quota_rate_per_sec(interval: u64, burst: u32, answer: &mut [u64]) -> u8
     ensures { λ r. ⌜
-        Calls.QuotaRate (record { interval = interval; burst = burst }) (now (answer .entry)) r
-        (now (answer .exit))
+        Calls.QuotaRatePerSec (record { interval = interval; burst = burst })
+        (now (answer .entry)) r (now (answer .exit))
         ⌝ }
 {
     if answer.len() < 1 {
@@ -103,7 +103,7 @@ pub extern "C" fn nultiway_quota_ceiling(
 #[no_mangle]
 pub extern "C" fn nultiway_step(tat: u64, packed: u64, reading: u64, answer: &mut [u64]) -> u8
     ensures { λ r. ⌜
-        Calls.StepAlone tat packed reading (now (answer .entry)) r (now (answer .exit))
+        Calls.Step tat packed reading (now (answer .entry)) r (now (answer .exit))
         ⌝ }
 {
     if answer.len() < STEP_WORDS {

@@ -43,7 +43,7 @@ pub extern "C" fn nultiway_peers_get(
     answer: &mut [u64],
 ) -> u8
     ensures { λ r. ⌜
-        Calls.Get (atEntry «peer_table» «snapshot_keys» contested) peer key (now (peers .entry))
+        Calls.Get (now (peers .entry)) (atEntry «peer_table» «snapshot_keys» contested) peer key
         (now (answer .entry)) r (now (answer .exit))
         ⌝ }
 {
@@ -66,7 +66,7 @@ pub extern "C" fn nultiway_peers_total(
     answer: &mut [u64],
 ) -> u8
     ensures { λ r. ⌜
-        Calls.Total (atEntry «peer_table» «snapshot_keys» contested) key (now (peers .entry))
+        Calls.Total (now (peers .entry)) (atEntry «peer_table» «snapshot_keys» contested) key
         (now (answer .entry)) r (now (answer .exit))
         ⌝ }
 {
@@ -88,7 +88,7 @@ pub extern "C" fn nultiway_peers_hot_elsewhere(
     answer: &mut [u64],
 ) -> u8
     ensures { λ r. ⌜
-        Calls.HotElsewhere (atEntry «peer_table» «snapshot_keys» contested) key (now (peers .entry))
+        Calls.HotElsewhere (now (peers .entry)) (atEntry «peer_table» «snapshot_keys» contested) key
         (now (answer .entry)) r (now (answer .exit))
         ⌝ }
 {
@@ -112,7 +112,7 @@ pub extern "C" fn nultiway_peers_len(
     answer: &mut [u64],
 ) -> u8
     ensures { λ r. ⌜
-        Calls.Len (atEntry «peer_table» «snapshot_keys» contested) (now (peers .entry))
+        Calls.Len (now (peers .entry)) (atEntry «peer_table» «snapshot_keys» contested)
         (now (answer .entry)) r (now (answer .exit))
         ⌝ }
 {
@@ -133,7 +133,7 @@ pub extern "C" fn nultiway_peers_is_empty(
     answer: &mut [u64],
 ) -> u8
     ensures { λ r. ⌜
-        Calls.IsEmpty (atEntry «peer_table» «snapshot_keys» contested) (now (peers .entry))
+        Calls.IsEmpty (now (peers .entry)) (atEntry «peer_table» «snapshot_keys» contested)
         (now (answer .entry)) r (now (answer .exit))
         ⌝ }
 {
@@ -158,7 +158,7 @@ pub extern "C" fn nultiway_peers_total_of_each(
     out: &mut [f64],
 ) -> u8
     ensures { λ r. ⌜
-        Calls.TotalOfEach (atEntry «peer_table» «snapshot_keys» contested) (now (peers .entry))
+        Calls.TotalOfEach (now (peers .entry)) (atEntry «peer_table» «snapshot_keys» contested)
         (now (keys .entry)) width count (now (out .entry)) r (now (out .exit))
         ⌝ }
 {
@@ -185,8 +185,9 @@ pub extern "C" fn nultiway_peers_hot_elsewhere_of_each(
     out: &mut [bool],
 ) -> u8
     ensures { λ r. ⌜
-        Calls.HotElsewhereOfEach (atEntry «peer_table» «snapshot_keys» contested)
-        (now (peers .entry)) (now (keys .entry)) width count (now (out .entry)) r (now (out .exit))
+        Calls.HotElsewhereOfEach (now (peers .entry))
+        (atEntry «peer_table» «snapshot_keys» contested) (now (keys .entry)) width count
+        (now (out .entry)) r (now (out .exit))
         ⌝ }
 {
     if peers.len() < PEERS_WORDS {

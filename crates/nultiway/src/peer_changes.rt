@@ -130,8 +130,8 @@ pub extern "C" fn nultiway_peers_apply(
 ) -> u8
     ensures { λ r. ⌜
         Calls.Apply (now (peers .entry)) (atEntry «peer_table» «snapshot_keys» contested) from
-        (Calls.reportOf origin epoch round (now (report .entry)) count) (now (report .entry))
-        reading r (now (peers .exit)) (atExit «peer_table» «snapshot_keys» contested)
+        origin epoch round (now (report .entry)) count reading r
+        (now (peers .exit)) (atExit «peer_table» «snapshot_keys» contested)
         ⌝ }
 {
     let room = peers_have_room(

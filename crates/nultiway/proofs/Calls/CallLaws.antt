@@ -13,8 +13,8 @@ use Rattle.questions.proofs.Tests.{split, contradiction, both}
 use Rattle.records.specs.Words.{paste}
 use Rattle.gcra.specs.declared.Decision.{Decision}
 use Rattle.gcra.specs.declared.Decision.the-variants.{Allow, Deny}
-use Rattle.questions.specs.Questions.{Question, Answer, given, passes, firstNo}
-use Rattle.questions.proofs.Answers.{passed-none, none-passed}
+use Rattle.questions.specs.Questions.{Question, Answer, given, answer, passes, firstNo}
+use Rattle.questions.proofs.Answers.{Numbered, answer-passed, passed-none, none-passed}
 use Rattle.limiter.specs.declared.Limit.{Limit}
 use Rattle.limiter.specs.State.{Lengths, haveRoom}
 use Rattle.nultiway.specs.Values.{limiterOf, isLimiter, limiterAsked, roomAsked}
@@ -64,8 +64,30 @@ pub room-passed : (room : Bool) → room ≡ true → passes (roomAsked room) �
 unfolding passes
 room-passed room e = rw e
 
+-- and what it says
+pub room-told : (room : Bool) → passes (roomAsked room) ≡ true → room ≡ true
+unfolding passes
+room-told room e = both room true e .0
+
 pub one : _≡_ {A = ℕ} 1 0 → ⊥
 one e = omega arith
+
+-- ---- the number of an answer
+
+-- is that of the first 'no'
+pub number-first : {A : Type 0} (qs : List Question) (a : A) → numberOf (answer qs a) ≡ firstNo qs
+unfolding answer firstNo
+number-first [] a = refl
+number-first (q ∷ qs) a = split (q .passed) (λ e. rw e (number-first qs a)) (λ e. rw e)
+
+-- 0 says that the call's own questions are passed
+pub zero-passed : (qs : List Question) {U X : Type 0} → Numbered qs → Called qs 0 U X → (passes qs ≡ true) × X
+zero-passed qs nums c =
+    split (passes qs) (λ p. (p, c .answered p)) (λ p. contradiction (sym (passed-none qs 0 nums (c .refused p .0) refl) ∙ p))
+
+-- and that an answer is a value
+pub zero-given : {A : Type 0} (a : A) (qs : List Question) (x : Answer A) → Numbered qs → x ≡ answer qs a → 0 ≡ numberOf x → x ≡ given a
+zero-given a qs x nums e n = e ∙ sym (answer-passed a qs (passed-none qs 0 nums (n ∙ ap numberOf e ∙ number-first qs a) refl))
 
 -- ---- an answer
 

@@ -6,18 +6,21 @@ use mathlib.Core.List.{List}
 use lib.Dec.{leb}
 use lib.ListN.{length}
 use Rattle.nultiway.specs.Values.{roomAsked}
-use Rattle.nultiway.specs.DemandCalls.{demandAsked, NewDemand, DemandStartingAt, RecordAttempts, TickDemand}
+use Rattle.nultiway.specs.DemandCalls.{demandAsked, DemandNew, DemandStartingAt, DemandRecordAttempt, DemandRecordAttempts, DemandTick}
 use Rattle.nultiway.proofs.Refusals.RefusalLaws.{tells-unmoved}
 
 module _ (ws : List ℕ) (r : ℕ) (ws′ : List ℕ) (h : r ≡ 0 → ⊥) where
-  pub new-demand-unmoved : (c : ℕ) → NewDemand c ws r ws′ → ws′ ≡ ws
-  new-demand-unmoved c x = tells-unmoved (roomAsked (leb 6 (length ws))) ws ws′ r x h
+  pub demand-new-unmoved : (c : ℕ) → DemandNew ws c r ws′ → ws′ ≡ ws
+  demand-new-unmoved c x = tells-unmoved (roomAsked (leb 6 (length ws))) ws ws′ r x h
 
-  pub demand-starting-at-unmoved : (c now : ℕ) → DemandStartingAt c now ws r ws′ → ws′ ≡ ws
+  pub demand-starting-at-unmoved : (c now : ℕ) → DemandStartingAt ws c now r ws′ → ws′ ≡ ws
   demand-starting-at-unmoved c now x = tells-unmoved (roomAsked (leb 6 (length ws))) ws ws′ r x h
 
-  pub record-attempts-unmoved : (n : ℕ) → RecordAttempts ws n r ws′ → ws′ ≡ ws
-  record-attempts-unmoved n x = tells-unmoved (demandAsked ws true) ws ws′ r x h
+  pub demand-record-attempt-unmoved : DemandRecordAttempt ws r ws′ → ws′ ≡ ws
+  demand-record-attempt-unmoved x = tells-unmoved (demandAsked ws true) ws ws′ r x h
 
-  pub tick-demand-unmoved : (now : ℕ) → TickDemand ws now r ws′ → ws′ ≡ ws
-  tick-demand-unmoved now x = tells-unmoved (demandAsked ws true) ws ws′ r x h
+  pub demand-record-attempts-unmoved : (n : ℕ) → DemandRecordAttempts ws n r ws′ → ws′ ≡ ws
+  demand-record-attempts-unmoved n x = tells-unmoved (demandAsked ws true) ws ws′ r x h
+
+  pub demand-tick-unmoved : (now : ℕ) → DemandTick ws now r ws′ → ws′ ≡ ws
+  demand-tick-unmoved now x = tells-unmoved (demandAsked ws true) ws ws′ r x h

@@ -17,7 +17,6 @@ use Rattle.questions.proofs.Tests.{both}
 use Rattle.peers.specs.declared.peer_demand.PeerDemand.{PeerDemand}
 use Rattle.peers.specs.declared.peer_demand.ChangeAnswer.{ChangeAnswer}
 use Rattle.peers.specs.declared.peer_demand.PeersChanged.{PeersChanged}
-use Rattle.peers.specs.declared.peer_demand.DemandReport.{DemandReport}
 use Rattle.peers.specs.Peers.State as peer-state
 use Rattle.peers.specs.Peers.State.{PeersState, PeerTables}
 use Rattle.demand.specs.Answers.{lenAnswer}
@@ -28,7 +27,7 @@ use Rattle.image.specs.Calls as image-calls
 use Rattle.image.specs.Reader.{stateRead}
 use Rattle.nultiway.specs.Values.{limiterOf, limiterAsked, peersWords, peersOf, peersRoom, roomAsked}
 use Rattle.nultiway.specs.Calls.{numberOf, decisionWords, oneWord}
-use Rattle.nultiway.specs.LoneCalls.{gcraWords, gcraOf, gcraAsked, CheckGcra, SetQuota}
+use Rattle.nultiway.specs.LoneCalls.{gcraWords, gcraOf, gcraAsked, GcraCheck, GcraSetQuota}
 use Rattle.nultiway.specs.ImageCalls.{loadedLimiter, loadedPeers, Save, Load}
 use Rattle.nultiway.specs.PeerCalls.{peersAsked, reportAsked, Apply, Forget, Leave, Expire, TotalOfEach, HotElsewhereOfEach}
 use Rattle.nultiway.proofs.Words.ValueLaws.{peers-back}
@@ -51,8 +50,8 @@ gcra-words-kept ws ws′ room g p e w =
     w ∙ ap (λ (x : Gcra). paste 0 (gcraWords x) ws) e ∙ gcra-kept ws (q .long) (q .gcra)
 
 module _ (ws : List ℕ) (r : ℕ) (ws′ : List ℕ) (h : r ≡ 0 → ⊥) where
-  pub check-gcra-unmoved : (out out′ : List ℕ) (now : ℕ) → CheckGcra ws out now r ws′ out′ → (ws′ ≡ ws) × (out′ ≡ out)
-  check-gcra-unmoved out out′ now c =
+  pub gcra-check-unmoved : (now : ℕ) (out out′ : List ℕ) → GcraCheck ws now out r ws′ out′ → (ws′ ≡ ws) × (out′ ≡ out)
+  gcra-check-unmoved now out out′ c =
       answered-or-not (gcraAsked ws (leb 2 (length out))) r c
       (λ p a.
       let x = a .result in
@@ -63,8 +62,8 @@ module _ (ws : List ℕ) (r : ℕ) (ws′ : List ℕ) (h : r ≡ 0 → ⊥) wher
         no-words (gcra.checkAnswer (x .answer)) decisionWords out out′ (λ z. h (a .number ∙ z)) (a .answer),
       ))
 
-  pub set-quota-unmoved : (q : Quota) (now : ℕ) → SetQuota ws q now r ws′ → ws′ ≡ ws
-  set-quota-unmoved q now c =
+  pub gcra-set-quota-unmoved : (q : Quota) (now : ℕ) → GcraSetQuota ws q now r ws′ → ws′ ≡ ws
+  gcra-set-quota-unmoved q now c =
       answered-or-not (gcraAsked ws true) r c
       (λ p a.
       let x = a .result in
@@ -129,12 +128,15 @@ unfolding passes
 three ps p = leb-true 3 (length ps) (both (leb 3 (length ps)) true p .0)
 
 module _ (ps : List ℕ) (t : PeerTables) (r : ℕ) (ps′ : List ℕ) (t′ : PeerTables) (h : r ≡ 0 → ⊥) where
-  pub apply-unmoved : (peer : ℕ) (report : DemandReport) (ws : List ℕ) (now : ℕ) → Apply ps t peer report ws now r ps′ t′ → (ps′ ≡ ps) × (t′ ≡ t)
-  apply-unmoved peer report ws now c =
-      answered-or-not (reportAsked (peersRoom (length ps) (peer-state.lengths t)) ws (report .count)) r c
+  pub apply-unmoved :
+      (peer origin epoch round : ℕ) (ws : List ℕ) (count now : ℕ)
+      → Apply ps t peer origin epoch round ws count now r ps′ t′
+      → (ps′ ≡ ps) × (t′ ≡ t)
+  apply-unmoved peer origin epoch round ws count now c =
+      answered-or-not (reportAsked (peersRoom (length ps) (peer-state.lengths t)) ws count) r c
       (λ p a.
       let room : Bool = peersRoom (length ps) (peer-state.lengths t) in
-      let l = peers-three (length ps) (peer-state.lengths t) (report-all room ws (report .count) p .others) in
+      let l = peers-three (length ps) (peer-state.lengths t) (report-all room ws count p .others) in
       change-unmoved ps t r ps′ t′ _ _ (a .result) h l (a .kept) (a .number) (a .value))
 
   pub forget-unmoved : (peer : ℕ) → Forget ps t peer r ps′ t′ → (ps′ ≡ ps) × (t′ ≡ t)
@@ -150,7 +152,7 @@ module _ (ps : List ℕ) (t : PeerTables) (r : ℕ) (ps′ : List ℕ) (t′ : P
       answered-or-not (peersAsked ps) r c (λ p a. change-unmoved ps t r ps′ t′ _ _ (a .result) h (three ps p) (a .kept) (a .number) (a .value))
 
 -- of many keys
-module _ (t : PeerTables) (ps keys : List ℕ) (width count : ℕ) (r : ℕ) (h : r ≡ 0 → ⊥) where
+module _ (ps : List ℕ) (t : PeerTables) (keys : List ℕ) (width count : ℕ) (r : ℕ) (h : r ≡ 0 → ⊥) where
   each-unmoved :
       {A : Type 0} (tell : ℕ → PeersState → A) (out out′ : List A) (x : ChangeAnswer)
       → demand.TellsEach tell (peersOf ps) t width count keys out x out′
@@ -160,10 +162,10 @@ module _ (t : PeerTables) (ps keys : List ℕ) (width count : ℕ) (r : ℕ) (h 
       let qs : List Question = demand.eachQuestions (peersOf ps) t (length keys) width count (length out) in
       kept qs _ _ out′ (k .output) (not-all tt qs (demand.changeAnswer x) (k .answered) (λ z. h (e ∙ z)))
 
-  pub total-of-each-unmoved : (out out′ : List Float) → TotalOfEach t ps keys width count out r out′ → out′ ≡ out
+  pub total-of-each-unmoved : (out out′ : List Float) → TotalOfEach ps t keys width count out r out′ → out′ ≡ out
   total-of-each-unmoved out out′ c =
       answered-or-not (peersAsked ps) r c (λ p a. each-unmoved _ out out′ (a .result) (a .kept) (a .number))
 
-  pub hot-elsewhere-of-each-unmoved : (out out′ : List Bool) → HotElsewhereOfEach t ps keys width count out r out′ → out′ ≡ out
+  pub hot-elsewhere-of-each-unmoved : (out out′ : List Bool) → HotElsewhereOfEach ps t keys width count out r out′ → out′ ≡ out
   hot-elsewhere-of-each-unmoved out out′ c =
       answered-or-not (peersAsked ps) r c (λ p a. each-unmoved _ out out′ (a .result) (a .kept) (a .number))

@@ -189,19 +189,19 @@ module _ (ws : List ℕ) (t : LimiterTables) (r : ℕ) (ws′ : List ℕ) (h : r
           let u = acts-unmoved ws ws′ (lengths t) (fits (length list) 2 count) r p h (a .kept .acts) (a .number) (a .value) in
           (u .1, u .2, kept (eachAsked (limiterOf ws) t list count n out) _ _ out′ (a .kept .output) (u .0)))
 
-      pub check-unmoved : (key now n : ℕ) → Check ws t out key now n r ws′ t′ out′ → (ws′ ≡ ws) × (t′ ≡ t) × (out′ ≡ out)
+      pub check-unmoved : (key now n : ℕ) → Check ws t key now n out r ws′ t′ out′ → (ws′ ≡ ws) × (t′ ≡ t) × (out′ ≡ out)
       check-unmoved key now n c =
           answered-or-not (limiterAsked ws (lengths t) (leb 2 (length out))) r c
           (λ p a. answers-unmoved ws ws′ (lengths t) (leb 2 (length out)) r p h decisionWords out out′ (a .kept) (a .number) (a .value) (a .answer))
 
-      pub check-in-unmoved : (key : ℕ) (k : Limit) (now n : ℕ) → CheckIn ws t out key k now n r ws′ t′ out′ → (ws′ ≡ ws) × (t′ ≡ t) × (out′ ≡ out)
+      pub check-in-unmoved : (key : ℕ) (k : Limit) (now n : ℕ) → CheckIn ws t key k now n out r ws′ t′ out′ → (ws′ ≡ ws) × (t′ ≡ t) × (out′ ≡ out)
       check-in-unmoved key k now n c =
           answered-or-not (limiterAsked ws (lengths t) (leb 2 (length out))) r c
           (λ p a. answers-unmoved ws ws′ (lengths t) (leb 2 (length out)) r p h decisionWords out out′ (a .kept) (a .number) (a .value) (a .answer))
 
       pub check-in-traced-unmoved :
           (key : ℕ) (k : Limit) (shadow : Option Limit) (now n : ℕ)
-          → CheckInTraced ws t out key k shadow now n r ws′ t′ out′
+          → CheckInTraced ws t key k shadow now n out r ws′ t′ out′
           → (ws′ ≡ ws) × (t′ ≡ t) × (out′ ≡ out)
       check-in-traced-unmoved key k shadow now n c =
           answered-or-not (limiterAsked ws (lengths t) (leb 5 (length out))) r c

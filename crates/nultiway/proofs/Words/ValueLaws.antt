@@ -13,7 +13,7 @@ use lib.ListN.{length, take, drop, getD, length-append, take-append-drop, drop-o
 use lib.Seq.{length-take-le, take-at}
 use Rattle.records.specs.Words.{paste}
 use Rattle.records.specs.Records.{records, flat, table, fits, splice, overwriteAt, removable, overwritable, overwritten}
-use Rattle.questions.proofs.Tests.{and-intro, eqb-self}
+use Rattle.questions.proofs.Tests.{both, and-intro, eqb-self}
 use Rattle.records.proofs.Order.OrderLaws.{same-eq, eq-same}
 use Rattle.peers.specs.declared.peer_demand.PeerDemand.{PeerDemand}
 use Rattle.records.specs.Fields.{timeOf, timeWords}
@@ -23,7 +23,11 @@ use Rattle.limiter.specs.declared.Cap.{Cap}
 use Rattle.limiter.specs.declared.LastTick.{LastTick}
 use Rattle.limiter.specs.declared.Limiter.{Limiter}
 use Rattle.limiter.specs.State.{settingsWords, settingsOf, isF64, capFits, capWords, capOf, lastTickOf, capFrom, lastTickFrom}
+use Rattle.limiter.specs.State.{LimiterTables, validCap, stateOf, valid, unitsOf, unitsIn}
 use Rattle.limiter.proofs.Checking.LiftLaws.{cap-forth, tick-forth}
+use Rattle.limiter.proofs.States.RecordValidLaws.{limit-rate, limit-burst}
+use Rattle.limiter.proofs.States.StateValidLaws.{valid-says}
+use Rattle.image.proofs.Loading.JudgeLaws.{small-burst}
 use Rattle.image.specs.Reader as reader
 use Rattle.image.specs.LoadSteps.{configFrom}
 use Rattle.image.proofs.Reading.StateWordLaws.{float-of-word, settings-long}
@@ -114,6 +118,23 @@ pub record Typed (l : Limiter) : Type 0 where
   pub alpha : isF64 (l .config .alpha) ≡ true
   pub floor : isF64 (l .config .«floor_factor») ≡ true
   pub cap : capFits (capOf (l .cap)) ≡ true
+
+cap-fits : (x : Option Float) → validCap x ≡ true → capFits x ≡ true
+cap-fits none e = refl
+cap-fits (some x) e = both (isF64 x) _ e .0
+
+-- a limiter that is valid with its tables is of its types
+pub valid-typed : (l : Limiter) (t : LimiterTables) → let x = stateOf (unitsIn l) l t in valid (unitsOf (x .settings)) x ≡ true → Typed l
+unfolding stateOf
+valid-typed l t v =
+    let g = valid-says (unitsIn l) (stateOf (unitsIn l) l t) v .settings in
+    record {
+      rate = limit-rate (l .config .limit) (g .config .limit);
+      burst = small-burst (l .config .limit .burst) (limit-burst (l .config .limit) (g .config .limit));
+      alpha = both (isF64 (l .config .alpha)) _ (g .config .alpha) .0;
+      floor = both (isF64 (l .config .«floor_factor»)) _ (g .config .floor) .0;
+      cap = cap-fits (capOf (l .cap)) (g .cap);
+    }
 
 by-cap :
     (g : Config) (x : Option Float) (t : Option ℕ) (a b c : ℕ) (rest : List ℕ)

@@ -2,7 +2,7 @@
 -- `Witness` has the run.
 use Prim.Native.Nat.{ℕ}
 use mathlib.Core.Path.{_≡_, refl}
-use mathlib.Core.List.{List, [], _∷_}
+use mathlib.Core.List.{List, [], _∷_, map}
 use native.Mathlib.Omega.{arith}
 use lib.Ieee.{binary64, span, climb, size as ieee-size, odd, units as ieee-units, round as ieee-round, neg, sum as ieee-sum, add, sub, mul, div, lt}
 use lib.Ieee.{eq, le, ne, ofInt, toUnsigned, whole, inUnsigned, fits, isNan, ofFields, ofBits, toBits}
@@ -57,22 +57,25 @@ settings =
 abbrev pub enough : Lent
 enough = record { limiter = record { keys = 22; hot = 6; shadows = 4 }; peers = record { peers = 384; snapshotKeys = 8192; contested = 49152 } }
 
-abbrev pub calls : Change → Move
+abbrev calls : Change → Move
 calls x = Move.call (record { lent = enough; what = What.changes x })
 
 abbrev pub tally-nothing : Change
 tally-nothing = Change.tally 1 (record { attempts = 0; denials = 0; «shadow_denials» = 0 }) slower 576460752303999999 1
 
-unfoldable pub moves : List Move
-moves =
-    calls (Change.check 1 0 1)
-    ∷ calls (Change.check 1 0 1)
-    ∷ calls (Change.check 1 0 1)
-    ∷ calls tally-nothing
-    ∷ calls (Change.tick 576460752303999999 1)
-    ∷ calls (Change.check-in 1 slower 1152921504608999998 1)
-    ∷ calls (Change.check-in 1 slower 1152921504608999998 1)
+abbrev pub changes : List Change
+changes =
+    Change.check 1 0 1
+    ∷ Change.check 1 0 1
+    ∷ Change.check 1 0 1
+    ∷ tally-nothing
+    ∷ Change.tick 576460752303999999 1
+    ∷ Change.check-in 1 slower 1152921504608999998 1
+    ∷ Change.check-in 1 slower 1152921504608999998 1
     ∷ []
+
+unfoldable pub moves : List Move
+moves = map calls changes
 
 -- what a run of them that showed xs shows of the key
 abbrev pub seen-of-key : List Shown → List Seen

@@ -147,10 +147,14 @@ made-config (Change.forget peer) s = refl
 made-config (Change.leave peer now hold) s = refl
 made-config (Change.expire now maxAge) s = refl
 
+-- Whatever its questions.
+pub config-stays : (n : Lent) (w : What) (s : State) → trace.after n w s .limiter .settings .config ≡ s .limiter .settings .config
+config-stays n (What.changes x) s = split (passes (asked n x s)) (λ p. rw p (made-config x s)) (λ p. rw p)
+config-stays n (What.reads x) s = refl
+
 -- So the units stay.
 units-stay : (n : Lent) (w : What) (s : State) → unitsIn (trace.after n w s) ≡ unitsIn s
-units-stay n (What.changes x) s = split (passes (asked n x s)) (λ p. rw p (ap unitsFor (made-config x s))) (λ p. rw p)
-units-stay n (What.reads x) s = refl
+units-stay n w s = ap unitsFor (config-stays n w s)
 
 module _ (key : ℕ) where
   abbrev meterOf : State → Option Gcra

@@ -27,17 +27,17 @@ use Rattle.run.proofs.Count.Tight.{settings, enough, moves, Reached, re
 
 -- ---- the tables that are held: zeros, as many words as are lent
 
-zeros : ℕ → List ℕ
+pub zeros : ℕ → List ℕ
 zeros n = replicate n 0
 
-length-zeros : (n : ℕ) → length (zeros n) ≡ n
+pub length-zeros : (n : ℕ) → length (zeros n) ≡ n
 unfolding zeros
 length-zeros n = length-replicate n 0
 
-abbrev held : LimiterTables
+abbrev pub held : LimiterTables
 held = record { keys = zeros (enough .limiter .keys); hot = zeros (enough .limiter .hot); shadows = zeros (enough .limiter .shadows) }
 
-abbrev heldPeers : PeerTables
+abbrev pub heldPeers : PeerTables
 heldPeers =
     record {
       peers = zeros (enough .peers .peers);
@@ -48,7 +48,7 @@ heldPeers =
 abbrev begin : Memory
 begin = begun settings held heldPeers
 
-held-long : lentBy begin ≡ enough
+pub held-long : lentBy begin ≡ enough
 unfolding peer-state.lengths
 held-long =
     (λ i. record {
@@ -67,17 +67,17 @@ held-long =
     })
 
 -- they pass the questions of `new`
-limiter-passes : passes (newQuestions settings held) ≡ true
+pub limiter-passes : passes (newQuestions settings held) ≡ true
 unfolding passes within isRate isAlpha isFloorFactor areSizes ofInt ofBits le
 limiter-passes = and-intro (haveRoom settings (lengths held)) _ (ap (λ (n : Lent). haveRoom settings (n .limiter)) held-long) refl
 
-peers-pass : passes (peers.newQuestions heldPeers) ≡ true
+pub peers-pass : passes (peers.newQuestions heldPeers) ≡ true
 unfolding passes peer-state.haveRoom
 peers-pass = and-intro (peer-state.haveRoom (peer-state.lengths heldPeers)) _ (ap (λ (n : Lent). peer-state.haveRoom (n .peers)) held-long) refl
 
 -- ---- the calls
 
-settings-typed : typedConfig settings ≡ true
+pub settings-typed : typedConfig settings ≡ true
 unfolding fits ofBits
 settings-typed = refl
 
@@ -85,7 +85,7 @@ moves-typed : all typedMove moves ≡ true
 unfolding moves all typed fits ofBits
 moves-typed = refl
 
-within-itself : (n : Lent) → Within n n
+pub within-itself : (n : Lent) → Within n n
 within-itself n =
     record {
       keys = le-refl (n .limiter .keys);

@@ -31,7 +31,7 @@ AllWithin have (Move.call c ∷ ms) = Within (c .lent) have × AllWithin have ms
 AllWithin have (Move.resume w ∷ ms) = AllWithin have ms
 
 -- so there are as many words as it is lent
-within-enough : (n : Lent) (h : Memory) → Within n (lentBy h) → lentBy (lend n h) ≡ n
+pub within-enough : (n : Lent) (h : Memory) → Within n (lentBy h) → lentBy (lend n h) ≡ n
 unfolding peer-state.lengths
 within-enough n h w =
     (λ i. record {

@@ -78,7 +78,7 @@ written-stands y t v =
     }
 
 -- in tables as long
-written-long : (y : LimiterState) (t : LimiterTables) → Lasting y t → lengths (limiter-state.written (unitsOf (y .settings)) y t) ≡ lengths t
+pub written-long : (y : LimiterState) (t : LimiterTables) → Lasting y t → lengths (limiter-state.written (unitsOf (y .settings)) y t) ≡ lengths t
 written-long y t k = lengths-written (unitsOf (y .settings)) (units-of-accepted (y .settings)) y t (k .valid) (k .room)
 
 module _ {A : Type 0} {said : Answer A} {qs : List Question} {value : A} {y : LimiterState} {l l′ : Limiter} {t t′ : LimiterTables} where
@@ -175,7 +175,7 @@ pub record PeersLasting (y : PeersState) (t : PeerTables) : Type 0 where
   pub room : peer-state.haveRoom (peer-state.lengths t) ≡ true
 
 -- it is written in tables as long
-peers-written-long : (y : PeersState) (t : PeerTables) → PeersLasting y t → peer-state.lengths (peer-state.written y t) ≡ peer-state.lengths t
+pub peers-written-long : (y : PeersState) (t : PeerTables) → PeersLasting y t → peer-state.lengths (peer-state.written y t) ≡ peer-state.lengths t
 unfolding peer-state.lengths
 peers-written-long y t k =
     let v = peers-kept.valid-says y (k .valid) in

@@ -7,6 +7,8 @@ use lib.ListN.{length, take, drop}
 use Rattle.questions.proofs.Tests.{both, and-intro}
 use Rattle.demand.specs.declared.answers.LenAnswer.the-variants as len-answer
 use Rattle.questions.specs.Lists.{all}
+use Rattle.questions.specs.Questions.{passes}
+use Rattle.questions.proofs.Answers.{given-passed}
 use Rattle.peers.specs.Peers.State as peer-state
 use Rattle.peers.specs.Peers.State.{PeerTables, newPeers}
 use Rattle.limiter.specs.declared.Config.{Config}
@@ -16,7 +18,7 @@ use Rattle.image.specs.declared.Loaded.{Loaded}
 use Rattle.image.specs.declared.LoadAnswer.{LoadAnswer}
 use Rattle.image.specs.declared.LoadAnswer.the-variants as load-answer
 use Rattle.image.specs.Image.{State, valid, image}
-use Rattle.image.specs.Calls.{here, haveRoom, valuesOf, Loads}
+use Rattle.image.specs.Calls.{here, haveRoom, valuesOf, loadQuestions, Loads}
 use Rattle.image.proofs.Loading.LoadLaws as images
 use Rattle.run.specs.Run.{Memory, Resume, Move, Shown, Resumes, SavesAt, Unbroken, Resumed, lend}
 use Rattle.run.specs.Typed.{typedMove}
@@ -24,7 +26,7 @@ use Rattle.run.specs.Trace.{stateAfter}
 use Rattle.run.specs.Demand3.{Room, Served}
 use Rattle.run.proofs.Standing.Stands.{Stands, same-config}
 use Rattle.run.proofs.Standing.Asked.{both-agree-there}
-use Rattle.run.proofs.Standing.Left.{written-stands, peers-written-stand}
+use Rattle.run.proofs.Standing.Left.{written-stands, written-long, peers-written-stand, peers-written-long}
 use Rattle.run.proofs.Standing.Shows.{same-image, shownBy, run-shows, unbroken-shows}
 
 -- what the program holds after a load
@@ -125,6 +127,24 @@ resumes-stand h h′ s w st (Resumes.saved-and-loaded {t = t} {pt = pt} saves lo
     let z = images.loaded s (stands-valid st) (w .tables) (w .peerTables) (load-of w st saves loads) in
     subst (λ (a : Memory). Stands a s) (sym (λ i. loadedInto (z .0 i) (z .1 i) (z .2 i)))
     (written-state s (w .tables) (w .peerTables) (stands-valid st))
+
+-- and leaves tables with room for it, as long as the load was lent
+pub resumes-roomy :
+    {h h′ : Memory} {s : State} (w : Resume) → Stands h s → Resumes h w h′
+    → (limiter-state.haveRoom (s .limiter .settings .config) (lengths (h′ .tables)) && peer-state.haveRoom (peer-state.lengths (h′ .peerTables))) ≡ true
+unfolding passes
+resumes-roomy {s = s} w st (Resumes.saved-and-loaded saves loads) =
+    let l = load-of w st saves loads in
+    let e = stands-valid st in
+    let z = images.loaded s e (w .tables) (w .peerTables) l in
+    let asked = given-passed (loadQuestions (image s) (w .tables) (w .peerTables)) _ _ (l .answered) .0 in
+    let room =
+    both (limiter-state.haveRoom (s .limiter .settings .config) (lengths (w .tables))) (peer-state.haveRoom (peer-state.lengths (w .peerTables)))
+    (sym (images.room-of-image s e (w .tables) (w .peerTables)) ∙ both (haveRoom (image s) (w .tables) (w .peerTables)) _ asked .0) in
+    let long = ap lengths (z .1) ∙ written-long (s .limiter) (w .tables) (record { valid = st .limiter .valid; room = room .0 }) in
+    let peers-long =
+    ap peer-state.lengths (z .2) ∙ peers-written-long (s .peers) (w .peerTables) (record { valid = st .peers .valid; room = room .1 }) in
+    and-intro _ _ (ap (limiter-state.haveRoom (s .limiter .settings .config)) long ∙ room .0) (ap peer-state.haveRoom peers-long ∙ room .1)
 
 -- the resumed run shows what the definitions do
 pub resumed-shows :
