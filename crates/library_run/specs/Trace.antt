@@ -44,7 +44,8 @@ abbrev pub whatOf : List ℕ → What → What
 whatOf ws (What.changes x) = What.changes (reported ws x)
 whatOf ws (What.reads x) = What.reads x
 
--- whether a change is lent the words that it takes beside tables, list and output: those of its values, of its answer, and of a report's keys
+-- whether a change is lent the words that it takes beside tables, list and output: those of its values, of its answer, and of the keys of a report,
+-- which pass its questions
 module _ (n : Lent) (answer report : List ℕ) where
   abbrev limiterLent : Bool
   limiterLent = leb limiterWidth (n .limiter)
@@ -69,8 +70,8 @@ module _ (n : Lent) (answer report : List ℕ) where
 abbrev pub noTables : run.Lent
 noTables = record { limiter = record { keys = 0; hot = 0; shadows = 0 }; peers = record { peers = 0; snapshotKeys = 0; contested = 0 } }
 
--- Where it is not, the call is `run`'s with no table lent: refused like it by question 1, it leaves the state. Which calls are refused is thus what the
--- definitions say, not what the program answered.
+-- Where it is not, the call is `run`'s with no table lent, which question 1 refuses: it leaves the state. So the calls that are refused are those that
+-- the definitions refuse, whatever the program answered.
 abbrev pub tablesLent : Call → What → run.Lent
 tablesLent c (What.changes x) = cond (wordsLent (c .lent) (c .answer) (c .report) x) (c .lent .tables) noTables
 tablesLent c (What.reads x) = c .lent .tables

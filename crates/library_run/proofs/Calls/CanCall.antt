@@ -1,4 +1,4 @@
--- No run through the library is stuck: a call that is lent no more words than are held says something and leaves words that keep its promise.
+-- No run through the library is stuck: for a call that is lent no more words than there are, there is what it says and leaves by its promise.
 use Prim.Native.Nat.{ℕ}
 use mathlib.Core.Path.{_≡_, refl, sym, _∙_, subst}
 use mathlib.Core.Bool.{true, false}

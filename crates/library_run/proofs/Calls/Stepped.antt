@@ -50,9 +50,33 @@ stands-typed {l} {t} s =
 abbrev pub settings : State → Config
 settings s = s .limiter .settings .config
 
--- the questions that a call's own lent words are asked, of the state
+-- ---- what the definitions say of a call
+
+-- the library's own questions, of the state
 abbrev pub ownIn : Call → What → State → List Question
 ownIn c x s = ownOf (settings s) (c .lent) (c .report) (whatTakes (c .answer) x .needs)
+
+-- what it says, and the state after it, by whether its own questions are passed
+module _ (c : Call) (x : What) (s : State) where
+  abbrev pub saidWhere : (passed : Bool) → Said
+  saidWhere passed =
+      cond passed (saidIn (replied (c .lent .tables) (whatOf (c .report) x) s) (c .answer))
+      (said (firstNo (ownIn c x s)) (c .answer) (whatTakes (c .answer) x .output))
+
+  abbrev pub nextWhere : (passed : Bool) → State
+  nextWhere passed = cond passed (after (c .lent .tables) (whatOf (c .report) x) s) s
+
+abbrev pub saidOf : Call → State → Said
+saidOf c s = saidWhere c (c .what) s (passes (ownIn c (c .what) s))
+
+abbrev pub next : Call → State → State
+next c s = nextWhere c (c .what) s (passes (ownIn c (c .what) s))
+
+-- a call that said z and left b says what is right, and b stands for the state and is as long as what was there before
+pub record Leads (before : Buffers) (z : Said) (b : Buffers) (right : Said) (s : State) : Type 0 where
+  pub says : z ≡ right
+  pub stands : Stands b s
+  pub long : lentBy b ≡ lentBy before
 
 module _ {b : Buffers} {s : State} (c : Call) (enough : lentBy (lend (c .lent) b) ≡ c .lent) (st : Stands b s) where
   abbrev lent : Buffers
@@ -207,85 +231,62 @@ module _ {b : Buffers} {s : State} (c : Call) (enough : lentBy (lend (c .lent) b
       → run.Step (valuesOf b) (record { lent = c .lent .tables; what = x }) r (run.returned m (valuesOf b))
   runStep a = record { enough = run-enough; after = _; acts = a; back = refl }
 
--- ---- a call as a whole
-
--- what the definitions say, and the state after the call, by whether its own questions are passed
-module _ (c : Call) (x : What) (s : State) where
-  abbrev pub saidWhere : (passed : Bool) → Said
-  saidWhere passed =
-      cond passed (saidIn (replied (c .lent .tables) (whatOf (c .report) x) s) (c .answer))
-      (said (firstNo (ownIn c x s)) (c .answer) (whatTakes (c .answer) x .output))
-
-  abbrev pub nextWhere : (passed : Bool) → State
-  nextWhere passed = cond passed (after (c .lent .tables) (whatOf (c .report) x) s) s
-
-abbrev pub saidOf : Call → State → Said
-saidOf c s = saidWhere c (c .what) s (passes (ownIn c (c .what) s))
-
-abbrev pub next : Call → State → State
-next c s = nextWhere c (c .what) s (passes (ownIn c (c .what) s))
-
--- it says what is right, and what it left stands for the state and is as long as it was
-pub record Leads (before : Buffers) (z : Said) (b : Buffers) (right : Said) (s : State) : Type 0 where
-  pub says : z ≡ right
-  pub stands : Stands b s
-  pub long : lentBy b ≡ lentBy before
-
-module _ {b : Buffers} {s : State} (c : Call) (enough : lentBy (lend (c .lent) b) ≡ c .lent) (st : Stands b s) where
-  abbrev part′ : Buffers
-  part′ = lend (c .lent) b
+  -- ---- a call as a whole
 
   abbrev asked : What → List Question
-  asked x = own part′ (c .report) (whatTakes (c .answer) x .needs)
+  asked x = own lent (c .report) (needsOf x)
 
   abbrev LeadsWhere : What → Bool → Said → Buffers → Type 0
   LeadsWhere x passed z b′ = Leads b z (returned b′ b) (saidWhere c x s passed) (nextWhere c x s passed)
 
+  -- a change that its own questions let pass
   changed-leads :
       (x : Change) {z : Said} {b′ : Buffers} → typedWhat (What.changes (reported (c .report) x)) ≡ true
-      → passes (asked (What.changes x)) ≡ true → calls.Does part′ (c .answer) (c .report) x z b′ → LeadsWhere (What.changes x) true z b′
+      → passes (asked (What.changes x)) ≡ true → calls.Does lent (c .answer) (c .report) x z b′ → LeadsWhere (What.changes x) true z b′
   changed-leads x {z} {b′} w e d =
       let p = part (changeTakes (c .answer) x .needs) in
-      let n = own-long part′ (c .report) (changeTakes (c .answer) x .needs) e in
-      let k = changes-refined part′ (c .answer) (c .report) (limiterOf (b .limiter)) (peersOf (b .peers)) x d .answered e in
-      let g = looks-same c enough st p n in
+      let n = own-long lent (c .report) (changeTakes (c .answer) x .needs) e in
+      let k = changes-refined lent (c .answer) (c .report) (limiterOf (b .limiter)) (peersOf (b .peers)) x d .answered e in
+      let g = looks-same p n in
       let x′ : Change = reported (c .report) x in
-      let step = runStep c enough st (run.Acts.does (subst (λ (m : Memory). run.Does m x′ (k .reply) (k .after)) g (k .does))) in
+      let step = runStep (run.Acts.does (subst (λ (m : Memory). run.Does m x′ (k .reply) (k .after)) g (k .does))) in
       let kept = subst (λ (m : Memory). Kept (written p) m (k .after)) g (k .kept) in
-      let far = written-long c enough st p n in
+      let far = written-long p n in
       record {
         says = k .says ∙ ap (λ (r : Reply). saidIn r (c .answer)) (steps-reply (st .values) step);
         stands =
             subst (λ (y : Buffers). Stands (returned y b) (after (c .lent .tables) (What.changes x′) s)) (sym (k .words))
-            (left-stands c enough st (written p) (k .after) kept far (steps-stand (st .values) w step));
+            (left-stands (written p) (k .after) kept far (steps-stand (st .values) w step));
         long =
             subst (λ (y : Buffers). lentBy (returned y b) ≡ lentBy b) (sym (k .words))
-            (left-long c enough st (written p) (k .after) kept far (steps-long (st .values) w step));
+            (left-long (written p) (k .after) kept far (steps-long (st .values) w step));
       }
 
-  -- what is as it was
-  unmoved : {b′ : Buffers} → b′ ≡ part′ → returned b′ b ≡ b
-  unmoved e = ap (λ (y : Buffers). returned y b) e ∙ still c enough st
+  -- where nothing was written
+  unmoved : {b′ : Buffers} → b′ ≡ lent → returned b′ b ≡ b
+  unmoved e = ap (λ (y : Buffers). returned y b) e ∙ still
 
+  -- a call that reads
   told-leads :
-      (x : Query) {z : Said} → passes (asked (What.reads x)) ≡ true → calls.Tells part′ (c .answer) x z → LeadsWhere (What.reads x) true z part′
+      (x : Query) {z : Said} → passes (asked (What.reads x)) ≡ true → calls.Tells lent (c .answer) x z → LeadsWhere (What.reads x) true z lent
   told-leads x {z} e d =
-      let k = reads-refined part′ (c .answer) (c .report) (limiterOf (b .limiter)) (peersOf (b .peers)) x d .answered e in
+      let k = reads-refined lent (c .answer) (c .report) (limiterOf (b .limiter)) (peersOf (b .peers)) x d .answered e in
       let t = queryTakes (c .answer) x .needs in
-      let g = looks-same c enough st (part t) (own-long part′ (c .report) t e) in
-      let step = runStep c enough st (run.Acts.does-tell (subst (λ (m : Memory). run.Tells m x (k .told)) g (k .tells))) in
+      let g = looks-same (part t) (own-long lent (c .report) t e) in
+      let step = runStep (run.Acts.does-tell (subst (λ (m : Memory). run.Tells m x (k .told)) g (k .tells))) in
       record {
         says = k .says ∙ ap (λ (r : Reply). saidIn r (c .answer)) (steps-reply (st .values) step);
         stands = subst (λ (y : Buffers). Stands y s) (sym (unmoved refl)) st;
         long = ap lentBy (unmoved refl);
       }
 
+  -- one that they refuse
   refused-leads :
-      (x : What) {z : Said} {b′ : Buffers} → (z .number ≡ firstNo (asked x)) → Same part′ (c .answer) (whatTakes (c .answer) x .output) z b′
+      (x : What) {z : Said} {b′ : Buffers} → (z .number ≡ firstNo (asked x)) → Same lent (c .answer) (whatTakes (c .answer) x .output) z b′
       → LeadsWhere x false z b′
   refused-leads x n u =
       record {
-        says = λ i. said ((n ∙ own-in c enough st x .number) i) (u .0 i) (u .1 i);
+        says = λ i. said ((n ∙ own-in x .number) i) (u .0 i) (u .1 i);
         stands = subst (λ (y : Buffers). Stands y s) (sym (unmoved (u .2))) st;
         long = ap lentBy (unmoved (u .2));
       }
@@ -293,21 +294,21 @@ module _ {b : Buffers} {s : State} (c : Call) (enough : lentBy (lend (c .lent) b
   -- by the answer to its own questions
   by-own : (x : What) {z : Said} (b′ : Buffers) (passed : Bool) → passes (asked x) ≡ passed → LeadsWhere x passed z b′
       → LeadsWhere x (passes (ownIn c x s)) z b′
-  by-own x {z} b′ passed e u = subst (λ (p : Bool). LeadsWhere x p z b′) (sym e ∙ own-in c enough st x .passed) u
+  by-own x {z} b′ passed e u = subst (λ (p : Bool). LeadsWhere x p z b′) (sym e ∙ own-in x .passed) u
 
   acts-lead :
-      (x : What) {z : Said} {b′ : Buffers} → typedWhat (whatOf (c .report) x) ≡ true → calls.Acts part′ (c .answer) (c .report) x z b′
+      (x : What) {z : Said} {b′ : Buffers} → typedWhat (whatOf (c .report) x) ≡ true → calls.Acts lent (c .answer) (c .report) x z b′
       → LeadsWhere x (passes (ownIn c x s)) z b′
   acts-lead (What.changes x) {b′ = b′} w (calls.Acts.does d) =
-      let k = changes-refined part′ (c .answer) (c .report) (limiterOf (b .limiter)) (peersOf (b .peers)) x d in
+      let k = changes-refined lent (c .answer) (c .report) (limiterOf (b .limiter)) (peersOf (b .peers)) x d in
       split (passes (asked (What.changes x)))
       (λ e. by-own (What.changes x) b′ true e (changed-leads x w e d))
       (λ e. by-own (What.changes x) b′ false e (refused-leads (What.changes x) (k .refused e .0) (k .refused e .1)))
   acts-lead (What.reads x) w (calls.Acts.does-tell d) =
-      let k = reads-refined part′ (c .answer) (c .report) (limiterOf (b .limiter)) (peersOf (b .peers)) x d in
+      let k = reads-refined lent (c .answer) (c .report) (limiterOf (b .limiter)) (peersOf (b .peers)) x d in
       split (passes (asked (What.reads x)))
-      (λ e. by-own (What.reads x) part′ true e (told-leads x e d))
-      (λ e. by-own (What.reads x) part′ false e (refused-leads (What.reads x) (k .refused e .0) (k .refused e .1 .0, k .refused e .1 .1, refl)))
+      (λ e. by-own (What.reads x) lent true e (told-leads x e d))
+      (λ e. by-own (What.reads x) lent false e (refused-leads (What.reads x) (k .refused e .0) (k .refused e .1 .0, k .refused e .1 .1, refl)))
 
 pub steps-lead :
     {b b′ : Buffers} {s : State} (c : Call) {z : Said} → typedCall c ≡ true → Stands b s → Step b c z b′ → Leads b z b′ (saidOf c s) (next c s)
