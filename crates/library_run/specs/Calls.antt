@@ -52,6 +52,7 @@ pub record Call : Type 0 where
 
 -- ---- what a call says: its number, the buffer `answer` after it, and the output that it was lent
 
+-- words, or the bytes of an image; doubles; bools
 pub data Output : Type 0 where
   nothing : Output
   words : List ℕ → Output

@@ -88,6 +88,7 @@ decisionIn ws = cond (eqb (getD ws 0 0) 0) Allow (Deny (getD ws 1 0))
 abbrev pub changeIn : ℕ → ChangeAnswer
 changeIn r = cond (eqb r 0) change-answer.Done (change-answer.No r)
 
+-- the words of an output: a `nultiway_check_each` that answers 0 has written three for each check
 abbrev pub wordsIn : Output → List ℕ
 wordsIn Output.nothing = []
 wordsIn (Output.words ws) = ws
