@@ -1,10 +1,12 @@
 -- A call's answer, by what its questions were answered.
 use Prim.Native.Nat.{ℕ, _<_}
 use native.Mathlib.Omega.{arith}
-use mathlib.Core.Path.{_≡_, refl, sym, ap}
+use mathlib.Core.Path.{_≡_, refl, sym, ap, _∙_}
 use mathlib.Core.Bool.{Bool, true, false, cond}
 use mathlib.Core.List.{List, [], _∷_, _++_}
-use Rattle.questions.proofs.Tests.{split, both}
+use borrow.Author.Tests.{eqb-true}
+use lib.Dec.{eqb}
+use Rattle.questions.proofs.Tests.{split, both, contradiction}
 use Rattle.questions.specs.Questions.{Question, _asks_, Answer, refused, given, answer, passes, changed, firstNo}
 
 -- ---- question by question
@@ -109,6 +111,21 @@ pub none-passed : (qs : List Question) → passes qs ≡ true → firstNo qs ≡
 unfolding passes firstNo
 none-passed [] e = refl
 none-passed (q ∷ qs) e = let b = both (q .passed) _ e in rw (b .0) (none-passed qs (b .1))
+
+-- so the number of a first 'no' is not 0
+pub not-zero : (qs : List Question) (n : ℕ) → Numbered qs → n ≡ firstNo qs → passes qs ≡ false → eqb n 0 ≡ false
+not-zero qs n nums e p = split (eqb n 0) (λ z. contradiction (sym (passed-none qs n nums e (eqb-true n 0 z)) ∙ p)) (λ z. z)
+
+-- of questions one after the other it is that of the first ones where these are not all passed
+pub first-front : (qs rs : List Question) → Numbered qs → passes qs ≡ false → firstNo qs ≡ firstNo (qs ++ rs)
+first-front qs rs nums e = first-more qs rs (firstNo qs) refl (λ z. contradiction (sym (passed-none qs (firstNo qs) nums refl z) ∙ e))
+
+-- and where it is 0 all are
+pub passed-both : (qs rs : List Question) → Numbered qs → Numbered rs → 0 ≡ firstNo (qs ++ rs) → (passes qs ≡ true) × (passes rs ≡ true)
+passed-both qs rs m n e =
+    split (passes qs)
+    (λ p. (p, passed-none rs 0 n (e ∙ sym (first-rest qs rs p)) refl))
+    (λ p. contradiction (sym (passed-none qs 0 m (e ∙ sym (first-front qs rs m p)) refl) ∙ p))
 
 -- a value is given only where every question was passed
 pub given-passed : {A : Type 0} (qs : List Question) (u v : A) → given u ≡ answer qs v → (passes qs ≡ true) × (u ≡ v)

@@ -2,14 +2,13 @@
 -- for, whose reply it writes in words.
 use Prim.Native.Nat.{ℕ}
 use mathlib.Core.Path.{_≡_, refl, sym, _∙_}
-use mathlib.Core.Bool.{true, false}
-use mathlib.Core.List.{List, _++_}
+use mathlib.Core.Bool.{true}
+use mathlib.Core.List.{List}
 use lib.Dec.{lit<}
 use Rattle.records.specs.Words.{paste}
 use Rattle.records.specs.Fields.{timeWords}
-use Rattle.questions.specs.Questions.{Question, Answer, passes, firstNo}
-use Rattle.questions.proofs.Tests.{contradiction}
-use Rattle.questions.proofs.Answers.{Numbered, passed-none, first-more, first-rest}
+use Rattle.questions.specs.Questions.{Question, Answer}
+use Rattle.questions.proofs.Answers.{first-front, first-rest}
 use Rattle.gcra.specs.Calls.{checkAnswer, quotaAnswer, rateAnswer}
 use Rattle.hot.specs.HotSet.Calls.{sinceAnswer}
 use Rattle.demand.specs.declared.answers.LenAnswer.{LenAnswer}
@@ -116,10 +115,6 @@ Same b a out s b′ = (s .answer ≡ a) × (s .output ≡ out) × (b′ ≡ b)
 
 through : {U U′ X X′ : Type 0} {qs : List Question} {r : ℕ} → Called qs r U X → (U → U′) → (X → X′) → Called qs r U′ X′
 through c f g = record { refused = λ e. (c .refused e .0, f (c .refused e .1)); answered = λ e. g (c .answered e) }
-
--- the first 'no' is one of the first questions where they are not all passed
-pub first-front : (qs rs : List Question) → Numbered qs → passes qs ≡ false → firstNo qs ≡ firstNo (qs ++ rs)
-first-front qs rs nums e = first-more qs rs (firstNo qs) refl (λ z. contradiction (sym (passed-none qs (firstNo qs) nums refl z) ∙ e))
 
 -- by the kind of its promise
 module _ (b : Buffers) (a : List ℕ) {qs : List Question} {r : ℕ} {m : Memory} where

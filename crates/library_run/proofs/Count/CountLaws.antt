@@ -8,7 +8,7 @@ use lib.Dec.{eqb}
 use Rattle.records.specs.Words.{paste}
 use Rattle.questions.specs.Questions.{Question, Answer, refused, given, answer, passes, firstNo}
 use Rattle.questions.proofs.Tests.{split}
-use Rattle.questions.proofs.Answers.{answer-passed}
+use Rattle.questions.proofs.Answers.{answer-passed, not-zero}
 use Rattle.gcra.specs.declared.Decision.{Decision}
 use Rattle.gcra.specs.declared.Decision.the-variants.{Allow, Deny}
 use Rattle.limiter.specs.declared.Config.{Config}
@@ -34,7 +34,7 @@ use Rattle.library_run.proofs.Calls.OwnQuestions.{changeTakes}
 use Rattle.library_run.proofs.Calls.Refined.{saidIn}
 use Rattle.library_run.proofs.Calls.Stepped.{settings, ownIn, saidWhere, nextWhere, next}
 use Rattle.library_run.proofs.Runs.Shows.{shownBy}
-use Rattle.library_run.proofs.Count.Refusals.{own-numbered, asked-numbered, not-zero, own-tables, own-refused}
+use Rattle.library_run.proofs.Count.Refusals.{own-numbered, asked-numbered, own-tables, own-refused}
 
 -- ---- the definitions' reply to a change, by what is counted of it
 

@@ -5,14 +5,14 @@ use mathlib.Core.Path.{_≡_, refl, sym, ap, _∙_}
 use mathlib.Core.Bool.{Bool, true, false, cond, _&&_, and-false}
 use mathlib.Core.List.{List, [], _∷_, _++_}
 use mathlib.Core.Option.{none, some}
-use borrow.Author.Tests.{leb-true, eqb-true}
-use lib.Dec.{leb, eqb}
+use borrow.Author.Tests.{leb-true}
+use lib.Dec.{leb}
 use lib.ListN.{length}
 use Rattle.records.specs.Records.{records, fits}
 use Rattle.questions.specs.Lists.{all}
-use Rattle.questions.specs.Questions.{Question, _asks_, passes, firstNo}
+use Rattle.questions.specs.Questions.{Question, _asks_, passes}
 use Rattle.questions.proofs.Tests.{split, both, and-intro, and-second, contradiction}
-use Rattle.questions.proofs.Answers.{Numbered, passed-none}
+use Rattle.questions.proofs.Answers.{Numbered}
 use Rattle.peers.specs.Peers.State as peer-state
 use Rattle.limiter.specs.declared.Config.{Config}
 use Rattle.limiter.specs.State.{within, haveRoom, valid}
@@ -52,10 +52,6 @@ asked-numbered n (Change.report sender x now) s = omega arith
 asked-numbered n (Change.forget peer) s = omega arith
 asked-numbered n (Change.leave peer now hold) s = omega arith
 asked-numbered n (Change.expire now maxAge) s = omega arith
-
--- so the number of the first is not 0
-pub not-zero : (qs : List Question) (n : ℕ) → Numbered qs → n ≡ firstNo qs → passes qs ≡ false → eqb n 0 ≡ false
-not-zero qs n numbered e p = split (eqb n 0) (λ z. contradiction (sym (passed-none qs n numbered e (eqb-true n 0 z)) ∙ p)) (λ z. z)
 
 -- ---- a call that is lent no table is refused
 

@@ -1,28 +1,33 @@
 -- What the two `ask` functions answer 0 of they answer 0 of again: after every call, refused or not, and after a save and a load; and a new limiter's
 -- words and its peers'.
+use Prim.Native.Nat.{ℕ}
 use mathlib.Core.Path.{_≡_, refl, sym, ap, _∙_, subst}
 use mathlib.Core.Bool.{true, _&&_}
-use mathlib.Core.List.{List, _++_}
+use mathlib.Core.List.{List}
 use borrow.Author.Tests.{leb-true, le-leb}
 use lib.Dec.{leb, lit<}
 use lib.ListN.{length}
-use Rattle.questions.specs.Questions.{Question, passes, firstNo}
-use Rattle.questions.proofs.Tests.{split, both, and-intro, contradiction}
-use Rattle.questions.proofs.Answers.{Numbered, passed-none, none-passed, first-rest}
+use Rattle.questions.specs.Questions.{Question, passes}
+use Rattle.questions.proofs.Tests.{split, both, and-intro}
+use Rattle.questions.proofs.Answers.{answer-passed, passed-none, none-passed, passed-both, first-rest}
+use Rattle.peers.specs.declared.peer_demand.PeersAnswer.the-variants as peers-answer
 use Rattle.peers.specs.Peers.State as peer-state
-use Rattle.peers.specs.Peers.Calls.{peersQuestions}
+use Rattle.peers.specs.Peers.State.{newPeers}
+use Rattle.peers.specs.Peers.Calls.{newQuestions, peersQuestions}
+use Rattle.peers.proofs.Peers.Theorems.{new-passes}
 use Rattle.limiter.specs.declared.Config.{Config}
 use Rattle.limiter.specs.State as limiter-state
-use Rattle.limiter.specs.State.{LimiterState, lengths, haveRoom, unitsOf, unitsIn}
+use Rattle.limiter.specs.State.{LimiterState, LimiterTables, lengths, haveRoom, unitsOf, unitsIn}
 use Rattle.limiter.specs.Calls.{stateQuestions}
 use Rattle.image.specs.Image.{State}
 use Rattle.image.specs.Calls.{here}
 use Rattle.run.specs.Run as run
 use Rattle.run.specs.Typed.{typedConfig}
 use Rattle.run.proofs.Count.TraceTurns.{config-stays}
+use Rattle.run.proofs.Count.Witness.{heldPeers, peers-pass}
 use Rattle.run.proofs.Standing.Stands.{same-config}
 use Rattle.run.proofs.Standing.ResumedSame.{resumes-roomy}
-use Rattle.nultiway.specs.Values.{limiterOf, isLimiter, limiterAsked, peersOf, roomAsked}
+use Rattle.nultiway.specs.Values.{limiterOf, isLimiter, limiterAsked, peersWords, peersOf, roomAsked}
 use Rattle.nultiway.specs.LimiterCalls as limiter
 use Rattle.nultiway.specs.PeerCalls as peers
 use Rattle.nultiway.proofs.Calls.CallLaws.{passed-call, room-passed, room-told, was-open, zero-passed}
@@ -30,7 +35,6 @@ use Rattle.library_run.specs.Calls.{Buffers, Call, Said, valuesOf}
 use Rattle.library_run.specs.Runs.{Step, Resume, Resumes, Started, lentBy}
 use Rattle.library_run.specs.Trace.{whatOf}
 use Rattle.library_run.specs.Demand3.{typedCall, resumeOf}
-use Rattle.library_run.proofs.Calls.Refined.{first-front}
 use Rattle.library_run.proofs.Calls.Stepped.{Stands, settings, ownIn, next, steps-lead}
 use Rattle.library_run.proofs.Runs.Began.{started-stands, started-roomy}
 use Rattle.library_run.proofs.Runs.ResumedSame.{resumes-as-run, resumes-stand}
@@ -44,14 +48,6 @@ pub record Asked (b : Buffers) : Type 0 where
 abbrev Roomy : State → run.Lent → Type 0
 Roomy s n = (haveRoom (settings s) (n .limiter) && peer-state.haveRoom (n .peers)) ≡ true
 
--- questions one after the other are passed where the number is 0
-both-passed :
-    (qs rs : List Question) → Numbered qs → Numbered rs → 0 ≡ firstNo (qs ++ rs) → (passes qs ≡ true) × (passes rs ≡ true)
-both-passed qs rs m n e =
-    split (passes qs)
-    (λ p. (p, passed-none rs 0 n (e ∙ sym (first-rest qs rs p)) refl))
-    (λ p. contradiction (sym (passed-none qs 0 m (e ∙ sym (first-front qs rs m p)) refl) ∙ p))
-
 -- ---- they stand for a state, in tables with room, where both answer 0
 
 asked-stands : (b : Buffers) → Asked b → let s = here (limiterOf (b .limiter)) (b .tables) (peersOf (b .peers)) (b .peerTables) in
@@ -61,7 +57,7 @@ asked-stands b a =
     let l = limiterOf (b .limiter) in
     let p = peersOf (b .peers) in
     let t =
-    both-passed (limiterAsked (b .limiter) (lengths (b .tables)) true) (stateQuestions l (b .tables)) (lit< tt, (lit< tt, tt)) (lit< tt, (lit< tt, tt))
+    passed-both (limiterAsked (b .limiter) (lengths (b .tables)) true) (stateQuestions l (b .tables)) (lit< tt, (lit< tt, tt)) (lit< tt, (lit< tt, tt))
     (a .limiter) in
     let o = was-open (b .limiter) (lengths (b .tables)) true (t .0) in
     let v = both (haveRoom (l .config) (lengths (b .tables))) _ (t .1) in
@@ -143,3 +139,17 @@ unfolding passes
 asked-new {c} {into} {b} w d e =
     let r = started-roomy d in
     stands-asked b (started-stands d w) ((λ i. haveRoom c (e i .limiter) && peer-state.haveRoom (e i .peers)) ∙ r)
+
+-- A limiter that is kept without peers is one beside new peers, so the laws above are of it too.
+pub alone-asked : (ws : List ℕ) (t : LimiterTables) → limiter.Ask ws t 0
+    → Asked (record { limiter = ws; tables = t; peers = peersWords newPeers; peerTables = heldPeers })
+unfolding peersWords peersOf
+alone-asked ws t a =
+    record {
+      limiter = a;
+      peers =
+          passed-call _ 0 (room-passed (leb 3 (length (peersWords newPeers))) refl)
+          (sym
+          (none-passed (peersQuestions newPeers heldPeers)
+          (new-passes heldPeers (peers-answer.Is newPeers) newPeers (answer-passed newPeers (newQuestions heldPeers) peers-pass) refl)));
+    }
