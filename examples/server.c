@@ -1,7 +1,8 @@
 /* A server loop over libnultiway.a: reads keys, one a line, and answers `allow` or `deny TIME`. It ticks once a period, saves
- * its state on SIGUSR1 and at the end of its input, and takes it up again when it starts.
+ * its state on SIGUSR1 and at the end of its input, and takes it up again when it starts. Where the last save fails it ends
+ * with status 1.
  *
- *     gcc -I include examples/server.c target/staticlib/libnultiway.a -o server && ./server STATE */
+ *     gcc -I include examples/server.c target/staticlib/libnultiway.a -o target/server && target/server STATE */
 #define _POSIX_C_SOURCE 200809L
 #include "nultiway.h"
 #include <inttypes.h>
@@ -21,6 +22,7 @@ static uint64_t keys[NULTIWAY_KEYS_SIZE(TABLE_SIZE)], hot[NULTIWAY_HOT_SIZE(HOT_
 static uint64_t shadows[NULTIWAY_SHADOWS_SIZE(TABLE_SIZE)], peer_table[NULTIWAY_PEER_TABLE_SIZE];
 static uint64_t snapshot_keys[NULTIWAY_SNAPSHOT_KEYS_SIZE], contested[NULTIWAY_CONTESTED_SIZE];
 static uint8_t image[NULTIWAY_LARGEST_IMAGE];
+static uint64_t clock_start;
 static volatile sig_atomic_t save_wanted;
 
 #define LENT(buffer) buffer, sizeof(buffer) / sizeof((buffer)[0])
@@ -29,15 +31,24 @@ static volatile sig_atomic_t save_wanted;
 
 static void on_signal(int number) { save_wanted = number; }
 
-static uint64_t now(void) {
+static uint64_t nanos_of(clockid_t clock) {
     struct timespec t;
-    clock_gettime(CLOCK_REALTIME, &t);
+    clock_gettime(clock, &t);
     return (uint64_t)t.tv_sec * SECOND + (uint64_t)t.tv_nsec;
 }
 
+/* Starts the readings at the time of day, or at the state's last tick where that is later. */
+static void start_clock(void) {
+    uint64_t last = limiter[NULTIWAY_LAST_TICK], today = nanos_of(CLOCK_REALTIME);
+    clock_start = (last < today ? today : last) - nanos_of(CLOCK_MONOTONIC);
+}
+
+/* A reading: the monotonic clock goes on from the start, so readings never go back. */
+static uint64_t now(void) { return clock_start + nanos_of(CLOCK_MONOTONIC); }
+
 static void must(const char *what, uint8_t no) {
     if (no != NULTIWAY_ANSWERED) {
-        fprintf(stderr, "server: %s is refused by question %d\n", what, no);
+        fprintf(stderr, "server: %s: %s (question %d)\n", what, nultiway_question_text(no), no);
         exit(1);
     }
 }
@@ -51,20 +62,25 @@ static void resume(const char *path) {
         must(path, nultiway_load(image, size, LIMITER, PEERS));
         return;
     }
-    must("new", nultiway_limiter_new(LIMITER, 0.1, 2, 1.0, 0.5, 10 * SECOND, HOT_SET_SIZE, TABLE_SIZE / 2, SECOND,
-                                     TABLE_SIZE));
+    must("new", nultiway_limiter_new(LIMITER, 0.1, 2, 1.0, 0.5, 10 * SECOND, HOT_SET_SIZE, TABLE_SIZE, SECOND, TABLE_SIZE));
     must("new", nultiway_peers_new(PEERS));
 }
 
-/* Writes the image beside the file and renames it, so that the file is always a whole image. */
-static void save(const char *path) {
+static void tick(uint64_t time) { must("tick", nultiway_tick_with_shares(LIMITER, PEERS, time, CLUSTER_SIZE)); }
+
+/* Whether the image of a ticked state is written beside the file and renamed, so that the file is always a whole image. */
+static bool save(const char *path) {
     uint64_t size[NULTIWAY_SAVE_ANSWER];
     char beside[4096];
     snprintf(beside, sizeof beside, "%s.new", path);
+    tick(now()); /* the image then has the latest reading, from which a resumed clock goes on */
     must("save", nultiway_save(LIMITER, PEERS, LENT(image), LENT(size)));
     FILE *file = fopen(beside, "wb");
-    if (!file || fwrite(image, 1, size[0], file) != size[0] || fclose(file) != 0 || rename(beside, path) != 0)
-        perror(path);
+    bool written = file && fwrite(image, 1, size[0], file) == size[0];
+    if (file && fclose(file) != 0) written = false;
+    if (written && rename(beside, path) == 0) return true;
+    perror(path);
+    return false;
 }
 
 /* Answers the whole lines of the text in one call, and moves the rest to its front. */
@@ -91,17 +107,18 @@ int main(int argc, char **argv) {
     size_t held = 0;
     ssize_t got = 1;
     if (argc != 2) return fprintf(stderr, "usage: server STATE\n"), 2;
+    if (nultiway_version() != NULTIWAY_VERSION) return fprintf(stderr, "server: the archive is of another version\n"), 2;
     resume(argv[1]);
+    start_clock();
     signal(SIGUSR1, on_signal);
     for (uint64_t ticked = now(); got > 0 && held < sizeof text;) {
         struct pollfd input = {STDIN_FILENO, POLLIN, 0};
         int ready = poll(&input, 1, (int)(PERIOD / 1000000));
         if (save_wanted) save_wanted = 0, save(argv[1]);
-        if (now() - ticked >= PERIOD) must("tick", nultiway_tick_with_shares(LIMITER, PEERS, ticked = now(), CLUSTER_SIZE));
+        if (now() - ticked >= PERIOD) tick(ticked = now());
         if (ready <= 0) continue;
         got = read(STDIN_FILENO, text + held, sizeof text - held);
         if (got > 0) held = answer(text, held + (size_t)got);
     }
-    save(argv[1]);
-    return 0;
+    return save(argv[1]) ? 0 : 1;
 }

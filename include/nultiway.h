@@ -38,6 +38,10 @@
 extern "C" {
 #endif
 
+/* The version of this header, 10,000 * major + 100 * minor + patch; nultiway_version() tells that
+ * of the archive. */
+#define NULTIWAY_VERSION 200
+
 /* The numbers of the questions, and what is so where one is answered. */
 enum nultiway_question {
     /* the call is answered */
@@ -78,6 +82,32 @@ enum nultiway_question {
     NULTIWAY_SHORT_OUTPUT = 16,
 };
 
+/* Tells what is so of a call that got this number, in words. */
+static inline const char *nultiway_question_text(uint64_t number) {
+    static const char *const texts[] = {
+        "the call is answered",
+        "a lent buffer is too short for the configured sizes",
+        "the lent state, or the quota, meter, estimator or hot set handed in alone, could not "
+        "stand in a valid image",
+        "a rate is not finite or not above 0",
+        "a burst is not 1 to 4,194,303",
+        "alpha is not in (0, 1], or the floor factor not in [0, 1]",
+        "the hot set size is not 1 to 64 and at most max_tracked_keys, or that is above the table "
+        "size, or that above 4,096",
+        "the cluster size is not 1 to 65,535",
+        "the key is not tracked and the table is full",
+        "a counter that the call raises would not stay within 64 bits",
+        "the report has more than 64 keys",
+        "a demand is not finite with a clear sign bit",
+        "the peer is not known and 32 are",
+        "the image is not valid",
+        "the word to unpack has a unit code of 3 or a burst of 0",
+        "the window is longer than 2^62 ns",
+        "the output does not fit",
+    };
+    return number < sizeof texts / sizeof texts[0] ? texts[number] : "there is no such question";
+}
+
 /* Words of a limiter. */
 #define NULTIWAY_LIMITER_WORDS 16
 /* Words of the peers. */
@@ -108,6 +138,8 @@ enum nultiway_question {
 #define NULTIWAY_MAX_DEMAND_KEYS 64
 /* The most bytes of an image. */
 #define NULTIWAY_LARGEST_IMAGE 1372566
+/* Where the last tick's time stands in a limiter's words, 0 if there was none. */
+#define NULTIWAY_LAST_TICK 12
 
 /* Words that a limiter's tables need, and HOT_SIZE those of a hot set's entries too; a size above
  * its bound counts as that bound. */
@@ -284,8 +316,8 @@ uint8_t nultiway_limiter_ask(const uint64_t *limiter, size_t limiter_len,
     const uint64_t *keys, size_t keys_len, const uint64_t *hot, size_t hot_len,
     const uint64_t *shadows, size_t shadows_len);
 
-/* Sets the cap, the greatest part of its limit that a key gets, or lifts it where `has_cap` is
- * 0. */
+/* Sets the cap, the greatest part of its limit that a key gets, or lifts it where `has_cap` is 0:
+ * for a new key at once, for a tracked one from the next tick on. */
 uint8_t nultiway_set_cap(uint64_t *limiter, size_t limiter_len,
     const uint64_t *keys, size_t keys_len, const uint64_t *hot, size_t hot_len,
     const uint64_t *shadows, size_t shadows_len, uint8_t has_cap, double cap);
@@ -312,13 +344,15 @@ uint8_t nultiway_tick_with_shares(uint64_t *limiter, size_t limiter_len,
 
 /* ---- Checks of keys. */
 
-/* Decides on a request for a key under the settings' limit. */
+/* Decides on a request for a key under the settings' limit: a new key's quota is made of it, a
+ * tracked key keeps its quota until the next tick. */
 #define NULTIWAY_CHECK_ANSWER 2
 uint8_t nultiway_check(uint64_t *limiter, size_t limiter_len, uint64_t *keys, size_t keys_len,
     const uint64_t *hot, size_t hot_len, const uint64_t *shadows, size_t shadows_len, uint64_t key,
     uint64_t reading, uint64_t cluster_size, uint64_t *answer, size_t answer_len);
 
-/* Decides on a request for a key under the limit given. */
+/* Decides on a request for a key under the limit given: a new key's quota is made of it, a tracked
+ * key keeps its quota until the next tick, which goes by the limit given last. */
 #define NULTIWAY_CHECK_IN_ANSWER 2
 uint8_t nultiway_check_in(uint64_t *limiter, size_t limiter_len, uint64_t *keys, size_t keys_len,
     const uint64_t *hot, size_t hot_len, const uint64_t *shadows, size_t shadows_len, uint64_t key,
@@ -579,6 +613,11 @@ uint8_t nultiway_stale_after_rounds(uint64_t cluster_size, uint64_t *answer, siz
 
 /* Tells whether round `a` is 1 to 32,767 ahead of round `b`, modulo 65,536. */
 bool nultiway_round_is_newer(uint16_t a, uint16_t b);
+
+/* ---- The version. */
+
+/* Tells the version of the archive: 10,000 * major + 100 * minor + patch. */
+uint32_t nultiway_version(void);
 
 #ifdef __cplusplus
 }

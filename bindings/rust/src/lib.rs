@@ -50,3 +50,8 @@ pub use hot_set::HotSet;
 pub use limiter::{Config, KeyRates, Limit, Limiter, Tally};
 pub use peer_demand::{Heard, PeerDemand};
 pub use refused::Refused;
+
+/// README's start, as a test of the documentation.
+#[cfg(doctest)]
+#[doc = include_str!("../../../README.md")]
+struct Readme;

@@ -3,7 +3,7 @@
 use std::error::Error;
 use std::fmt;
 
-use crate::sizes::QUESTIONS;
+use crate::sizes::{NO_QUESTION, QUESTIONS};
 
 /// A call that was refused: it has changed nothing.
 #[derive(Debug, Clone, Copy, PartialEq, Eq)]
@@ -19,7 +19,7 @@ impl Refused {
 
     /// What is so of the call, in words.
     pub fn question(self) -> &'static str {
-        QUESTIONS.get(usize::from(self.number)).copied().unwrap_or("an unknown question")
+        QUESTIONS.get(usize::from(self.number)).copied().unwrap_or(NO_QUESTION)
     }
 }
 

@@ -2,6 +2,8 @@
 //!
 //! Made by tests/library/interface from the sources of the crates. Changes belong there.
 
+/// The version of the archive that this crate goes with: 10,000 × major + 100 × minor + patch.
+pub const VERSION: u32 = 200;
 /// Words of a limiter.
 pub const LIMITER_WORDS: usize = 16;
 /// Words of the peers.
@@ -32,6 +34,8 @@ pub const CONTESTED_SIZE: usize = 49152;
 pub const MAX_DEMAND_KEYS: usize = 64;
 /// The most bytes of an image.
 pub const LARGEST_IMAGE: usize = 1372566;
+/// Where the last tick's time stands in a limiter's words, 0 if there was none.
+pub const LAST_TICK: usize = 12;
 
 /// Bytes of an image without records.
 pub(crate) const IMAGE_FIXED: usize = 118;
@@ -58,3 +62,5 @@ pub(crate) const QUESTIONS: [&str; 17] = [
     "the window is longer than 2^62 ns",
     "the output does not fit",
 ];
+/// What is said of any other.
+pub(crate) const NO_QUESTION: &str = "there is no such question";

@@ -175,6 +175,7 @@ extern "C" {
         answer: *mut u64, answer_len: usize) -> u8;
     fn nultiway_stale_after_rounds(cluster_size: u64, answer: *mut u64, answer_len: usize) -> u8;
     fn nultiway_round_is_newer(a: u16, b: u16) -> bool;
+    fn nultiway_version() -> u32;
 }
 
 /// Makes an estimator at rate 0 that has no times yet.
@@ -384,7 +385,8 @@ pub fn limiter_ask(limiter: &[u64], keys: &[u64], hot: &[u64], shadows: &[u64]) 
         shadows.as_ptr(), shadows.len()) }
 }
 
-/// Sets the cap, the greatest part of its limit that a key gets, or lifts it where `has_cap` is 0.
+/// Sets the cap, the greatest part of its limit that a key gets, or lifts it where `has_cap` is 0: for a new key at
+/// once, for a tracked one from the next tick on.
 pub fn set_cap(limiter: &mut [u64], keys: &[u64], hot: &[u64], shadows: &[u64], has_cap: u8, cap: f64) -> u8 {
     // SAFETY: each pointer goes with its slice's length, and is borrowed for the call.
     unsafe { nultiway_set_cap(limiter.as_mut_ptr(), limiter.len(), keys.as_ptr(), keys.len(), hot.as_ptr(), hot.len(),
@@ -418,7 +420,8 @@ pub fn tick_with_shares(limiter: &mut [u64], keys: &mut [u64], hot: &mut [u64], 
         contested.as_ptr(), contested.len(), reading, cluster_size) }
 }
 
-/// Decides on a request for a key under the settings' limit.
+/// Decides on a request for a key under the settings' limit: a new key's quota is made of it, a tracked key keeps its
+/// quota until the next tick.
 pub fn check(limiter: &mut [u64], keys: &mut [u64], hot: &[u64], shadows: &[u64], key: u64, reading: u64,
     cluster_size: u64, answer: &mut [u64]) -> u8 {
     // SAFETY: each pointer goes with its slice's length, and is borrowed for the call.
@@ -426,7 +429,8 @@ pub fn check(limiter: &mut [u64], keys: &mut [u64], hot: &[u64], shadows: &[u64]
         shadows.as_ptr(), shadows.len(), key, reading, cluster_size, answer.as_mut_ptr(), answer.len()) }
 }
 
-/// Decides on a request for a key under the limit given.
+/// Decides on a request for a key under the limit given: a new key's quota is made of it, a tracked key keeps its quota
+/// until the next tick, which goes by the limit given last.
 pub fn check_in(limiter: &mut [u64], keys: &mut [u64], hot: &[u64], shadows: &[u64], key: u64, rate: f64, burst: u32,
     reading: u64, cluster_size: u64, answer: &mut [u64]) -> u8 {
     // SAFETY: each pointer goes with its slice's length, and is borrowed for the call.
@@ -733,4 +737,10 @@ pub fn stale_after_rounds(cluster_size: u64, answer: &mut [u64]) -> u8 {
 pub fn round_is_newer(a: u16, b: u16) -> bool {
     // SAFETY: it takes numbers only.
     unsafe { nultiway_round_is_newer(a, b) }
+}
+
+/// Tells the version of the archive: 10,000 * major + 100 * minor + patch.
+pub fn version() -> u32 {
+    // SAFETY: it takes numbers only.
+    unsafe { nultiway_version() }
 }

@@ -6,6 +6,7 @@ use nultiway::gcra::{step, MAX_BURST, MAX_INTERVAL};
 use nultiway::hot_set::Update;
 use nultiway::peer_demand::{round_is_newer, stale_after_rounds, try_stale_after_rounds};
 use nultiway::proto::{DemandReport, KeyDemand};
+use nultiway::sizes::VERSION;
 use nultiway::{words, Config, Decision, Demand, Gcra, HotSet, Limit, Limiter, PeerDemand, Quota, Tally};
 
 const SECOND: u64 = 1_000_000_000;
@@ -38,6 +39,11 @@ fn used() -> (Limiter, PeerDemand) {
         limiter.tick_with_shares(now * SECOND / 8, 2, &peers);
     }
     (limiter, peers)
+}
+
+#[test]
+fn version_is_the_archives() {
+    assert_eq!(words::version(), VERSION);
 }
 
 #[test]

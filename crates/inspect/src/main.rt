@@ -42,11 +42,11 @@ fn put_line(out: &mut [u8], at: usize, record: &[u8]) -> usize {
     text::flush(out, next, LINE)
 }
 
-// Writes the lines of a valid image.
+// Writes the lines of a valid image, as long as no write fails.
 fn put_image(out: &mut [u8], image: &[u8]) {
     let mut at = 0;
     let mut here = 0;
-    while here < image.len() {
+    while here < image.len() && at != text::FAILED {
         let end = record_end(image, here);
         at = put_line(out, at, &image[here..end]);
         here = end;

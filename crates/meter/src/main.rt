@@ -1,5 +1,5 @@
 // Reads a rate and a burst, then a reading a line, and writes the meter's decision on each. It stops
-// at the first line that is not what it should be.
+// at the first line that is not what it should be, and where a write fails.
 use gcra::CheckAnswer;
 use gcra::Decision;
 use gcra::Gcra;
@@ -99,9 +99,10 @@ fn decide(out: &mut [u8], at: usize, gcra: Gcra, reading: u64, left: Lines) -> T
         };
     };
     let end = put_decision(out, at, decision);
+    let next = text::flush(out, end, DECISION);
     Turn {
-        over: false,
-        at: text::flush(out, end, DECISION),
+        over: next == text::FAILED,
+        at: next,
         from: left.from,
         to: left.to,
         gcra: after,

@@ -6,3 +6,4 @@ pub mod ImageCalls
 pub mod PeerCalls
 pub mod HotCalls
 pub mod DemandCalls
+pub mod Version

@@ -20,3 +20,4 @@ mod peer_changes;
 mod report;
 mod share_calls;
 mod values;
+mod version;

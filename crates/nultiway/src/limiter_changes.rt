@@ -87,7 +87,8 @@ pub extern "C" fn nultiway_limiter_ask(
     limiter.ask(keys, hot, shadows)
 }
 
-// Sets the cap, the greatest part of its limit that a key gets, or lifts it where `has_cap` is 0.
+// Sets the cap, the greatest part of its limit that a key gets, or lifts it where `has_cap` is 0: for
+// a new key at once, for a tracked one from the next tick on.
 #[no_mangle]
 pub extern "C" fn nultiway_set_cap(
     limiter: &mut [u64],

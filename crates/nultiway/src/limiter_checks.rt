@@ -12,7 +12,8 @@ ghost use Rattle.limiter.specs.State.{atEntry, atExit};
 ghost use Rattle.limiter.specs.Calls.{shadowLimit};
 ghost use Rattle.nultiway.specs.LimiterCalls as Calls;
 
-// Decides on a request for a key under the settings' limit.
+// Decides on a request for a key under the settings' limit: a new key's quota is made of it, a
+// tracked key keeps its quota until the next tick.
 #[no_mangle]
 pub extern "C" fn nultiway_check(
     limiter: &mut [u64],
@@ -43,7 +44,8 @@ pub extern "C" fn nultiway_check(
     put_decision(answer, said)
 }
 
-// Decides on a request for a key under the limit given.
+// Decides on a request for a key under the limit given: a new key's quota is made of it, a tracked
+// key keeps its quota until the next tick, which goes by the limit given last.
 #[no_mangle]
 pub extern "C" fn nultiway_check_in(
     limiter: &mut [u64],

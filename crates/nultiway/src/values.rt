@@ -24,6 +24,11 @@ ghost use Rattle.nultiway.specs.Values.{peersWords, peersOf, peersRoom};
 // The words of a limiter: its settings, and how many key, hot and shadow records are in use.
 pub const LIMITER_WORDS: usize = SETTINGS_WORDS + 3;
 
+// The last of the settings' words: whether there was a tick, and the last tick's time.
+const WAS_TICK: usize = SETTINGS_WORDS - 2;
+
+pub const LAST_TICK: usize = SETTINGS_WORDS - 1;
+
 const KEYS_AT: usize = SETTINGS_WORDS;
 
 const HOT_AT: usize = SETTINGS_WORDS + 1;
@@ -72,7 +77,7 @@ pub(crate) fn limiter_of(words: &[u64]) -> Limiter
     let w = settings_in(words);
     let config = config_of(w);
     let cap = cap_of(w[9], w[10]);
-    let last_tick = last_tick_of(w[11], w[12]);
+    let last_tick = last_tick_of(w[WAS_TICK], w[LAST_TICK]);
     Limiter {
         config,
         cap,

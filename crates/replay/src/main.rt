@@ -262,10 +262,11 @@ fn put_line(
     answers::end_line(out, end)
 }
 
-fn is_end(kind: Kind) -> bool {
+// Whether no further line is to be answered: the input ended, or a write failed.
+fn is_over(kind: Kind, at: usize) -> bool {
     match kind {
-        Kind::Whole => false,
-        Kind::TooLong => false,
+        Kind::Whole => at == text::FAILED,
+        Kind::TooLong => at == text::FAILED,
         Kind::End => true,
     }
 }
@@ -325,9 +326,10 @@ fn answer_line(
     Answered { at: end, session }
 }
 
-// After a line: whether the input ended, the bytes in hand, where the answers end, and the session.
+// After a line: whether it was the last that is answered, the bytes in hand, where the answers end,
+// and the session.
 struct Turn {
-    ended: bool,
+    over: bool,
     from: usize,
     to: usize,
     at: usize,
@@ -379,7 +381,7 @@ fn turn_of(
     );
     let session = answered.session;
     Turn {
-        ended: is_end(kind),
+        over: is_over(kind, answered.at),
         from: left.from,
         to: left.to,
         at: answered.at,
@@ -404,14 +406,14 @@ fn run(
 ) {
     let session = session::nothing();
     let mut t = Turn {
-        ended: false,
+        over: false,
         from: 0,
         to: 0,
         at: 0,
         session,
     };
     let mut turns = u64::MAX;
-    while 0 < turns && !t.ended {
+    while 0 < turns && !t.over {
         t = turn_of(
             show,
             input,

@@ -1,6 +1,7 @@
 -- Text written into a buffer.
 use mathlib.Core.Path.{_≡_}
-use Prim.Native.Nat.{ℕ, _+_}
+use Prim.Native.Nat.{ℕ, _+_, _-_, _^_, _≤_, _<_}
+use mathlib.Core.Logic.{_⊎_}
 use mathlib.Core.Bool.{cond}
 use mathlib.Core.List.{List}
 use lib.Dec.{leb}
@@ -23,6 +24,12 @@ pub record Spelled (base least n at r : ℕ) (xs ys : List ℕ) : Type 0 where
   pub text : ys ≡ written at (digits base count n) xs
   pub ends : r ≡ end at (digits base count n) xs
 
--- where to go on writing: behind what is there where that leaves `room` bytes, else at the front
-unfoldable pub flushed : (at room : ℕ) → List ℕ → ℕ
-flushed at room xs = cond (leb (at + room) (length xs)) at 0
+-- where text is put once standard output has failed: past every buffer, so that none is written
+unfoldable pub failed : ℕ
+failed = 2 ^ 64 - 1
+
+-- Where to go on writing: at the same place where `room` bytes are left behind what is ready, or where nothing can be ready
+-- that far. Else at the front, or at `failed`; which of the two, the contract of `write` leaves open.
+pub record Flushed (at room : ℕ) (xs : List ℕ) (r : ℕ) : Type 0 where
+  pub kept : (at + room ≤ length xs) ⊎ (length xs < at) → r ≡ at
+  pub emptied : at ≤ length xs → length xs < at + room → (r ≡ 0) ⊎ (r ≡ failed)

@@ -7,7 +7,7 @@ ghost use Prim.Native.Nat.{_≤_, _<_, min, max};
 ghost use lib.ListN.{length};
 ghost use Rattle.text.specs.Input.{indexOf};
 ghost use Rattle.text.specs.Numbers.{digit, ifFits, numeral, decimalNumber, hexNumber};
-ghost use Rattle.text.specs.Output.{written, end, Spelled, flushed};
+ghost use Rattle.text.specs.Output.{written, end, Spelled, Flushed};
 
 pub enum Number {
     Value(u64),
@@ -130,17 +130,24 @@ pub fn put_hex(out: &mut [u8], at: usize, n: u64, width: usize) -> usize
     put(out, at, &text[..k])
 }
 
+// The index that text is put at once standard output has failed: `put` writes nothing there.
+pub const FAILED: usize = usize::MAX;
+
 // Writes the first `at` bytes of the buffer to standard output where fewer than `room` are left
-// behind them, and answers where to go on.
+// behind them, and answers where to go on. A write that fails is told on standard error and
+// answered with FAILED, which stays, so it is told once.
 pub fn flush(out: &[u8], at: usize, room: usize) -> usize
-    ensures { λ r. ⌜ r ≡ flushed at room (now (out .entry)) ⌝ }
+    ensures { λ r. ⌜ Flushed at room (now (out .entry)) r ⌝ }
 {
     if out.len() < at {
-        return 0;
+        return at;
     }
     if room <= out.len() - at {
         return at;
     }
-    io::write_all(STDOUT_FILENO, &out[..at]);
-    0
+    if io::write_all(STDOUT_FILENO, &out[..at]) {
+        return 0;
+    }
+    os::fail(b"standard output");
+    FAILED
 }

@@ -325,7 +325,7 @@ module _ (c : Config) (ms : List Move) where
   pub kept-if-spared : (key : ℕ) → Spared key (newStates c) ms → Kept none (trace key (newStates c) ms shown)
   kept-if-spared key = from-none key .1
 
-  -- So the bound is kept under the premises as 01's demand 3 has them: 'the key is never removed by the tracked-key cap'.
+  -- So the bound is kept under the premises as demand 3 has them: 'the key is never removed by the tracked-key cap'.
   pub counted-if-spared :
       (key : ℕ) → let all = trace key (newStates c) ms shown in
       Spared key (newStates c) ms → Onward 0 all → Small (largestBurst all) all → KeepsToTheBound all
