@@ -1,10 +1,11 @@
-//! A server loop over the crate `nultiway`: reads keys, one a line, and answers `allow` or `deny TIME`. It ticks once a
-//! period, saves its state on SIGUSR1 and at the end of its input, and takes it up again when it starts. Where the last
-//! save fails it ends with status 1.
+//! A server loop over the crate `nultiway`: reads keys, one a line, and answers each with `allow`, with `deny TIME`, the
+//! reading from which it would be allowed, or with `no N` where its check is refused; a line that is no number counts as
+//! key 0. It ticks once a period. It saves its state on SIGUSR1, and at the end of its input or on SIGTERM or SIGINT, when it
+//! ends: with status 1 where reading, writing or that save failed. It takes the state up again when it starts.
 //!
 //!     cargo run --manifest-path bindings/rust/Cargo.toml --example server STATE
 
-use std::io::{self, BufRead};
+use std::io::{self, BufRead, ErrorKind, Write};
 use std::sync::atomic::{AtomicBool, Ordering};
 use std::sync::mpsc::{self, Receiver, RecvTimeoutError};
 use std::time::{Duration, Instant, SystemTime, UNIX_EPOCH};
@@ -15,17 +16,22 @@ use nultiway::{Config, Decision, Limit, Limiter, Nanos, PeerDemand};
 
 const CLUSTER_SIZE: usize = 1;
 const TABLE_SIZE: usize = 1024;
+const BATCH: usize = 256;
 const PERIOD: Duration = Duration::from_millis(200);
+const SIGINT: i32 = 2;
 const SIGUSR1: i32 = 10;
+const SIGTERM: i32 = 15;
 
 static SAVE_WANTED: AtomicBool = AtomicBool::new(false);
+static END_WANTED: AtomicBool = AtomicBool::new(false);
 
 extern "C" {
     fn signal(number: i32, handler: extern "C" fn(i32)) -> usize;
 }
 
-extern "C" fn on_signal(_: i32) {
-    SAVE_WANTED.store(true, Ordering::Relaxed);
+extern "C" fn on_signal(number: i32) {
+    let wanted = if number == SIGUSR1 { &SAVE_WANTED } else { &END_WANTED };
+    wanted.store(true, Ordering::Relaxed);
 }
 
 /// Readings that never go back: a monotonic clock that starts at the time of day, or at a state's last tick where that is
@@ -42,15 +48,20 @@ impl Clock {
     }
 
     fn now(&self) -> Nanos {
-        self.start + self.since.elapsed().as_nanos() as Nanos
+        self.start.saturating_add(self.since.elapsed().as_nanos() as Nanos)
     }
 }
 
-/// The state in the file, or a new one where there is none: one request in ten seconds, two at once.
-fn resume(path: &str) -> (Limiter, PeerDemand) {
-    if let Ok(image) = fs::read(path) {
-        return Limiter::load(&image);
+/// The state in the file, or a new one where there is no file: one request in ten seconds, two at once.
+fn resume(path: &str) -> io::Result<(Limiter, PeerDemand)> {
+    match fs::read(path) {
+        Ok(image) => Limiter::try_load(&image).map_err(io::Error::other),
+        Err(error) if error.kind() == ErrorKind::NotFound => Ok(new()),
+        Err(error) => Err(error),
     }
+}
+
+fn new() -> (Limiter, PeerDemand) {
     let config = Config {
         limit: Limit { rate: 0.1, burst: 2 },
         alpha: 1.0,
@@ -73,50 +84,61 @@ fn save(path: &str, limiter: &mut Limiter, peers: &PeerDemand, time: Nanos) -> i
 }
 
 /// Answers the keys that are there, in one call.
-fn answer(limiter: &mut Limiter, keys: &[u64], time: Nanos) {
+fn answer(limiter: &mut Limiter, keys: &[u64], time: Nanos) -> io::Result<()> {
     let checks: Vec<(u64, Nanos)> = keys.iter().map(|&key| (key, time)).collect();
+    let mut out = io::stdout().lock();
     for decision in limiter.try_check_each(&checks, CLUSTER_SIZE).expect("the state is valid") {
         match decision {
-            Ok(Decision::Allow) => println!("allow"),
-            Ok(Decision::Deny { retry_at }) => println!("deny {retry_at}"),
-            Err(refused) => println!("no {}", refused.number()),
+            Ok(Decision::Allow) => writeln!(out, "allow")?,
+            Ok(Decision::Deny { retry_at }) => writeln!(out, "deny {retry_at}")?,
+            Err(refused) => writeln!(out, "no {}", refused.number())?,
         }
     }
+    out.flush()
 }
 
 /// The keys of standard input, as they come.
-fn keys() -> Receiver<u64> {
+fn keys() -> Receiver<io::Result<u64>> {
     let (sender, receiver) = mpsc::channel();
     thread::spawn(move || {
-        let lines = io::stdin().lock().lines().map_while(Result::ok);
-        lines.map(|line| line.trim().parse().unwrap_or(0)).try_for_each(|key| sender.send(key))
+        let lines = io::stdin().lock().lines();
+        lines.map(|line| line.map(|line| line.parse().unwrap_or(0))).try_for_each(|key| sender.send(key))
     });
     receiver
 }
 
-fn main() -> io::Result<()> {
-    let path = env::args().nth(1).expect("usage: server STATE");
-    let (mut limiter, peers) = resume(&path);
-    let clock = Clock::of(&limiter);
-    // SAFETY: the handler does nothing but store to an atomic.
-    unsafe { signal(SIGUSR1, on_signal) };
+/// Answers key after key and ticks, until the input ends or a signal comes.
+fn serve(path: &str, limiter: &mut Limiter, peers: &PeerDemand, clock: &Clock) -> io::Result<()> {
     let (keys, mut ticked) = (keys(), clock.now());
-    loop {
+    while !END_WANTED.load(Ordering::Relaxed) {
         let first = keys.recv_timeout(PERIOD);
         if SAVE_WANTED.swap(false, Ordering::Relaxed) {
-            save(&path, &mut limiter, &peers, clock.now()).unwrap_or_else(|error| eprintln!("{path}: {error}"));
+            save(path, limiter, peers, clock.now()).unwrap_or_else(|error| eprintln!("{path}: {error}"));
         }
         if clock.now() - ticked >= PERIOD.as_nanos() as Nanos {
             ticked = clock.now();
-            limiter.tick_with_shares(ticked, CLUSTER_SIZE, &peers);
+            limiter.tick_with_shares(ticked, CLUSTER_SIZE, peers);
         }
         match first {
             Ok(key) => {
-                let batch: Vec<u64> = [key].into_iter().chain(keys.try_iter().take(255)).collect();
-                answer(&mut limiter, &batch, clock.now());
+                let batch: io::Result<Vec<u64>> = [key].into_iter().chain(keys.try_iter().take(BATCH - 1)).collect();
+                answer(limiter, &batch?, clock.now())?;
             }
             Err(RecvTimeoutError::Timeout) => {}
-            Err(RecvTimeoutError::Disconnected) => return save(&path, &mut limiter, &peers, clock.now()),
+            Err(RecvTimeoutError::Disconnected) => return Ok(()),
         }
     }
+    Ok(())
+}
+
+fn main() -> io::Result<()> {
+    let path = env::args().nth(1).expect("usage: server STATE");
+    let (mut limiter, peers) = resume(&path)?;
+    let clock = Clock::of(&limiter);
+    for number in [SIGUSR1, SIGTERM, SIGINT] {
+        // SAFETY: the handler does nothing but store to an atomic.
+        unsafe { signal(number, on_signal) };
+    }
+    let served = serve(&path, &mut limiter, &peers, &clock);
+    save(&path, &mut limiter, &peers, clock.now()).and(served)
 }

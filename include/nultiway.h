@@ -20,8 +20,8 @@
  *   of the last tick, that from which it measures, the time constant.
  * A missing part is 0. What a function tells stands at the front of `answer`, which has as many
  * words as the macro above the function says: a decision is two words, 1 where denied and the retry
- * time, both 0 where allowed; a value that may be missing has a flag before it, and both are 0 where
- * it is. Times are nanoseconds, rates a second. A uint8_t that is handed in is 0 for no, any other
+ * time, the reading from which it would be allowed, both 0 where allowed; a value that may be missing
+ * has a flag before it, and both are 0 where it is. Times are nanoseconds, rates a second. A uint8_t that is handed in is 0 for no, any other
  * number for yes; a bool that is lent is 0 or 1.
  *
  * A load takes up to 1 MiB of stack, a tick or a list of a limiter's keys up to 128 KiB, any other
@@ -316,13 +316,14 @@ uint8_t nultiway_limiter_ask(const uint64_t *limiter, size_t limiter_len,
     const uint64_t *keys, size_t keys_len, const uint64_t *hot, size_t hot_len,
     const uint64_t *shadows, size_t shadows_len);
 
-/* Sets the cap, the greatest part of its limit that a key gets, or lifts it where `has_cap` is 0:
- * for a new key at once, for a tracked one from the next tick on. */
+/* Sets the cap, the greatest part of its limit that a key gets, or lifts it where `has_cap` is 0 or
+ * the cap is NaN: for a new key at once, for a tracked one from the next tick on. */
 uint8_t nultiway_set_cap(uint64_t *limiter, size_t limiter_len,
     const uint64_t *keys, size_t keys_len, const uint64_t *hot, size_t hot_len,
     const uint64_t *shadows, size_t shadows_len, uint8_t has_cap, double cap);
 
-/* Adds attempts and denials of a key that were counted elsewhere. */
+/* Adds attempts and denials of a key that were counted elsewhere, and gives it the limit, without
+ * asking its meter; a key that is not tracked is made. */
 uint8_t nultiway_record(uint64_t *limiter, size_t limiter_len, uint64_t *keys, size_t keys_len,
     const uint64_t *hot, size_t hot_len, const uint64_t *shadows, size_t shadows_len, uint64_t key,
     uint64_t attempts, uint64_t denials, uint64_t shadow_denials, double rate, uint32_t burst,
@@ -345,7 +346,8 @@ uint8_t nultiway_tick_with_shares(uint64_t *limiter, size_t limiter_len,
 /* ---- Checks of keys. */
 
 /* Decides on a request for a key under the settings' limit: a new key's quota is made of it, a
- * tracked key keeps its quota until the next tick. */
+ * tracked key keeps its quota until the next tick, which goes by the limit given last, here this
+ * one. */
 #define NULTIWAY_CHECK_ANSWER 2
 uint8_t nultiway_check(uint64_t *limiter, size_t limiter_len, uint64_t *keys, size_t keys_len,
     const uint64_t *hot, size_t hot_len, const uint64_t *shadows, size_t shadows_len, uint64_t key,
@@ -359,8 +361,9 @@ uint8_t nultiway_check_in(uint64_t *limiter, size_t limiter_len, uint64_t *keys,
     double rate, uint32_t burst, uint64_t reading, uint64_t cluster_size,
     uint64_t *answer, size_t answer_len);
 
-/* Does the same and tells a shadow limit's decision, none where `has_shadow` is 0: a decision,
- * whether there is a shadow, and its decision. */
+/* Does the same beside a shadow limit, and tells a decision, whether there is a shadow, and its
+ * decision: the shadow's quota is the key's at the ratio of the two rates, and where `has_shadow`
+ * is 0 the key's shadow is removed. */
 #define NULTIWAY_CHECK_IN_TRACED_ANSWER 5
 uint8_t nultiway_check_in_traced(uint64_t *limiter, size_t limiter_len,
     uint64_t *keys, size_t keys_len, const uint64_t *hot, size_t hot_len,
@@ -368,8 +371,9 @@ uint8_t nultiway_check_in_traced(uint64_t *limiter, size_t limiter_len,
     uint8_t has_shadow, double shadow_rate, uint32_t shadow_burst, uint64_t reading,
     uint64_t cluster_size, uint64_t *answer, size_t answer_len);
 
-/* Checks `count` pairs of a key and a reading, one after the other: three words for each, the
- * number of the question that it fails or 0, whether it is denied, and the retry time. */
+/* Checks `count` pairs of a key and a reading under the settings' limit, one after the other: three
+ * words for each, the number of the question that it fails or 0, whether it is denied, and the
+ * retry time. */
 uint8_t nultiway_check_each(uint64_t *limiter, size_t limiter_len, uint64_t *keys, size_t keys_len,
     const uint64_t *hot, size_t hot_len, const uint64_t *shadows, size_t shadows_len,
     const uint64_t *list, size_t list_len, uint64_t count, uint64_t cluster_size,

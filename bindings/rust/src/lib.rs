@@ -3,14 +3,15 @@
 //! its limiter, its peers' demand or a layer below these changes the import alone.
 //!
 //! Each call comes in two forms. `try_check(..)` and its like answer `Result<_, Refused>`; a refused call has changed
-//! nothing. `check(..)` has rateguard's signature and panics with the question's words where the call is refused, as
-//! rateguard does. Of rateguard's, `Limiter::tick_with_shares` alone has another one: it takes the peers.
+//! nothing. `check(..)` has rateguard's signature and panics with the question's words where the call is refused, also
+//! where rateguard would answer, as where the table is full. Of rateguard's signatures that of `Limiter::tick_with_shares`
+//! alone is another one: it takes the peers.
 //!
 //! ```
 //! use nultiway::gcra::Decision;
 //! use nultiway::limiter::{Config, Limit, Limiter};
 //!
-//! let mut limiter = Limiter::new(Config {
+//! let config = Config {
 //!     limit: Limit { rate: 3.0, burst: 2 },
 //!     alpha: 1.0,
 //!     floor_factor: 0.5,
@@ -18,7 +19,8 @@
 //!     hot_set_size: 64,
 //!     max_tracked_keys: 1_000,
 //!     demand_time_constant: 1_000_000_000,
-//! });
+//! };
+//! let mut limiter = Limiter::with_table_size(config, 1_000);
 //! assert_eq!(limiter.check(7, 0, 1), Decision::Allow);
 //! assert_eq!(limiter.check(7, 0, 1), Decision::Allow);
 //! assert_eq!(limiter.check(7, 0, 1), Decision::Deny { retry_at: 333_333_334 });

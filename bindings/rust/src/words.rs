@@ -385,15 +385,16 @@ pub fn limiter_ask(limiter: &[u64], keys: &[u64], hot: &[u64], shadows: &[u64]) 
         shadows.as_ptr(), shadows.len()) }
 }
 
-/// Sets the cap, the greatest part of its limit that a key gets, or lifts it where `has_cap` is 0: for a new key at
-/// once, for a tracked one from the next tick on.
+/// Sets the cap, the greatest part of its limit that a key gets, or lifts it where `has_cap` is 0 or the cap is NaN:
+/// for a new key at once, for a tracked one from the next tick on.
 pub fn set_cap(limiter: &mut [u64], keys: &[u64], hot: &[u64], shadows: &[u64], has_cap: u8, cap: f64) -> u8 {
     // SAFETY: each pointer goes with its slice's length, and is borrowed for the call.
     unsafe { nultiway_set_cap(limiter.as_mut_ptr(), limiter.len(), keys.as_ptr(), keys.len(), hot.as_ptr(), hot.len(),
         shadows.as_ptr(), shadows.len(), has_cap, cap) }
 }
 
-/// Adds attempts and denials of a key that were counted elsewhere.
+/// Adds attempts and denials of a key that were counted elsewhere, and gives it the limit, without asking its meter; a
+/// key that is not tracked is made.
 pub fn record(limiter: &mut [u64], keys: &mut [u64], hot: &[u64], shadows: &[u64], key: u64, attempts: u64,
     denials: u64, shadow_denials: u64, rate: f64, burst: u32, reading: u64, cluster_size: u64) -> u8 {
     // SAFETY: each pointer goes with its slice's length, and is borrowed for the call.
@@ -421,7 +422,7 @@ pub fn tick_with_shares(limiter: &mut [u64], keys: &mut [u64], hot: &mut [u64], 
 }
 
 /// Decides on a request for a key under the settings' limit: a new key's quota is made of it, a tracked key keeps its
-/// quota until the next tick.
+/// quota until the next tick, which goes by the limit given last, here this one.
 pub fn check(limiter: &mut [u64], keys: &mut [u64], hot: &[u64], shadows: &[u64], key: u64, reading: u64,
     cluster_size: u64, answer: &mut [u64]) -> u8 {
     // SAFETY: each pointer goes with its slice's length, and is borrowed for the call.
@@ -439,8 +440,8 @@ pub fn check_in(limiter: &mut [u64], keys: &mut [u64], hot: &[u64], shadows: &[u
         answer.as_mut_ptr(), answer.len()) }
 }
 
-/// Does the same and tells a shadow limit's decision, none where `has_shadow` is 0: a decision, whether there is a
-/// shadow, and its decision.
+/// Does the same beside a shadow limit, and tells a decision, whether there is a shadow, and its decision: the shadow's
+/// quota is the key's at the ratio of the two rates, and where `has_shadow` is 0 the key's shadow is removed.
 pub fn check_in_traced(limiter: &mut [u64], keys: &mut [u64], hot: &[u64], shadows: &mut [u64], key: u64, rate: f64,
     burst: u32, has_shadow: u8, shadow_rate: f64, shadow_burst: u32, reading: u64, cluster_size: u64,
     answer: &mut [u64]) -> u8 {
@@ -450,8 +451,8 @@ pub fn check_in_traced(limiter: &mut [u64], keys: &mut [u64], hot: &[u64], shado
         shadow_burst, reading, cluster_size, answer.as_mut_ptr(), answer.len()) }
 }
 
-/// Checks `count` pairs of a key and a reading, one after the other: three words for each, the number of the question
-/// that it fails or 0, whether it is denied, and the retry time.
+/// Checks `count` pairs of a key and a reading under the settings' limit, one after the other: three words for each,
+/// the number of the question that it fails or 0, whether it is denied, and the retry time.
 pub fn check_each(limiter: &mut [u64], keys: &mut [u64], hot: &[u64], shadows: &[u64], list: &[u64], count: u64,
     cluster_size: u64, out: &mut [u64]) -> u8 {
     // SAFETY: each pointer goes with its slice's length, and is borrowed for the call.

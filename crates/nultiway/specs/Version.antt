@@ -1,4 +1,4 @@
--- The version that CHANGELOG.md names last: 0.2.0.
+-- The version that CHANGELOG.md has first: 0.2.0.
 use Prim.Native.Nat.{ℕ, _+_, _*_}
 
 -- 10,000 for a major step, 100 for a minor one, 1 for a patch

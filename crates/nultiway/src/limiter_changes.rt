@@ -87,8 +87,8 @@ pub extern "C" fn nultiway_limiter_ask(
     limiter.ask(keys, hot, shadows)
 }
 
-// Sets the cap, the greatest part of its limit that a key gets, or lifts it where `has_cap` is 0: for
-// a new key at once, for a tracked one from the next tick on.
+// Sets the cap, the greatest part of its limit that a key gets, or lifts it where `has_cap` is 0 or
+// the cap is NaN: for a new key at once, for a tracked one from the next tick on.
 #[no_mangle]
 pub extern "C" fn nultiway_set_cap(
     limiter: &mut [u64],
@@ -115,7 +115,8 @@ pub extern "C" fn nultiway_set_cap(
     change_number(said)
 }
 
-// Adds attempts and denials of a key that were counted elsewhere.
+// Adds attempts and denials of a key that were counted elsewhere, and gives it the limit, without
+// asking its meter; a key that is not tracked is made.
 #[no_mangle]
 pub extern "C" fn nultiway_record(
     limiter: &mut [u64],

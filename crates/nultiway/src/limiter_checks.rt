@@ -13,7 +13,7 @@ ghost use Rattle.limiter.specs.Calls.{shadowLimit};
 ghost use Rattle.nultiway.specs.LimiterCalls as Calls;
 
 // Decides on a request for a key under the settings' limit: a new key's quota is made of it, a
-// tracked key keeps its quota until the next tick.
+// tracked key keeps its quota until the next tick, which goes by the limit given last, here this one.
 #[no_mangle]
 pub extern "C" fn nultiway_check(
     limiter: &mut [u64],
@@ -90,8 +90,9 @@ fn shadow_given(has_shadow: u8, rate: f64, burst: u32) -> Shadow
     Shadow::Of(Limit { rate, burst })
 }
 
-// Does the same and tells a shadow limit's decision, none where `has_shadow` is 0: a decision,
-// whether there is a shadow, and its decision.
+// Does the same beside a shadow limit, and tells a decision, whether there is a shadow, and its
+// decision: the shadow's quota is the key's at the ratio of the two rates, and where `has_shadow` is
+// 0 the key's shadow is removed.
 #[no_mangle]
 pub extern "C" fn nultiway_check_in_traced(
     limiter: &mut [u64],
@@ -132,8 +133,9 @@ pub extern "C" fn nultiway_check_in_traced(
     put_traced(answer, said)
 }
 
-// Checks `count` pairs of a key and a reading, one after the other: three words for each, the
-// number of the question that it fails or 0, whether it is denied, and the retry time.
+// Checks `count` pairs of a key and a reading under the settings' limit, one after the other: three
+// words for each, the number of the question that it fails or 0, whether it is denied, and the retry
+// time.
 #[no_mangle]
 pub extern "C" fn nultiway_check_each(
     limiter: &mut [u64],

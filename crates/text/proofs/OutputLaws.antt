@@ -13,6 +13,6 @@ pub put-when-failed : (s xs : List ℕ) → length xs < failed → (written fail
 unfolding written end
 put-when-failed s xs h = let e = lt-leb (failed + length s) (length xs) (omega (arith, h)) in (rw e, rw e)
 
--- and so does a flush, which then writes nothing
+-- a flush leaves the place
 pub flush-when-failed : (room r : ℕ) (xs : List ℕ) → length xs < failed → Flushed failed room xs r → r ≡ failed
 flush-when-failed room r xs h f = f .kept (inr h)
