@@ -1,7 +1,8 @@
 /* A server loop over libnultiway.a: reads keys, one a line, and answers each with `allow`, with `deny TIME`, the reading from
  * which it would be allowed, or with `no N` where its check is refused; a line that is no number counts as key 0. It ticks
  * once a period. It saves its state on SIGUSR1, and at the end of its input or on SIGTERM or SIGINT, when it ends: with status
- * 1 where a line was too long, or reading, writing or that save failed. It takes the state up again when it starts.
+ * 1 where a line was too long, or reading, writing or that save failed. Answers that nobody reads hold it up; a second SIGTERM
+ * or SIGINT ends it then, without a save. It takes the state up again when it starts.
  *
  *     gcc -I include examples/server.c target/staticlib/libnultiway.a -o target/server && target/server STATE */
 #define _POSIX_C_SOURCE 200809L
@@ -39,6 +40,7 @@ static void on_signal(int number) {
 static void catch_signals(void) {
     struct sigaction caught = {.sa_handler = on_signal, .sa_flags = SA_RESTART}, passed = {.sa_handler = SIG_IGN};
     sigaction(SIGUSR1, &caught, NULL);
+    caught.sa_flags |= SA_RESETHAND; /* a second one ends the server at once */
     sigaction(SIGTERM, &caught, NULL);
     sigaction(SIGINT, &caught, NULL);
     sigaction(SIGPIPE, &passed, NULL); /* a write then fails, and the state is saved */
@@ -77,6 +79,7 @@ static void resume(const char *path) {
     FILE *file = fopen(path, "rb");
     if (file) {
         size_t size = fread(image, 1, sizeof image, file);
+        if (!worked(!ferror(file), path)) exit(1);
         fclose(file);
         must(path, nultiway_load(image, size, LIMITER, PEERS));
         return;
@@ -137,7 +140,7 @@ static bool serve(char *text, size_t size, size_t *held, bool *failed) {
     for (size_t taken; (taken = answer(text, *held)) > 0; *held -= taken) memmove(text, text + taken, *held - taken);
     bool fits = *held < size - 1;
     if (!fits) fprintf(stderr, "server: a line is too long\n");
-    *failed = !worked(got >= 0, "standard input") || !worked(fflush(stdout) == 0, "standard output") || !fits;
+    *failed = !worked(got >= 0, "standard input") || !worked(fflush(stdout) == 0 && !ferror(stdout), "standard output") || !fits;
     return got > 0 && !*failed;
 }
 
@@ -152,7 +155,8 @@ int main(int argc, char **argv) {
     catch_signals();
     for (uint64_t ticked = now(); more && !end_wanted;) {
         struct pollfd input = {STDIN_FILENO, POLLIN, 0};
-        int ready = poll(&input, 1, (int)(PERIOD / 1000000));
+        uint64_t passed = now() - ticked;
+        int ready = poll(&input, 1, passed < PERIOD ? (int)((PERIOD - passed) / 1000000) + 1 : 0);
         if (save_wanted) save_wanted = 0, save(argv[1]);
         if (now() - ticked >= PERIOD) tick(ticked = now());
         if (ready > 0) more = serve(text, sizeof text, &held, &failed);

@@ -1,7 +1,8 @@
 //! A server loop over the crate `nultiway`: reads keys, one a line, and answers each with `allow`, with `deny TIME`, the
 //! reading from which it would be allowed, or with `no N` where its check is refused; a line that is no number counts as
 //! key 0. It ticks once a period. It saves its state on SIGUSR1, and at the end of its input or on SIGTERM or SIGINT, when it
-//! ends: with status 1 where reading, writing or that save failed. It takes the state up again when it starts.
+//! ends: with status 1 where reading, writing or that save failed. Answers that nobody reads hold it up; a second SIGTERM or
+//! SIGINT ends it then, without a save. It takes the state up again when it starts.
 //!
 //!     cargo run --manifest-path bindings/rust/Cargo.toml --example server STATE
 
@@ -26,12 +27,18 @@ static SAVE_WANTED: AtomicBool = AtomicBool::new(false);
 static END_WANTED: AtomicBool = AtomicBool::new(false);
 
 extern "C" {
-    fn signal(number: i32, handler: extern "C" fn(i32)) -> usize;
+    fn signal(number: i32, handler: usize) -> usize;
 }
 
+/// Notes what is wanted; a second signal that is to end the server does so at once.
 extern "C" fn on_signal(number: i32) {
-    let wanted = if number == SIGUSR1 { &SAVE_WANTED } else { &END_WANTED };
-    wanted.store(true, Ordering::Relaxed);
+    if number == SIGUSR1 {
+        SAVE_WANTED.store(true, Ordering::Relaxed);
+        return;
+    }
+    END_WANTED.store(true, Ordering::Relaxed);
+    // SAFETY: `signal` may be called in a handler; 0 is the default action.
+    unsafe { signal(number, 0) };
 }
 
 /// Readings that never go back: a monotonic clock that starts at the time of day, or at a state's last tick where that is
@@ -97,12 +104,17 @@ fn answer(limiter: &mut Limiter, keys: &[u64], time: Nanos) -> io::Result<()> {
     out.flush()
 }
 
-/// The keys of standard input, as they come.
+/// The key of a line.
+fn key_of(line: Vec<u8>) -> u64 {
+    String::from_utf8(line).ok().and_then(|text| text.parse().ok()).unwrap_or(0)
+}
+
+/// The keys of standard input, as they come, a batch ahead at most.
 fn keys() -> Receiver<io::Result<u64>> {
-    let (sender, receiver) = mpsc::channel();
+    let (sender, receiver) = mpsc::sync_channel(BATCH);
     thread::spawn(move || {
-        let lines = io::stdin().lock().lines();
-        lines.map(|line| line.map(|line| line.parse().unwrap_or(0))).try_for_each(|key| sender.send(key))
+        let lines = io::stdin().lock().split(b'\n');
+        lines.map(|line| line.map(key_of)).try_for_each(|key| sender.send(key))
     });
     receiver
 }
@@ -111,7 +123,7 @@ fn keys() -> Receiver<io::Result<u64>> {
 fn serve(path: &str, limiter: &mut Limiter, peers: &PeerDemand, clock: &Clock) -> io::Result<()> {
     let (keys, mut ticked) = (keys(), clock.now());
     while !END_WANTED.load(Ordering::Relaxed) {
-        let first = keys.recv_timeout(PERIOD);
+        let first = keys.recv_timeout(PERIOD.saturating_sub(Duration::from_nanos(clock.now() - ticked)));
         if SAVE_WANTED.swap(false, Ordering::Relaxed) {
             save(path, limiter, peers, clock.now()).unwrap_or_else(|error| eprintln!("{path}: {error}"));
         }
@@ -136,8 +148,8 @@ fn main() -> io::Result<()> {
     let (mut limiter, peers) = resume(&path)?;
     let clock = Clock::of(&limiter);
     for number in [SIGUSR1, SIGTERM, SIGINT] {
-        // SAFETY: the handler does nothing but store to an atomic.
-        unsafe { signal(number, on_signal) };
+        // SAFETY: the handler stores to an atomic and calls `signal`, as a handler may.
+        unsafe { signal(number, on_signal as extern "C" fn(i32) as usize) };
     }
     let served = serve(&path, &mut limiter, &peers, &clock);
     save(&path, &mut limiter, &peers, clock.now()).and(served)

@@ -4,7 +4,8 @@
  *
  * A function that answers uint8_t answers 0, or the number of the first question that the call
  * fails (enum nultiway_question); then no lent word or byte has changed. No pointer may be NULL,
- * even with a length of 0, and no buffer that is written may overlap another of the same call.
+ * even with a length of 0, no buffer that is written may overlap another of the same call, and
+ * nobody else may write a lent buffer during the call.
  * Lengths count what a buffer is of: words, doubles, bools, the bytes of an image. Longer buffers may
  * be lent.
  *
@@ -362,8 +363,8 @@ uint8_t nultiway_check_in(uint64_t *limiter, size_t limiter_len, uint64_t *keys,
     uint64_t *answer, size_t answer_len);
 
 /* Does the same beside a shadow limit, and tells a decision, whether there is a shadow, and its
- * decision: the shadow's quota is the key's at the ratio of the two rates, and where `has_shadow`
- * is 0 the key's shadow is removed. */
+ * decision: the shadow's quota has the rate of the key's, at the ratio of the two limits' rates,
+ * and the shadow limit's burst, and where `has_shadow` is 0 the key's shadow is removed. */
 #define NULTIWAY_CHECK_IN_TRACED_ANSWER 5
 uint8_t nultiway_check_in_traced(uint64_t *limiter, size_t limiter_len,
     uint64_t *keys, size_t keys_len, const uint64_t *hot, size_t hot_len,

@@ -1,6 +1,6 @@
 //! A rate limiter whose quoted figure is a theorem: rateguard's sequential limiter, over the proved library
 //! libnultiway.a. The modules have rateguard-core's names, and `proto` those of rateguard-proto, so a server that uses
-//! its limiter, its peers' demand or a layer below these changes the import alone.
+//! its limiter, its peers' demand or a layer below these changes its imports and little else.
 //!
 //! Each call comes in two forms. `try_check(..)` and its like answer `Result<_, Refused>`; a refused call has changed
 //! nothing. `check(..)` has rateguard's signature and panics with the question's words where the call is refused, also

@@ -441,7 +441,8 @@ pub fn check_in(limiter: &mut [u64], keys: &mut [u64], hot: &[u64], shadows: &[u
 }
 
 /// Does the same beside a shadow limit, and tells a decision, whether there is a shadow, and its decision: the shadow's
-/// quota is the key's at the ratio of the two rates, and where `has_shadow` is 0 the key's shadow is removed.
+/// quota has the rate of the key's, at the ratio of the two limits' rates, and the shadow limit's burst, and where
+/// `has_shadow` is 0 the key's shadow is removed.
 pub fn check_in_traced(limiter: &mut [u64], keys: &mut [u64], hot: &[u64], shadows: &mut [u64], key: u64, rate: f64,
     burst: u32, has_shadow: u8, shadow_rate: f64, shadow_burst: u32, reading: u64, cluster_size: u64,
     answer: &mut [u64]) -> u8 {

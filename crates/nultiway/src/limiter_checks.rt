@@ -91,8 +91,8 @@ fn shadow_given(has_shadow: u8, rate: f64, burst: u32) -> Shadow
 }
 
 // Does the same beside a shadow limit, and tells a decision, whether there is a shadow, and its
-// decision: the shadow's quota is the key's at the ratio of the two rates, and where `has_shadow` is
-// 0 the key's shadow is removed.
+// decision: the shadow's quota has the rate of the key's, at the ratio of the two limits' rates, and
+// the shadow limit's burst, and where `has_shadow` is 0 the key's shadow is removed.
 #[no_mangle]
 pub extern "C" fn nultiway_check_in_traced(
     limiter: &mut [u64],
