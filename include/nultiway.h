@@ -21,9 +21,9 @@
  *   of the last tick, that from which it measures, the time constant.
  * A missing part is 0. What a function tells stands at the front of `answer`, which has as many
  * words as the macro above the function says: a decision is two words, 1 where denied and the retry
- * time, the reading from which it would be allowed, both 0 where allowed; a value that may be missing
- * has a flag before it, and both are 0 where it is. Times are nanoseconds, rates a second. A uint8_t that is handed in is 0 for no, any other
- * number for yes; a bool that is lent is 0 or 1.
+ * time, the reading from which it would be allowed, both 0 where allowed; a value that may be
+ * missing has a flag before it, and both are 0 where it is. Times are nanoseconds, rates a second.
+ * A uint8_t that is handed in is 0 for no, any other number for yes; a bool that is lent is 0 or 1.
  *
  * A load takes up to 1 MiB of stack, a tick or a list of a limiter's keys up to 128 KiB, any other
  * call up to 64 KiB. */

@@ -171,7 +171,8 @@ impl Limiter {
         answered(words::limiter_ask(&self.words, &self.tables.keys, &self.tables.hot, &self.tables.shadows))
     }
 
-    /// Sets or lifts the cap, the greatest part of its limit that a key gets; NaN counts as none.
+    /// Sets or lifts the cap, the greatest part of its limit that a key gets, a tracked one from the next tick on; NaN
+    /// counts as none.
     pub fn try_set_cap(&mut self, cap: Option<f64>) -> Result<(), Refused> {
         let Self { words, tables, .. } = self;
         let (has_cap, cap) = (cap.is_some().into(), cap.unwrap_or_default());
@@ -184,7 +185,7 @@ impl Limiter {
         or_panic(self.try_set_cap(cap))
     }
 
-    /// Decides on a request for `key` under the settings' limit.
+    /// Decides on a request for `key` under the settings' limit, which a tracked key takes over at the next tick.
     pub fn try_check(&mut self, key: u64, now: Nanos, cluster_size: usize) -> Result<Decision, Refused> {
         let Self { words, tables, .. } = self;
         let (n, mut answer) = (cluster_size as u64, [0; 2]);
@@ -264,7 +265,7 @@ impl Limiter {
         or_panic(self.try_check_in_traced(key, limit, shadow, now, cluster_size))
     }
 
-    /// Adds counts that were taken elsewhere to those of `key`.
+    /// Adds counts that were taken elsewhere to those of `key`, which gets the limit as by a check and is made if new.
     pub fn try_record(
         &mut self,
         key: u64,
@@ -285,7 +286,8 @@ impl Limiter {
         or_panic(self.try_record(key, tally, limit, now, cluster_size))
     }
 
-    /// Checks many keys, each at its time, as single checks one after the other; some may be refused and others not.
+    /// Checks many keys, each at its time, as single calls of `check`, one after the other; some may be refused and others
+    /// not.
     pub fn try_check_each(
         &mut self,
         checks: &[(u64, Nanos)],
