@@ -5,7 +5,7 @@ ghost use Rattle.demand.specs.Allocation as Allocation;
 
 // What a share depends on: the limit of the whole cluster, its size, the part of the limit that goes
 // to all nodes alike, and the demand of this node and of all others.
-#[derive(Drop)]
+#[derive(Clone, Copy)]
 pub struct View {
     pub limit: f64,
     pub cluster_size: usize,
@@ -15,7 +15,7 @@ pub struct View {
 }
 
 // The number of the question that was answered 'no', or the share.
-#[derive(Drop)]
+#[derive(Clone, Copy)]
 pub enum ShareAnswer {
     No(u8),
     Is(f64),

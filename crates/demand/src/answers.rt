@@ -1,12 +1,12 @@
 // Answers of readers: the number of the question that was answered 'no', or the value.
 
-#[derive(Drop)]
+#[derive(Clone, Copy)]
 pub enum FlagAnswer {
     No(u8),
     Is(bool),
 }
 
-#[derive(Drop)]
+#[derive(Clone, Copy)]
 pub enum LenAnswer {
     No(u8),
     Is(usize),

@@ -10,14 +10,14 @@ use crate::answers::FlagAnswer;
 use float::whole;
 
 // The times of an estimator, which it has both or neither: of its last tick, and of its start.
-#[derive(Drop)]
+#[derive(Clone, Copy)]
 pub enum Times {
     Unset,
     At { last_tick: u64, since: u64 },
 }
 
 // An estimator: its rate, the attempts that no tick has folded yet, its time constant and its times.
-#[derive(Drop)]
+#[derive(Clone, Copy)]
 pub struct Demand {
     pub current_rate: f64,
     pub attempts_since_tick: u64,
@@ -26,13 +26,13 @@ pub struct Demand {
 }
 
 // Answers: the number of the question that was answered 'no', or the value.
-#[derive(Drop)]
+#[derive(Clone, Copy)]
 pub enum DemandAnswer {
     No(u8),
     Is(Demand),
 }
 
-#[derive(Drop)]
+#[derive(Clone, Copy)]
 pub enum RateAnswer {
     No(u8),
     Is(f64),

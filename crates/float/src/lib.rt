@@ -184,7 +184,7 @@ pub fn total_less(a: u64, b: u64) -> bool
     total_place(a) < total_place(b)
 }
 
-#[derive(Drop)]
+#[derive(Clone, Copy)]
 pub enum Ordering {
     Less,
     Equal,

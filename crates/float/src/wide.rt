@@ -2,7 +2,7 @@
 
 ghost use Rattle.std.specs.Prelude.{◌≡◌, ◌*◌, ◌/◌, ◌%◌, ◌^◌};
 
-#[derive(Drop)]
+#[derive(Clone, Copy)]
 struct Halves {
     high: u64,
     low: u64,

@@ -1,5 +1,5 @@
 -- What each public function answers: 01's questions of it in their order, and then its value. Definitions only.
-use Rattle.std.specs.Prelude.{ℕ, ◌≡◌, Bool, ◌&&◌, List, [], ◌∷◌, ltb, Float}
+use Rattle.std.specs.Prelude.{ℕ, ◌^◌, ◌≡◌, Bool, ◌&&◌, List, [], ◌∷◌, leb, ltb, Float}
 use Rattle.std.proofs.Math.Option.{Option, none, some}
 use Rattle.gcra.specs.declared.Quota.{Quota}
 use Rattle.gcra.specs.declared.Tat.TheVariants.{Unset}
@@ -24,7 +24,7 @@ use Rattle.gcra.specs.declared.SetAnswer.TheVariants as set-answer
 use Rattle.gcra.specs.declared.Checked.{Checked}
 use Rattle.gcra.specs.declared.QuotaSet.{QuotaSet}
 use Rattle.questions.specs.Questions.{Question, ◌asks◌, Answer, refused, given, answer, changed}
-use Rattle.gcra.specs.Packed.{unit_nanos, round_up, with_interval, valid_burst, valid_quota, pack, unpacks, unpack, valid_window, ceiling}
+use Rattle.gcra.specs.Packed.{unit_nanos, round_up, with_interval, valid_burst, valid_quota, pack, unpacks, unpack, ceiling}
 use Rattle.gcra.specs.Rate.{per_second, rate_per_sec, set_quota}
 use Rattle.gcra.specs.Meter.{decision, check, has_debt, retry_after}
 
@@ -88,10 +88,10 @@ quota_pack q = answer (ask_quota q) (pack unit_nanos q)
 unfoldable pub quota_unpack : ℕ → Answer Quota
 quota_unpack w = answer ((14 asks unpacks w) ∷ []) (unpack unit_nanos w)
 
--- questions 2 and 15: is the quoted window 1 to 2^62 ns?
+-- questions 2 and 15: is the quoted window at most 2^62 ns?
 unfoldable pub quota_ceiling : Quota → ℕ → Answer ℕ
 quota_ceiling q window =
-    answer ((2 asks valid_quota unit_nanos q) ∷ (15 asks valid_window window) ∷ []) (ceiling q window)
+    answer ((2 asks valid_quota unit_nanos q) ∷ (15 asks leb window (2 ^ 62)) ∷ []) (ceiling q window)
 
 unfoldable pub gcra_new : Quota → Answer Gcra
 gcra_new q = answer (ask_quota q) (record { quota = q; tat = Unset })

@@ -111,10 +111,6 @@ decode u w =
       tau = tau (value_of w * width u (unit_of w)) (burst_of w);
     }
 
--- question 15: a quoted window is 1 to 2^62 ns (02, [1])
-abbrev pub valid_window : ℕ → Bool
-valid_window window = leb 1 window && leb window (2 ^ 62)
-
--- the quoted ceiling of readings from s to just short of s + window (02, [1])
+-- the quoted ceiling of readings from s to s + window
 unfoldable pub ceiling : Quota → ℕ → ℕ
-ceiling q window = q.burst + (window - 1) / q.interval
+ceiling q window = q.burst + window / q.interval

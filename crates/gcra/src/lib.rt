@@ -19,7 +19,7 @@ pub const MAX_INTERVAL: u64 = ((1 << Quota::INTERVAL_BITS) - 1) * 1_000_000;
 pub const MAX_TAU: u64 = u64::MAX / 2;
 
 // A table of the three unit widths in nanoseconds, for the codes 0 to 2 of a packed word.
-#[derive(Drop)]
+#[derive(Clone, Copy)]
 pub struct Units {
     pub first: u64,
     pub second: u64,
@@ -46,114 +46,114 @@ const VALUE_SCALE: u64 = UNIT_SCALE * UNIT_CODES;
 const COARSER_LEAST: u64 = VALUES / 1_000 + 1;
 
 // How an interval is packed: a count, and the code of the unit that it counts.
-#[derive(Drop)]
+#[derive(Clone, Copy)]
 pub struct Encoded {
     pub value: u64,
     pub unit: u64,
 }
 
 // The pace of a quota: T and tau.
-#[derive(Drop)]
+#[derive(Clone, Copy)]
 pub struct Pace {
     pub t: u64,
     pub tau: u64,
 }
 
 // T in nanoseconds, rounded up to its unit, and the burst that one reading may be allowed at once.
-#[derive(Drop)]
+#[derive(Clone, Copy)]
 pub struct Quota {
     pub interval: u64,
     pub burst: u32,
 }
 
 // A TAT, or that nothing was allowed yet.
-#[derive(Drop)]
+#[derive(Clone, Copy)]
 pub enum Tat {
     Unset,
     At(u64),
 }
 
 // The meter of a key: its quota and its TAT.
-#[derive(Drop)]
+#[derive(Clone, Copy)]
 pub struct Gcra {
     pub quota: Quota,
     pub tat: Tat,
 }
 
 // What a check answers; `retry_at` is 01's retry time.
-#[derive(Drop)]
+#[derive(Clone, Copy)]
 pub enum Decision {
     Allow,
     Deny { retry_at: u64 },
 }
 
 // What `step` decides, and the TAT that it leaves.
-#[derive(Drop)]
+#[derive(Clone, Copy)]
 pub struct Stepped {
     pub decision: Decision,
     pub tat: u64,
 }
 
 // Answers: the number of the question that was answered 'no', or the value.
-#[derive(Drop)]
+#[derive(Clone, Copy)]
 pub enum QuotaAnswer {
     No(u8),
     Is(Quota),
 }
 
-#[derive(Drop)]
+#[derive(Clone, Copy)]
 pub enum NumberAnswer {
     No(u8),
     Is(u64),
 }
 
-#[derive(Drop)]
+#[derive(Clone, Copy)]
 pub enum GcraAnswer {
     No(u8),
     Is(Gcra),
 }
 
-#[derive(Drop)]
+#[derive(Clone, Copy)]
 pub enum DebtAnswer {
     No(u8),
     Is(bool),
 }
 
 // `Now` where a request would be allowed now, else after how many nanoseconds.
-#[derive(Drop)]
+#[derive(Clone, Copy)]
 pub enum RetryAnswer {
     No(u8),
     Now,
     After(u64),
 }
 
-#[derive(Drop)]
+#[derive(Clone, Copy)]
 pub enum RateAnswer {
     No(u8),
     Is(f64),
 }
 
-#[derive(Drop)]
+#[derive(Clone, Copy)]
 pub enum SetAnswer {
     No(u8),
     Done,
 }
 
-#[derive(Drop)]
+#[derive(Clone, Copy)]
 pub enum CheckAnswer {
     No(u8),
     Is(Decision),
 }
 
 // The answer of a check, and the Gcra after it.
-#[derive(Drop)]
+#[derive(Clone, Copy)]
 pub struct Checked {
     pub answer: CheckAnswer,
     pub gcra: Gcra,
 }
 
 // The answer of a change of quota, and the Gcra after it.
-#[derive(Drop)]
+#[derive(Clone, Copy)]
 pub struct QuotaSet {
     pub answer: SetAnswer,
     pub gcra: Gcra,
@@ -463,28 +463,17 @@ impl Quota {
         }
     }
 
-    // Whether a quoted window is 1 to 2^62 ns.
-    fn window_fits(window: u64) -> bool
-        ensures { result ≡ Packed.valid_window window }
-    {
-        if 1 <= window {
-            window <= 1 << 62
-        } else {
-            false
-        }
-    }
-
-    // The quoted ceiling of a window, whose end does not count: burst + (window - 1) / T.
+    // The quoted ceiling of a window, both of whose ends count: burst + window / T.
     pub fn ceiling(self, window: u64) -> NumberAnswer
         ensures { Calls.number_answer result ≡ Calls.quota_ceiling self window }
     {
         if !self.is_valid(UNIT_NANOS) {
             return NumberAnswer::No(2);
         }
-        if !Self::window_fits(window) {
+        if window > 1 << 62 {
             return NumberAnswer::No(15);
         }
-        NumberAnswer::Is(self.burst as u64 + (window - 1) / self.interval)
+        NumberAnswer::Is(self.burst as u64 + window / self.interval)
     }
 }
 

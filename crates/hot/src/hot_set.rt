@@ -21,14 +21,14 @@ use records::fields;
 pub(crate) const EVICTION_MARGIN: f64 = 1.1;
 
 // Whether a primary key's demand is below the threshold, and since when.
-#[derive(Drop)]
+#[derive(Clone, Copy)]
 pub enum Cooling {
     Unset,
     Since(u64),
 }
 
 // An entry of the set.
-#[derive(Drop)]
+#[derive(Clone, Copy)]
 pub struct HotEntry {
     pub key: u64,
     pub demand: f64,
@@ -38,7 +38,7 @@ pub struct HotEntry {
 }
 
 // A set that may grow to `max_size` entries; `len` of them stand in the lent words.
-#[derive(Drop)]
+#[derive(Clone, Copy)]
 pub struct HotSet {
     pub cooldown: u64,
     pub max_size: usize,
@@ -46,32 +46,32 @@ pub struct HotSet {
 }
 
 // What an update answers: whether the key is hot now, and the set.
-#[derive(Drop)]
+#[derive(Clone, Copy)]
 pub struct Updated {
     pub is_hot: bool,
     pub set: HotSet,
 }
 
 // Answers: the number of the question that was answered 'no', or the value.
-#[derive(Drop)]
+#[derive(Clone, Copy)]
 pub enum NewAnswer {
     No(u8),
     Is(HotSet),
 }
 
-#[derive(Drop)]
+#[derive(Clone, Copy)]
 pub enum UpdateAnswer {
     No(u8),
     Is(Updated),
 }
 
-#[derive(Drop)]
+#[derive(Clone, Copy)]
 pub enum EachAnswer {
     No(u8),
     Is(HotSet),
 }
 
-#[derive(Drop)]
+#[derive(Clone, Copy)]
 pub enum SinceAnswer {
     No(u8),
     NotHot,
@@ -79,7 +79,7 @@ pub enum SinceAnswer {
 }
 
 // The entry of a key, or that there is none.
-#[derive(Drop)]
+#[derive(Clone, Copy)]
 enum Slot {
     Free,
     Entry(HotEntry),

@@ -10,14 +10,14 @@ use demand::answers::{FlagAnswer, LenAnswer};
 use hot::hot_set::{HotEntry, HotSet, SinceAnswer, UpdateAnswer};
 
 // Entries as words; `len` of them stand at the front.
-#[derive(Drop)]
+#[derive(Clone, Copy)]
 struct Copied {
     words: [u64; 384],
     len: usize,
 }
 
 // What an update leaves: its answer, and the entries to copy back as words.
-#[derive(Drop)]
+#[derive(Clone, Copy)]
 struct Turn {
     answer: UpdateAnswer,
     words: [u64; 384],

@@ -40,14 +40,14 @@ const MOST_WORDS: usize = rows::SETTINGS_WORDS
 pub const LARGEST_IMAGE: usize = rows::HEAD * MOST_RECORDS + 8 * MOST_WORDS;
 
 // What a load makes: the limiter, and the peers.
-#[derive(Drop)]
+#[derive(Clone, Copy)]
 pub struct Loaded {
     pub limiter: Limiter,
     pub peers: PeerDemand,
 }
 
 // The number of the question that was answered 'no', or what the image makes.
-#[derive(Drop)]
+#[derive(Clone, Copy)]
 pub enum LoadAnswer {
     No(u8),
     Is(Loaded),

@@ -112,7 +112,7 @@ pub(crate) fn first_digit(n: &[u32; 86], from: usize) -> usize
 }
 
 // Nineteen digits of a number as a word, and whether any digit behind them is not 0.
-#[derive(Drop)]
+#[derive(Clone, Copy)]
 pub(crate) struct Head {
     pub(crate) word: u64,
     pub(crate) more: bool,

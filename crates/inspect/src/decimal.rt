@@ -12,7 +12,7 @@ const HEAD_EXPONENT: usize = BIAS + bignum::DIGITS - bignum::HEAD_DIGITS;
 
 // A finite float: mantissa × 2^(exponent − 1074). `closer_below` says that the float below is half
 // as far away as the one above.
-#[derive(Drop)]
+#[derive(Clone, Copy)]
 struct Parts {
     mantissa: u64,
     exponent: usize,
@@ -20,7 +20,7 @@ struct Parts {
 }
 
 // A decimal: digits × 10^(exponent − BIAS).
-#[derive(Drop)]
+#[derive(Clone, Copy)]
 struct Decimal {
     digits: u64,
     exponent: usize,

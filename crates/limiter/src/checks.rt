@@ -25,7 +25,7 @@ use peers::peer_demand::ChangeAnswer;
 
 // The key of a call: whether it is tracked, its place among the records or where it would go, and
 // its state.
-#[derive(Drop)]
+#[derive(Clone, Copy)]
 pub(crate) struct KeyEntry {
     pub tracked: bool,
     pub place: usize,
@@ -33,14 +33,14 @@ pub(crate) struct KeyEntry {
 }
 
 // What a meter decided, and the meter after it.
-#[derive(Drop)]
+#[derive(Clone, Copy)]
 pub(crate) struct Metered {
     pub decision: Decision,
     pub gcra: Gcra,
 }
 
 // What a key's call leaves: the first question that was answered 'no' or 0, and the limiter.
-#[derive(Drop)]
+#[derive(Clone, Copy)]
 pub(crate) struct Raised {
     pub no: u8,
     pub limiter: Limiter,

@@ -28,14 +28,14 @@ use gcra::{CheckAnswer, Decision, Quota};
 use peers::peer_demand::{ChangeAnswer, IMPLAUSIBLE_JUMP};
 
 // A key's limit: requests a second in the whole cluster, and how many one node may allow at once.
-#[derive(Drop)]
+#[derive(Clone, Copy)]
 pub struct Limit {
     pub rate: f64,
     pub burst: u32,
 }
 
 // How one node enforces limits; the Rust's fields, and how many keys the table has room for.
-#[derive(Drop)]
+#[derive(Clone, Copy)]
 pub struct Config {
     pub limit: Limit,
     pub alpha: f64,
@@ -50,7 +50,7 @@ pub struct Config {
 // The rate below which a key is silent, the time constant of the estimators of requests and denials,
 // by how much a demand must beat the least in a full hot set, and from how many rounds on a jump of a
 // peer's is implausible.
-#[derive(Drop)]
+#[derive(Clone, Copy)]
 pub struct Parameters {
     pub silent_level: f64,
     pub denial_time_constant: u64,
@@ -71,21 +71,21 @@ pub(crate) fn parameters_of(limiter: Limiter) -> Parameters
 }
 
 // A part of each key's rate that no key gets more than, or none.
-#[derive(Drop)]
+#[derive(Clone, Copy)]
 pub enum Cap {
     Unset,
     At(f64),
 }
 
 // The reading of the last tick, or none.
-#[derive(Drop)]
+#[derive(Clone, Copy)]
 pub enum LastTick {
     Unset,
     At(u64),
 }
 
 // The settings, and how many key, hot and shadow records are in use.
-#[derive(Drop)]
+#[derive(Clone, Copy)]
 pub struct Limiter {
     pub config: Config,
     pub cap: Cap,
@@ -96,7 +96,7 @@ pub struct Limiter {
 }
 
 // Counts of one key that were taken elsewhere, for `record`.
-#[derive(Drop)]
+#[derive(Clone, Copy)]
 pub struct Tally {
     pub attempts: u64,
     pub denials: u64,
@@ -104,7 +104,7 @@ pub struct Tally {
 }
 
 // Three rates of a key, a second each.
-#[derive(Drop)]
+#[derive(Clone, Copy)]
 pub struct KeyRates {
     pub requests_per_sec: f64,
     pub denied_per_sec: f64,
@@ -112,80 +112,80 @@ pub struct KeyRates {
 }
 
 // A limit that is only tried out, or none.
-#[derive(Drop)]
+#[derive(Clone, Copy)]
 pub enum Shadow {
     Unset,
     Of(Limit),
 }
 
 // What the shadow would have decided, if there is one.
-#[derive(Drop)]
+#[derive(Clone, Copy)]
 pub enum ShadowDecision {
     Unset,
     Is(Decision),
 }
 
 // The decision, and the shadow's.
-#[derive(Drop)]
+#[derive(Clone, Copy)]
 pub struct Traced {
     pub decision: Decision,
     pub shadow: ShadowDecision,
 }
 
 // Answers: the number of the question that was answered 'no', or the value.
-#[derive(Drop)]
+#[derive(Clone, Copy)]
 pub enum LimiterAnswer {
     No(u8),
     Is(Limiter),
 }
 
-#[derive(Drop)]
+#[derive(Clone, Copy)]
 pub enum TracedAnswer {
     No(u8),
     Is(Traced),
 }
 
-#[derive(Drop)]
+#[derive(Clone, Copy)]
 pub enum RatesAnswer {
     No(u8),
     Untracked,
     Is(KeyRates),
 }
 
-#[derive(Drop)]
+#[derive(Clone, Copy)]
 pub enum KeyQuotaAnswer {
     No(u8),
     Untracked,
     Is(Quota),
 }
 
-#[derive(Drop)]
+#[derive(Clone, Copy)]
 pub enum LimitAnswer {
     No(u8),
     Untracked,
     Is(Limit),
 }
 
-#[derive(Drop)]
+#[derive(Clone, Copy)]
 pub enum ConfigAnswer {
     No(u8),
     Is(Config),
 }
 
 // The answer of a call that changes the limiter, and the limiter after it.
-#[derive(Drop)]
+#[derive(Clone, Copy)]
 pub struct Checked {
     pub answer: CheckAnswer,
     pub limiter: Limiter,
 }
 
-#[derive(Drop)]
+#[derive(Clone, Copy)]
 pub struct TracedCheck {
     pub answer: TracedAnswer,
     pub limiter: Limiter,
 }
 
-#[derive(Drop)]
+#[derive(Clone, Copy)]
 pub struct Changed {
     pub answer: ChangeAnswer,
     pub limiter: Limiter,

@@ -14,7 +14,7 @@ use gcra::{DebtAnswer, Gcra};
 use hot::hot_set::{EachAnswer, HotSet};
 
 // How many keys and hot entries are left.
-#[derive(Drop)]
+#[derive(Clone, Copy)]
 pub(crate) struct Passed {
     pub keys: usize,
     pub hot: usize,

@@ -18,7 +18,7 @@ use gcra::{Gcra, Quota};
 
 // What the rates of a tick are worked out from: whether hot keys share evenly, there being no peers;
 // the settings' parts of a limit; and the cluster's size.
-#[derive(Drop)]
+#[derive(Clone, Copy)]
 pub(crate) struct RateTerms {
     pub even: bool,
     pub alpha: f64,

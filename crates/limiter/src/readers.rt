@@ -20,7 +20,7 @@ use gcra::{QuotaAnswer, RateAnswer};
 use hot::hot_set::{HotSet, SinceAnswer};
 
 // A key's state, if it has one.
-#[derive(Drop)]
+#[derive(Clone, Copy)]
 pub(crate) enum TrackedKey {
     Untracked,
     Is(KeyState),

@@ -212,7 +212,7 @@ pub(crate) fn enforce_cap(
 }
 
 // How far a fold moves a rate, with the elapsed time and the time constant that it is for.
-#[derive(Drop)]
+#[derive(Clone, Copy)]
 struct Alpha {
     elapsed: u64,
     time_constant: u64,
@@ -264,7 +264,7 @@ fn fold_estimate(t: &mut [u64], at: usize, reading: u64, known: Alpha) -> Alpha
 }
 
 // The alphas of the two time constants of a key's estimators.
-#[derive(Drop)]
+#[derive(Clone, Copy)]
 struct Alphas {
     demand: Alpha,
     denials: Alpha,

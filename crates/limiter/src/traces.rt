@@ -22,7 +22,7 @@ use gcra::{CheckAnswer, Decision, Gcra, MAX_INTERVAL, Quota, RateAnswer, Tat};
 
 // The shadow of a call: whether the key has one, its place among the records or where it would go,
 // and its meter.
-#[derive(Drop)]
+#[derive(Clone, Copy)]
 pub(crate) struct ShadowEntry {
     pub tracked: bool,
     pub place: usize,
@@ -30,7 +30,7 @@ pub(crate) struct ShadowEntry {
 }
 
 // What a shadow's meter would decide, and the shadow after it.
-#[derive(Drop)]
+#[derive(Clone, Copy)]
 pub(crate) struct Tried {
     pub decision: Decision,
     pub after: ShadowEntry,

@@ -8,7 +8,7 @@ use text::lines::{Kind, Lines};
 const DECISION: usize = 64;
 
 // The meter that the first line asks for; none where the line is unfit or its quota is refused.
-#[derive(Drop)]
+#[derive(Clone, Copy)]
 enum Meter {
     Of(Gcra),
     Nothing,
@@ -71,7 +71,7 @@ fn put_decision(out: &mut [u8], at: usize, decision: Decision) -> usize {
 }
 
 // After a reading: whether the run is over, where the answers end, the bytes in hand and the meter.
-#[derive(Drop)]
+#[derive(Clone, Copy)]
 struct Turn {
     over: bool,
     at: usize,

@@ -2,7 +2,7 @@
 ghost use Rattle.std.specs.Prelude.{◌≡◌};
 
 // The id of a member of the cluster.
-#[derive(Drop)]
+#[derive(Clone, Copy)]
 pub struct PeerId(pub(crate) u64);
 
 impl PeerId {

@@ -9,7 +9,7 @@ ghost use Rattle.peers.specs.Peers.Steps.Heard.{said_of, heard_of, is_listed, Ke
 use crate::peer_demand::{CONTESTED_WORDS, Heard, SNAPSHOT_KEY_WORDS};
 
 // What a peer said, if anything.
-#[derive(Drop)]
+#[derive(Clone, Copy)]
 pub(crate) enum Said {
     Silence,
     Of(Heard),

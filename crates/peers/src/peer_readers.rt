@@ -19,7 +19,7 @@ use crate::{peer_each, peer_heard, peer_state};
 use demand::answers::{FlagAnswer, LenAnswer};
 
 // Where the keys of one peer are in both tables of keys: from one place up to another.
-#[derive(Drop)]
+#[derive(Clone, Copy)]
 pub(crate) struct OwnKeys {
     pub(crate) snapshot_from: usize,
     pub(crate) snapshot_to: usize,

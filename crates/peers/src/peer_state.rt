@@ -12,7 +12,7 @@ use crate::peer_scan;
 
 // Where the keys of each peer start in both tables of keys, and after all peers where the last one's
 // keys end.
-#[derive(Drop)]
+#[derive(Clone, Copy)]
 pub(crate) struct KeyStarts {
     pub(crate) snapshot_keys: [usize; STARTS],
     pub(crate) contested: [usize; STARTS],
@@ -20,7 +20,7 @@ pub(crate) struct KeyStarts {
 
 // The number of the first question that is answered 'no', 0 where none is; then the starts are those
 // of the state.
-#[derive(Drop)]
+#[derive(Clone, Copy)]
 pub(crate) struct AskedStarts {
     pub(crate) no: u8,
     pub(crate) starts: KeyStarts,

@@ -62,11 +62,11 @@ or-false false q h = (refl, h)
 
 -- ---- what a negated test of a result r says of what r is
 
-pub told-no : {r b : Bool} → r ≡ b → not r ≡ true → b ≡ false
-told-no {r} {b} e h = sym e ∙ not-true r h
+pub told-no : {r b : Bool} → r ≡ b → r ≡ false → b ≡ false
+told-no e h = sym e ∙ h
 
-pub told-yes : {r b : Bool} → r ≡ b → not r ≡ false → b ≡ true
-told-yes {r} {b} e h = sym e ∙ not-false r h
+pub told-yes : {r b : Bool} → r ≡ b → r ≡ true → b ≡ true
+told-yes e h = sym e ∙ h
 
 -- ---- tests that hold together are one
 

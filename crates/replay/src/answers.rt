@@ -9,7 +9,7 @@ const ROOM: usize = 20480;
 // flags, hot keys of three words, keys with their rates of four, checks of three; and behind the rate
 // of the settings the rest of them. `Image` is the word before an image's length and its `Hash`;
 // where the answer is `Dump`, the image itself is still to be written.
-#[derive(Drop)]
+#[derive(Clone, Copy)]
 pub(crate) enum Value {
     Nothing,
     Unknown,
@@ -38,7 +38,7 @@ pub(crate) enum Value {
 }
 
 // The values of an answer in their order. Where the first is nothing no line is written.
-#[derive(Drop)]
+#[derive(Clone, Copy)]
 pub(crate) struct Answer {
     pub(crate) first: Value,
     pub(crate) second: Value,

@@ -155,14 +155,14 @@ pub(crate) const SKIPPED: usize = 70;
 const ROW: usize = 16;
 
 // A line's call by its place in the list, and its arguments.
-#[derive(Drop)]
+#[derive(Clone, Copy)]
 pub(crate) struct Call {
     pub(crate) place: usize,
     pub(crate) args: Args,
 }
 
 // A row by its place, its kinds being bytes kinds..end of the list.
-#[derive(Drop)]
+#[derive(Clone, Copy)]
 struct Row {
     place: usize,
     kinds: usize,

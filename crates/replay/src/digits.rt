@@ -26,7 +26,7 @@ fn byte_of(two: &[u8]) -> u64 {
 }
 
 // Whether digits spell bytes, and how many.
-#[derive(Drop)]
+#[derive(Clone, Copy)]
 pub(crate) struct Decoded {
     pub(crate) good: bool,
     pub(crate) len: usize,

@@ -6,14 +6,14 @@ use demand::answers::{FlagAnswer, LenAnswer};
 use hot::hot_set::{HotEntry, HotSet, SinceAnswer, UpdateAnswer};
 
 // What an update answers, and the entries after it.
-#[derive(Drop)]
+#[derive(Clone, Copy)]
 pub(crate) struct Updated {
     pub(crate) answer: UpdateAnswer,
     pub(crate) entries: [HotEntry; 64],
 }
 
 // What the set says of a key, and how many entries it has.
-#[derive(Drop)]
+#[derive(Clone, Copy)]
 pub(crate) struct Readings {
     pub(crate) is_hot: FlagAnswer,
     pub(crate) is_primary: FlagAnswer,

@@ -10,7 +10,7 @@ use text::Number;
 
 // The arguments of a call, if they are good. The next field of the line starts at `next`, past the
 // line's end where none is left.
-#[derive(Drop)]
+#[derive(Clone, Copy)]
 pub(crate) struct Args {
     pub(crate) good: bool,
     pub(crate) next: usize,
@@ -27,7 +27,7 @@ pub(crate) struct Args {
 }
 
 // What a field holds; `Given` is a number that might have been `none`.
-#[derive(Drop)]
+#[derive(Clone, Copy)]
 enum Field {
     Value(u64),
     Given(u64),
@@ -37,7 +37,7 @@ enum Field {
 
 // How far the fields are read: the next one starts at `at`, `value` is what the last one holds, and
 // `given` and `none` say whether one so far was a number that might be missing, or was missing.
-#[derive(Drop)]
+#[derive(Clone, Copy)]
 struct Cursor {
     at: usize,
     good: bool,
@@ -130,7 +130,7 @@ fn field_of(field: &[u8], kind: u8) -> Field {
 }
 
 // The number of a field, if it is good; the next field starts at `next`.
-#[derive(Drop)]
+#[derive(Clone, Copy)]
 pub(crate) struct One {
     pub(crate) good: bool,
     pub(crate) next: usize,
@@ -253,7 +253,7 @@ pub(crate) fn args_of(line: &[u8], at: usize, kinds: &[u8]) -> Args {
 }
 
 // Whole numbers that a line lists to its end.
-#[derive(Drop)]
+#[derive(Clone, Copy)]
 pub(crate) struct Listed {
     pub(crate) words: [u64; 512],
     pub(crate) good: bool,

@@ -8,14 +8,14 @@ use demand::answers::{FlagAnswer, LenAnswer};
 use hot::hot_set::{HotSet, NewAnswer, SinceAnswer, UpdateAnswer};
 
 // The hot set of the script, once one is made.
-#[derive(Drop)]
+#[derive(Clone, Copy)]
 pub(crate) struct Hot {
     pub(crate) made: bool,
     pub(crate) set: HotSet,
 }
 
 // What a call that changes the hot set answers, and the hot set after it.
-#[derive(Drop)]
+#[derive(Clone, Copy)]
 pub(crate) struct Done {
     pub(crate) value: Value,
     pub(crate) hot: Hot,
@@ -89,7 +89,7 @@ fn of_len(answer: LenAnswer) -> Value {
 
 // The value of an answer as two numbers: what kind it is, 0 where the hot set gives none such, and
 // what it holds.
-#[derive(Drop)]
+#[derive(Clone, Copy)]
 struct Numbers {
     kind: u64,
     held: u64,

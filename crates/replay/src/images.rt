@@ -101,7 +101,7 @@ fn load(
 
 // What a call comes to: its answer; or, where it loads, an image of so many bytes that is still to be
 // loaded.
-#[derive(Drop)]
+#[derive(Clone, Copy)]
 struct Step {
     loads: bool,
     len: usize,

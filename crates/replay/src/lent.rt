@@ -5,7 +5,7 @@ use crate::fields::Args;
 
 // The words of the tables of keys, hot keys and shadows, and of peers, snapshot keys and contested
 // keys; more than a table has stands for all of it.
-#[derive(Drop)]
+#[derive(Clone, Copy)]
 pub(crate) struct Lent {
     pub(crate) keys: u64,
     pub(crate) hot: u64,

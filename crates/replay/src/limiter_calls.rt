@@ -10,14 +10,14 @@ use limiter::{
 use peers::peer_demand::ChangeAnswer;
 
 // The limiter of the script, once one is made.
-#[derive(Drop)]
+#[derive(Clone, Copy)]
 pub(crate) struct Node {
     pub(crate) made: bool,
     pub(crate) value: Limiter,
 }
 
 // What a call that changes the limiter answers, and the limiter after it.
-#[derive(Drop)]
+#[derive(Clone, Copy)]
 pub(crate) struct Done {
     pub(crate) answer: Answer,
     pub(crate) node: Node,
@@ -243,7 +243,7 @@ fn change_one(
 
 // What follows the limit of a traced check: the shadow's limit or `none`, the reading and the size
 // of the cluster, to the line's end.
-#[derive(Drop)]
+#[derive(Clone, Copy)]
 struct Trace {
     shadow: Shadow,
     reading: u64,

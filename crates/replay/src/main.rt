@@ -203,7 +203,7 @@ fn is_over(kind: Kind, at: usize) -> bool {
 }
 
 // After an answer: where the answers end, and the session.
-#[derive(Drop)]
+#[derive(Clone, Copy)]
 struct Answered {
     at: usize,
     session: Session,
@@ -239,7 +239,7 @@ fn answer_line(
 
 // After a line: whether it was the last that is answered, the bytes in hand, where the answers end,
 // and the session.
-#[derive(Drop)]
+#[derive(Clone, Copy)]
 struct Turn {
     over: bool,
     from: usize,

@@ -10,14 +10,14 @@ use peers::peer_demand::{
 };
 
 // The peers' state of the script, once it is made.
-#[derive(Drop)]
+#[derive(Clone, Copy)]
 pub(crate) struct Peers {
     pub(crate) made: bool,
     pub(crate) value: PeerDemand,
 }
 
 // What a call that changes the peers answers, and their state after it.
-#[derive(Drop)]
+#[derive(Clone, Copy)]
 pub(crate) struct Done {
     pub(crate) value: Value,
     pub(crate) peers: Peers,
@@ -300,7 +300,7 @@ fn changed(
 }
 
 // A listed key, and the place behind its fields.
-#[derive(Drop)]
+#[derive(Clone, Copy)]
 struct Listed {
     key: KeyDemand,
     next: usize,
@@ -324,7 +324,7 @@ fn listed_of(line: &[u8], at: usize) -> Listed {
 
 // The listed keys, to the line's end, of which a report holds the first 64: it is refused where
 // there are more.
-#[derive(Drop)]
+#[derive(Clone, Copy)]
 struct Keys {
     keys: [KeyDemand; 64],
     good: bool,
@@ -359,7 +359,7 @@ fn keys_of(line: &[u8], from: usize, count: u64) -> Keys {
 }
 
 // A report with its sender and reading, if the line is one.
-#[derive(Drop)]
+#[derive(Clone, Copy)]
 struct Reported {
     from: u64,
     reading: u64,

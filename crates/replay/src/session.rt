@@ -12,7 +12,7 @@ use limiter::{Limiter, LimiterAnswer};
 use peers::peer_demand::{PeerDemand, PeersAnswer};
 
 // `kept` is how many bytes the image has that is kept for a load.
-#[derive(Drop)]
+#[derive(Clone, Copy)]
 pub(crate) struct Session {
     pub(crate) hot: Hot,
     pub(crate) node: Node,
@@ -22,7 +22,7 @@ pub(crate) struct Session {
 }
 
 // An answer, and what there is after the call.
-#[derive(Drop)]
+#[derive(Clone, Copy)]
 pub(crate) struct Done {
     pub(crate) answer: Answer,
     pub(crate) session: Session,

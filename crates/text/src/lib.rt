@@ -8,7 +8,7 @@ ghost use Rattle.text.specs.Output.{written, end, Spelled, Flushed};
 
 use libc::STDOUT_FILENO;
 
-#[derive(Drop)]
+#[derive(Clone, Copy)]
 pub enum Number {
     Value(u64),
     Unfit,

@@ -7,14 +7,14 @@ ghost use Rattle.text.specs.Steps.{seen, Held, NoFeed, Roomy, More, LineRead, li
 use libc::STDIN_FILENO;
 
 // Bytes from..to of the buffer are read and not yet handed out.
-#[derive(Drop)]
+#[derive(Clone, Copy)]
 pub struct Lines {
     pub from: usize,
     pub to: usize,
 }
 
 // What came: a line, one that did not fit the buffer and was passed over, or the end of the input.
-#[derive(Drop)]
+#[derive(Clone, Copy)]
 pub enum Kind {
     Whole,
     TooLong,
@@ -22,7 +22,7 @@ pub enum Kind {
 }
 
 // A line is bytes start..end of the buffer, without its line feed.
-#[derive(Drop)]
+#[derive(Clone, Copy)]
 pub struct Line {
     pub start: usize,
     pub end: usize,
@@ -65,7 +65,7 @@ fn read_more(buf: &mut [u8], to: usize, turns: u64) -> usize
 
 // What is in hand while a line is looked for: bytes from..to, and whether the line's first bytes
 // were given up for want of room.
-#[derive(Drop)]
+#[derive(Clone, Copy)]
 struct Window {
     from: usize,
     to: usize,

@@ -5,16 +5,16 @@ use Rattle.float.proofs.Orders.Order.{below-is}
 use Rattle.float.proofs.below.Statement.{statement}
 use Rattle.float.proofs.below.Tie as tie
 
-returns : tie.Need-returns
-returns c = let s = c.before.args in below-is s.x s.y true (eq s.x s.y) c.if1.true refl
+returns : tie.Need-returns-then-x-y
+returns c = let s = c.before.args in below-is s.x s.y true (eq s.x s.y) c.if-x-y.true refl
 
-returns-2 : tie.Need-returns-2
+returns-2 : tie.Need-returns-then-x-y-2
 returns-2 c =
     let s = c.before.before.before.args in
-    c.is_negative.ensures ∙ below-is s.x s.y false true c.before.before.if1.false c.before.if2.true
+    c.is_negative.ensures ∙ below-is s.x s.y false true c.before.before.if-x-y.false c.before.if-x-y-2.true
 
-returns-3 : tie.Need-returns-3
-returns-3 c = let s = c.before.before.args in below-is s.x s.y false false c.before.if1.false c.if2.false
+returns-3 : tie.Need-returns-else-x-y-2
+returns-3 c = let s = c.before.before.args in below-is s.x s.y false false c.before.if-x-y.false c.if-x-y-2.false
 
-pub below-spec : {M : Type 1} → statement M
-below-spec = tie.close (tie.spec (λ c κs. search rules) returns returns-2 returns-3)
+pub below_spec : {M : Type 1} → statement M
+below_spec = tie.close (tie.spec (λ c κs. search rules) returns returns-2 returns-3)

@@ -5,12 +5,12 @@ use Rattle.float.proofs.Formats.Patterns.{nan-read, no-nan-read}
 use Rattle.float.proofs.f32_from_bits.Statement.{statement}
 use Rattle.float.proofs.f32_from_bits.Tie as tie
 
-float-from-bits-result : tie.Need-float-from-bits-result
-float-from-bits-result c = no-nan-read binary32 c.before.args.b c.if1.false
+float-from-bits-result : tie.Need-float_from_bits-result
+float-from-bits-result c = no-nan-read binary32 c.before.args.b c.if-b-gt2139095040.false
 
-returns : tie.Need-returns
+returns : tie.Need-returns-then-b-gt2139095040
 unfolding of_bits div
-returns c = nan-read binary32 c.before.args.b c.if1.true
+returns c = nan-read binary32 c.before.args.b c.if-b-gt2139095040.true
 
-pub f32-from-bits-spec : {M : Type 1} → statement M
-f32-from-bits-spec = tie.close (tie.spec float-from-bits-result returns (λ c. search rules))
+pub f32_from_bits_spec : {M : Type 1} → statement M
+f32_from_bits_spec = tie.close (tie.spec float-from-bits-result returns (λ c. search rules))

@@ -5,12 +5,12 @@ use Rattle.float.proofs.Formats.Patterns.{nan_pattern, no_nan}
 use Rattle.float.proofs.f32_to_bits.Statement.{statement}
 use Rattle.float.proofs.f32_to_bits.Tie as tie
 
-float-to-bits-result : tie.Need-float-to-bits-result
-float-to-bits-result c = no_nan c.before.args.x c.if1.false
+float-to-bits-result : tie.Need-float_to_bits-result
+float-to-bits-result c = no_nan c.before.args.x c.if-x.false
 
-returns : tie.Need-returns
+returns : tie.Need-returns-then-x
 unfolding to_bits
-returns c = nan_pattern binary32 c.before.args.x c.if1.true
+returns c = nan_pattern binary32 c.before.args.x c.if-x.true
 
-pub f32-to-bits-spec : {M : Type 1} → statement M
-f32-to-bits-spec = tie.close (tie.spec float-to-bits-result returns (λ c. search rules))
+pub f32_to_bits_spec : {M : Type 1} → statement M
+f32_to_bits_spec = tie.close (tie.spec float-to-bits-result returns (λ c. search rules))

@@ -4,17 +4,17 @@ use Rattle.float.proofs.Orders.Order.{finite-under, finite-over}
 use Rattle.float.proofs.is_finite.Statement.{statement}
 use Rattle.float.proofs.is_finite.Tie as tie
 
-float-from-bits-top : tie.Need-float-from-bits-top
+float-from-bits-top : tie.Need-float_from_bits-top
 unfolding nan_bits
 float-from-bits-top c = tt
 
-returns : tie.Need-returns
+returns : tie.Need-returns-then-x-top
 unfolding of_bits neg
-returns c = finite-under c.before.args.x c.if1.true
+returns c = finite-under c.before.args.x c.if-x-top.true
 
-returns-2 : tie.Need-returns-2
+returns-2 : tie.Need-returns-else-x-top
 unfolding of_bits
-returns-2 c = finite-over c.before.args.x c.if1.false
+returns-2 c = finite-over c.before.args.x c.if-x-top.false
 
-pub is-finite-spec : {M : Type 1} → statement M
-is-finite-spec = tie.close (tie.spec float-from-bits-top returns returns-2)
+pub is_finite_spec : {M : Type 1} → statement M
+is_finite_spec = tie.close (tie.spec float-from-bits-top returns returns-2)

@@ -9,9 +9,9 @@ use Rattle.float.proofs.is_magnitude.Tie as tie
 
 returns : tie.Need-returns
 returns c =
-    c.is-magnitude-bits.ensures
-    ∙ ap (λ (b : ℕ). magnitude (of_bits binary64 b)) c.before.to-bits.ensures
-    ∙ magnitude-of binary64 c.before.before.args.x (yes c.before.before.well-formed.0.1)
+    c.is_magnitude_bits.ensures
+    ∙ ap (λ (b : ℕ). magnitude (of_bits binary64 b)) c.before.to_bits.ensures
+    ∙ magnitude-of binary64 c.before.before.args.x (yes c.before.before.well_formed.0.1)
 
-pub is-magnitude-spec : {M : Type 1} → statement M
-is-magnitude-spec = tie.close (tie.spec (λ c κs. search rules) (λ c κs. search rules) returns)
+pub is_magnitude_spec : {M : Type 1} → statement M
+is_magnitude_spec = tie.close (tie.spec (λ c κs. search rules) (λ c κs. search rules) returns)

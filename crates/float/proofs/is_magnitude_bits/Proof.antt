@@ -7,5 +7,5 @@ use Rattle.float.proofs.is_magnitude_bits.Tie as tie
 returns : tie.Need-returns
 returns c = magnitude-bits binary64 c.args.b
 
-pub is-magnitude-bits-spec : {M : Type 1} → statement M
-is-magnitude-bits-spec = tie.close (tie.spec returns)
+pub is_magnitude_bits_spec : {M : Type 1} → statement M
+is_magnitude_bits_spec = tie.close (tie.spec returns)

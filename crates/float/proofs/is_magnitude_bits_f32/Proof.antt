@@ -7,5 +7,5 @@ use Rattle.float.proofs.is_magnitude_bits_f32.Tie as tie
 returns : tie.Need-returns
 returns c = magnitude-bits binary32 c.args.b
 
-pub is-magnitude-bits-f32-spec : {M : Type 1} → statement M
-is-magnitude-bits-f32-spec = tie.close (tie.spec returns)
+pub is_magnitude_bits_f32_spec : {M : Type 1} → statement M
+is_magnitude_bits_f32_spec = tie.close (tie.spec returns)

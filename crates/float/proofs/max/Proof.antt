@@ -10,5 +10,5 @@ returns c =
     let s = c.before.before.args in
     c.choose.ensures ∙ ap (λ (t : Bool). choose s.a s.b t) c.before.below.ensures
 
-pub max-spec : {M : Type 1} → statement M
-max-spec = tie.close (tie.spec (λ c κs. search rules) (λ c κs. search rules) returns)
+pub max_spec : {M : Type 1} → statement M
+max_spec = tie.close (tie.spec (λ c κs. search rules) (λ c κs. search rules) returns)

@@ -10,5 +10,5 @@ returns c =
     let s = c.before.before.args in
     c.choose.ensures ∙ ap (λ (t : Bool). choose s.a s.b t) c.before.below.ensures
 
-pub min-spec : {M : Type 1} → statement M
-min-spec = tie.close (tie.spec (λ c κs. search rules) (λ c κs. search rules) returns)
+pub min_spec : {M : Type 1} → statement M
+min_spec = tie.close (tie.spec (λ c κs. search rules) (λ c κs. search rules) returns)

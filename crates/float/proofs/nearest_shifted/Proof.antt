@@ -6,7 +6,7 @@ use Rattle.float.proofs.Integers.FromInteger.{back-le, rest-is, half_is, quotien
 use Rattle.float.proofs.nearest_shifted.Statement.{statement}
 use Rattle.float.proofs.nearest_shifted.Tie as tie
 
-sub-r : tie.Need-overflow-sub-r
+sub-r : tie.Need-overflow_sub-r
 sub-r c = back-le c.args.n (2 ^ c.args.k)
 
 -- what is known from the start: the rest, the half, and a bound on the quotient
@@ -26,29 +26,29 @@ module _ (c : tie.Start) where
   the-quotient : n / 2 ^ k < 2 ^ 63
   the-quotient = quotient-small n k c.ranges.n.fits c.requires.0
 
-add-result : tie.Need-overflow-add-result
+add-result : tie.Need-overflow_add-result
 add-result c = omega (arith, the-quotient c.before.before)
 
-add-result-2 : tie.Need-overflow-add-result-2
+add-result-2 : tie.Need-overflow_add-result-else-half-r
 add-result-2 c = omega (arith, the-quotient c.before.before)
 
-returns : tie.Need-returns
+returns : tie.Need-returns-then-r-half
 returns c =
     let s = c.before in
     sym (nearest-lt (s.args.n / 2 ^ s.args.k) (s.args.n % 2 ^ s.args.k * 2) (2 ^ s.args.k) (omega (arith, the_rest s, the-half s)))
 
-returns-2 : tie.Need-returns-2
+returns-2 : tie.Need-returns-then-half-r
 returns-2 c =
     let s = c.before.before in
     sym (nearest-gt (s.args.n / 2 ^ s.args.k) (s.args.n % 2 ^ s.args.k * 2) (2 ^ s.args.k) (omega (arith, the_rest s, the-half s)))
 
-returns-3 : tie.Need-returns-3
+returns-3 : tie.Need-returns-else-half-r
 returns-3 c =
     let s = c.before.before in
     sym (nearest-eq (s.args.n / 2 ^ s.args.k) (s.args.n % 2 ^ s.args.k * 2) (2 ^ s.args.k) (omega (arith, the_rest s, the-half s)))
 
-pub nearest-shifted-spec : {M : Type 1} → statement M
-nearest-shifted-spec =
+pub nearest_shifted_spec : {M : Type 1} → statement M
+nearest_shifted_spec =
     tie.close
     (tie.spec
     (λ c. search rules)

@@ -7,27 +7,27 @@ use Rattle.float.proofs.round_half_up.Tie as tie
 
 -- what owning an `f64` tells: the format holds it
 held : (c : tie.Start) → T (fits binary64 c.args.x)
-held c = subst T (sym c.well-formed.0.1) tt
+held c = subst T (sym c.well_formed.0.1) tt
 
-truncating-f64-to-u64-requires : tie.Need-truncating-f64-to-u64-requires
+truncating-f64-to-u64-requires : tie.Need-truncating_f64_to_u64-n-requires
 unfolding of_bits
 truncating-f64-to-u64-requires c κs = twice-asks c.args.x (held c) c.requires
 
-cut : (c : tie.After-truncating-f64-to-u64) → c.truncating-f64-to-u64.result < 9007199254740992
+cut : (c : tie.After-truncating_f64_to_u64-n) → c.truncating_f64_to_u64-n.result < 9007199254740992
 unfolding of_bits
-cut c = twice-small c.before.args.x c.truncating-f64-to-u64.result (held c.before) c.before.requires c.truncating-f64-to-u64.ensures
+cut c = twice-small c.before.args.x c.truncating_f64_to_u64-n.result (held c.before) c.before.requires c.truncating_f64_to_u64-n.ensures
 
-add-result : tie.Need-overflow-add-result
+add-result : tie.Need-overflow_add-result
 add-result c = omega (arith, cut c)
 
-int-to-float-result : tie.Need-int-to-float-result
-int-to-float-result c = held_whole ((c.before.truncating-f64-to-u64.result + 1) / 2) (omega (arith, cut c.before))
+int-to-float-result : tie.Need-int_to_float-result
+int-to-float-result c = held_whole ((c.before.truncating_f64_to_u64-n.result + 1) / 2) (omega (arith, cut c.before))
 
 returns : tie.Need-returns
 unfolding of_bits
 returns c =
     let d = c.before in
-    round-pos-at d.before.args.x d.truncating-f64-to-u64.result (held d.before) d.before.requires d.truncating-f64-to-u64.ensures
+    round-pos-at d.before.args.x d.truncating_f64_to_u64-n.result (held d.before) d.before.requires d.truncating_f64_to_u64-n.ensures
 
-pub round-half-up-spec : {M : Type 1} → statement M
-round-half-up-spec = tie.close (tie.spec truncating-f64-to-u64-requires add-result int-to-float-result returns)
+pub round_half_up_spec : {M : Type 1} → statement M
+round_half_up_spec = tie.close (tie.spec truncating-f64-to-u64-requires add-result int-to-float-result returns)

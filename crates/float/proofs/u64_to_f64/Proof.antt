@@ -7,8 +7,8 @@ use Rattle.float.proofs.Integers.FromInteger.{pattern-no-nan, small-in, leading-
 use Rattle.float.proofs.u64_to_f64.Statement.{statement}
 use Rattle.float.proofs.u64_to_f64.Tie as tie
 
-int-to-float-result : tie.Need-int-to-float-result
-int-to-float-result c = small-in c.before.before.args.n c.before.before.ranges.n.fits c.before.if1.true
+int-to-float-result : tie.Need-int_to_float-result
+int-to-float-result c = small-in c.before.before.args.n c.before.before.ranges.n.fits c.before.if-z-ge11.true
 
 -- n has 53 + k digits
 some : (n : ℕ) → count_leading_zeros 64 n < 11 → 0 < n
@@ -17,7 +17,7 @@ some n h = elim (eq-zero-or-pos n) [ inl z ↦ absurd (no (count_leading_zeros 6
     no : (a : ℕ) → a < 11 → a ≡ 64 → ⊥
     no a l e = omega arith
 
-module _ (c : tie.After-nearest-shifted) where
+module _ (c : tie.After-nearest_shifted-d) where
   abbrev n : ℕ
   n = c.before.before.args.n
 
@@ -28,37 +28,37 @@ module _ (c : tie.After-nearest-shifted) where
   k = 11 - z
 
   top : (j : ℕ) × (z + suc j ≡ 64) × (2 ^ j ≤ n) × (n < 2 ^ suc j)
-  top = leading_top 64 n (some n c.before.if1.false) c.before.before.ranges.n.fits
+  top = leading_top 64 n (some n c.before.if-z-ge11.false) c.before.before.ranges.n.fits
 
   places : top.0 ≡ 52 + k
-  places = omega (arith, top.1, c.before.if1.false)
+  places = omega (arith, top.1, c.before.if-z-ge11.false)
 
   few : k ≤ 11
   few = omega arith
 
   abbrev bits : ℕ
-  bits = (1074 + k) * 4503599627370496 % 18446744073709551616 + c.nearest-shifted.result
+  bits = (1074 + k) * 4503599627370496 % 18446744073709551616 + c.nearest_shifted-d.result
 
   hi : closest n (2 ^ k) ≤ 9007199254740992
   hi = leading-hi n top.0 k top.3 places
 
   bits_are : bits ≡ (1074 + k) * 4503599627370496 + closest n (2 ^ k)
-  bits_are = omega (arith, c.nearest-shifted.ensures, few)
+  bits_are = omega (arith, c.nearest_shifted-d.ensures, few)
 
   small : bits < 18446744073709551616
   small = omega (arith, bits_are, hi, few)
 
-add-result-2 : tie.Need-overflow-add-result-2
+add-result-2 : tie.Need-overflow_add-result-else-z-ge11
 add-result-2 c = record { fits = small c }
 
-float-from-bits-result : tie.Need-float-from-bits-result
+float-from-bits-result : tie.Need-float_from_bits-result
 float-from-bits-result c = pattern-no-nan (bits c) (1074 + k c) (closest (n c) (2 ^ k c)) (omega (arith, few c)) (leading-lo (n c) (top c).0 (k c) (top c).2 (places c)) (hi c) (bits_are c)
 
-returns-2 : tie.Need-returns-2
+returns-2 : tie.Need-returns-else-z-ge11
 returns-2 c = big-is (n c) (top c).0 (k c) (bits c) (top c).2 (top c).3 (places c) (few c) (bits_are c)
 
-pub u64-to-f64-spec : {M : Type 1} → statement M
-u64-to-f64-spec =
+pub u64_to_f64_spec : {M : Type 1} → statement M
+u64_to_f64_spec =
     tie.close
     (tie.spec
     int-to-float-result

@@ -1,9 +1,9 @@
--- The quoted ceiling holds: of the checks of one Gcra, whatever the order of their readings, those allowed with readings from s to just short of s + w
--- number at most burst + (w - 1) / T.
--- Each allowed check in the window moves the TAT by T, from s on, and none moves it to s + w + T * burst.
+-- The quoted ceiling holds: of the checks of one Gcra, whatever the order of their readings, those allowed with readings from s to s + w number at
+-- most burst + w / T.
+-- Each allowed check in the window moves the TAT by T, from s on, and none moves it past s + w + T * burst.
 use Prim.Native.Nat.{ℕ, zero, suc, ◌+◌, ◌-◌, ◌*◌, ◌/◌, ◌^◌, ◌≤◌, ◌<◌, max}
 use mathlib.Core.Path.{◌≡◌, refl, ap, ◌∙◌}
-use mathlib.Core.Bool.{true, cond}
+use mathlib.Core.Bool.{true, ◌&&◌}
 use mathlib.Core.List.{List, [], ◌∷◌}
 use mathlib.Core.Logic.{◌⊎◌, inl, inr}
 use native.Mathlib.Omega.{arith}
@@ -17,14 +17,14 @@ use Rattle.gcra.specs.declared.Tat.TheVariants.{Unset, At}
 use Rattle.gcra.specs.declared.Gcra.{Gcra}
 use Rattle.gcra.specs.Packed.{Accepted, valid_quota, tau, ceiling}
 use Rattle.gcra.specs.Meter.{is_allow, decide, moved, pace_of, tat_word, decision, check}
-use Rattle.gcra.specs.Run.{allowed, in_window, count_in, all_below}
+use Rattle.gcra.specs.Run.{allowed, count_in, all_below}
 use Rattle.questions.proofs.Tests.{split, both}
 use Rattle.gcra.proofs.Packed.Validity.{valid-quota}
 use Rattle.gcra.proofs.Meter.Checks.{allow-reaches, check-allow, allowed-first, denied-first}
 
 -- k checks are allowed in the window from TAT y on
-unfoldable pub Owes : (T b s w y k : ℕ) → Type 0
-Owes T b s w y k = (k ≡ 0) ⊎ (k * T + max y s < s + w + T * b)
+Owes : (T b s w y k : ℕ) → Type 0
+Owes T b s w y k = (k ≡ 0) ⊎ (k * T + max y s ≤ s + w + T * b)
 
 -- T * (burst - 1) and one interval more are burst intervals.
 pub full : (T b : ℕ) → 1 ≤ b → T * (b - 1) + T ≡ b * T
@@ -54,23 +54,15 @@ module _ (T b s w : ℕ) (some : 1 ≤ b) where
   later y z k l (inr h) = inr (omega arith)
 
   -- one more check in the window, allowed at t
-  counted : (y t k : ℕ) → s ≤ t → t < s + w → y ≤ t + T * (b - 1) → Owes T b s w (max y t + T) k → Owes T b s w y (suc k)
+  counted : (y t k : ℕ) → s ≤ t → t ≤ s + w → y ≤ t + T * (b - 1) → Owes T b s w (max y t + T) k → Owes T b s w y (suc k)
   unfolding Owes
   counted y t k l m r (inl e) = inr (omega (arith, full T b some, ap (λ (z : ℕ). z * T) e))
   counted y t k l m r (inr h) = inr (omega arith)
 
-  -- A check allowed at t, in the window or not.
-  pub check-owes : (y t k : ℕ) → y ≤ t + T * (b - 1) → Owes T b s w (max y t + T) k → Owes T b s w y (cond (in_window s w t) 1 0 + k)
-  check-owes y t k r o =
-      split (in_window s w t)
-      (λ i. let p = both (leb s t) (ltb t (s + w)) i in rw i (counted y t k (leb-true s t p.0) (ltb-true t (s + w) p.1) r o))
-      (λ i. rw i (later y (max y t + T) k (omega arith) o))
-
-  -- Those of a window number at most the ceiling.
-  pub quotient : (y k : ℕ) → 0 < T → Owes T b s w y k → k ≤ b + (w - 1) / T
+  quotient : (y k : ℕ) → 0 < T → Owes T b s w y k → k ≤ b + w / T
   unfolding Owes
   quotient y k p (inl e) = omega arith
-  quotient y k p (inr h) = let e : s + (w - 1) - s ≡ w - 1 = omega arith in rw e at (within k T s (s + (w - 1)) b p (omega arith) (omega arith))
+  quotient y k p (inr h) = let e : s + w - s ≡ w = omega arith in rw e at (within k T s (s + w) b p (omega arith) (omega arith))
 
 -- ---- one allowed check
 abbrev at : Quota → Tat → Gcra
@@ -104,8 +96,18 @@ module _ (q : Quota) (short : q.interval < 2 ^ 61) (some : 1 ≤ q.burst) (s w :
   unfolding allowed count_in Owes
   nothing tat = inl refl
 
-  count : (tat : Tat) (ts : List ℕ) → all_below (2 ^ 62) (allowed (at q tat) ts) ≡ true → Owed tat (allowed (at q tat) ts)
+  -- one allowed check, in the window or not
+  first : (tat : Tat) (t : ℕ) (ts : List ℕ) → tat_word tat ≤ t + q.interval * (q.burst - 1)
+      → Owed (At (max (tat_word tat) t + q.interval)) ts → Owed tat (t ∷ ts)
   unfolding count_in
+  first tat t ts r o =
+      split (leb s t && leb t (s + w))
+      (λ i.
+      let p = both (leb s t) (leb t (s + w)) i in
+      rw i (counted q.interval q.burst s w some (tat_word tat) t _ (leb-true s t p.0) (leb-true t (s + w) p.1) r o))
+      (λ i. rw i (later q.interval q.burst s w some (tat_word tat) (max (tat_word tat) t + q.interval) _ (omega arith) o))
+
+  count : (tat : Tat) (ts : List ℕ) → all_below (2 ^ 62) (allowed (at q tat) ts) ≡ true → Owed tat (allowed (at q tat) ts)
   count tat [] h = nothing tat
   count tat (t ∷ ts) h =
       split (is_allow (decision (at q tat) t))
@@ -114,13 +116,13 @@ module _ (q : Quota) (short : q.interval < 2 ^ 61) (some : 1 ≤ q.burst) (s w :
       let b = below-first (2 ^ 62) t (allowed (check (at q tat) t) ts) (rw f at h) in
       let c = allows q tat t short b.0 e in
       let tat' = At (max (tat_word tat) t + q.interval) in
-      rw (f, c.left) (check-owes q.interval q.burst s w some (tat_word tat) t _ c.reached (count tat' ts (rw c.left at b.1))))
+      rw (f, c.left) (first tat t (allowed (at q tat') ts) c.reached (count tat' ts (rw c.left at b.1))))
       (λ e.
       let f = denied-first (at q tat) t ts e in
       rw f (count tat ts (rw f at h)))
 
 -- Of any list of checks of a Gcra of a valid quota, at any starting TAT: if all allowed readings are below 2^62,
--- those allowed from s to just short of s + w number at most the quoted ceiling at w.
+-- those allowed from s to s + w number at most the quoted ceiling.
 pub allowed-within : (u : Units) → Accepted u → (g : Gcra) → valid_quota u g.quota ≡ true → (s w : ℕ) (readings : List ℕ)
     → all_below (2 ^ 62) (allowed g readings) ≡ true
     → count_in s w (allowed g readings) ≤ ceiling g.quota w

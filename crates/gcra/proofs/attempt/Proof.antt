@@ -5,15 +5,15 @@ use Rattle.gcra.proofs.Meter.Checks.{attempt-deny, attempt-allow}
 use Rattle.gcra.proofs.attempt.Statement.{statement}
 use Rattle.gcra.proofs.attempt.Tie as tie
 
-returns : tie.Need-returns
-returns c = let h = c.before.saturating-sub.ensures in rw h (sym (attempt-deny _ _ _ (rw h at c.if1.true)))
+returns : tie.Need-returns-then-now-earliest
+returns c = let h = c.before.saturating_sub-earliest.ensures in rw h (sym (attempt-deny _ _ _ (rw h at c.if-now-earliest.true)))
 
-returns-2 : tie.Need-returns-2
+returns-2 : tie.Need-returns
 returns-2 c =
-    let h = c.before.before.before.saturating-sub.ensures in
-    rw (c.saturating-add.ensures, c.before.max.ensures) (sym (attempt-allow _ _ _ (rw h at c.before.before.if1.false)))
+    let h = c.before.before.before.saturating_sub-earliest.ensures in
+    rw (c.saturating_add.ensures, c.before.max.ensures) (sym (attempt-allow _ _ _ (rw h at c.before.before.if-now-earliest.false)))
 
-pub attempt-spec : {M : Type 1} → statement M
-attempt-spec =
+pub attempt_spec : {M : Type 1} → statement M
+attempt_spec =
     tie.close
     (tie.spec (λ c κs. search rules) returns (λ c κs. search rules) (λ c κs. search rules) returns-2)

@@ -8,8 +8,8 @@ returns : tie.Need-returns
 unfolding carry_tat slot_nanos
 returns c = cc
 
-pub carry-tat-spec : {M : Type 1} → statement M
-carry-tat-spec =
+pub carry_tat_spec : {M : Type 1} → statement M
+carry_tat_spec =
     tie.close
     (tie.spec
     (λ c κs. search rules)

@@ -17,15 +17,15 @@ use Rattle.hot.proofs.hot_set.HotEntry.words.Reads as words-reads
 use Rattle.records.proofs.insert.Reads as insert-reads
 
 -- src/lib.rt:58:13
-words-requires : tie.Need-words-requires
+words-requires : tie.Need-words-r-requires
 words-requires c κs = search rules
 
 -- src/lib.rt:59:21
-slice-aggregate-insert : tie.Need-slice-aggregate-insert
+slice-aggregate-insert : tie.Need-slice_bounds-insert-end
 slice-aggregate-insert c = search rules
 
 -- src/lib.rt:59:60
-slice-aggregate-insert-2 : tie.Need-slice-aggregate-insert-2
+slice-aggregate-insert-2 : tie.Need-slice_bounds-insert-end-2
 slice-aggregate-insert-2 c = search rules
 
 -- src/lib.rt:59:5
@@ -33,7 +33,7 @@ insert-requires : tie.Need-insert-requires
 insert-requires c κs = search rules
 
 -- src/lib.rt:62:14
-add-t13 : tie.Need-overflow-add-t13
+add-t13 : tie.Need-overflow_add-result
 add-t13 c = search rules
 
 -- src/lib.rt:52:1
@@ -45,15 +45,15 @@ returns c =
       count = refl;
       copied =
           ap (take ((t.copied.len + 1) * 6))
-          (c.before.insert.ensures.1 ∙ ap (λ (r : List ℕ). inserted 6 t.copied.len t.copied.len r t.copied.words) c.before.before.before.before.words2.ensures)
+          (c.before.insert.ensures.1 ∙ ap (λ (r : List ℕ). inserted 6 t.copied.len t.copied.len r t.copied.words) c.before.before.before.before.words-r.ensures)
           ∙ appended t.copied.len (words t.entry) t.copied.words (length-words t.entry) (omega (
             arith,
-            copied-long t.copied _ b.well-formed.0,
+            copied-long t.copied _ b.well_formed.0,
           ));
     }
 
-pub append-spec : {M : Type 1} → statement M
-append-spec =
+pub append_spec : {M : Type 1} → statement M
+append_spec =
     tie.close
     (tie.spec
     words-requires

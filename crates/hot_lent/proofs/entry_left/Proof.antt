@@ -7,10 +7,10 @@ use Rattle.hot_lent.proofs.entry_left.Statement.{statement}
 use Rattle.hot_lent.proofs.entry_left.Tie as tie
 
 returns : tie.Need-returns
-returns c = c.of-record.ensures ∙ entry-of-six c.before.before.args.turn.words (c.before.before.args.i * 6)
+returns c = c.of_record.ensures ∙ entry-of-six c.before.before.args.turn.words (c.before.before.args.i * 6)
 
-pub entry-left-spec : {M : Type 1} → statement M
-entry-left-spec =
+pub entry_left_spec : {M : Type 1} → statement M
+entry_left_spec =
     tie.close
     (tie.spec
     (λ c. search rules)

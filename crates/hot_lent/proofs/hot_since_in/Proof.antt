@@ -7,24 +7,24 @@ use Rattle.hot_lent.proofs.Rows.{copied-long}
 use Rattle.hot_lent.proofs.hot_since_in.Statement.{statement}
 use Rattle.hot_lent.proofs.hot_since_in.Tie as tie
 
-mul-n : tie.Need-overflow-mul-n
+mul-n : tie.Need-overflow_mul-n
 mul-n c = search rules
 
-array-share-prefix-words : tie.Need-array-share-prefix-words
+array-share-prefix-words : tie.Need-slice_bounds-words-end
 array-share-prefix-words c =
     let b = c.before.before in
-    omega (arith, copied-long b.args.copied _ b.well-formed.1.0)
+    omega (arith, copied-long b.args.copied _ b.well_formed.1.0)
 
-slice-aggregate-hot-since : tie.Need-slice-aggregate-hot-since
+slice-aggregate-hot-since : tie.Need-slice_bounds-hot_since-end
 slice-aggregate-hot-since c =
     let b = c.before.before.before in
-    sym (length-take-le _ b.args.copied.words (omega (arith, copied-long b.args.copied _ b.well-formed.1.0)))
+    sym (length-take-le _ b.args.copied.words (omega (arith, copied-long b.args.copied _ b.well_formed.1.0)))
 
-hot-since-requires : tie.Need-hot-since-requires
+hot-since-requires : tie.Need-hot_since-requires
 hot-since-requires c κs = search rules
 
 returns : tie.Need-returns
 returns c = search rules
 
-pub hot-since-in-spec : {M : Type 1} → statement M
-hot-since-in-spec = tie.close (tie.spec mul-n array-share-prefix-words slice-aggregate-hot-since hot-since-requires returns)
+pub hot_since_in_spec : {M : Type 1} → statement M
+hot_since_in_spec = tie.close (tie.spec mul-n array-share-prefix-words slice-aggregate-hot-since hot-since-requires returns)

@@ -7,24 +7,24 @@ use Rattle.hot_lent.proofs.Rows.{copied-long}
 use Rattle.hot_lent.proofs.is_hot_in.Statement.{statement}
 use Rattle.hot_lent.proofs.is_hot_in.Tie as tie
 
-mul-n : tie.Need-overflow-mul-n
+mul-n : tie.Need-overflow_mul-n
 mul-n c = search rules
 
-array-share-prefix-words : tie.Need-array-share-prefix-words
+array-share-prefix-words : tie.Need-slice_bounds-words-end
 array-share-prefix-words c =
     let b = c.before.before in
-    omega (arith, copied-long b.args.copied _ b.well-formed.1.0)
+    omega (arith, copied-long b.args.copied _ b.well_formed.1.0)
 
-slice-aggregate-is-hot : tie.Need-slice-aggregate-is-hot
+slice-aggregate-is-hot : tie.Need-slice_bounds-is_hot-end
 slice-aggregate-is-hot c =
     let b = c.before.before.before in
-    sym (length-take-le _ b.args.copied.words (omega (arith, copied-long b.args.copied _ b.well-formed.1.0)))
+    sym (length-take-le _ b.args.copied.words (omega (arith, copied-long b.args.copied _ b.well_formed.1.0)))
 
-is-hot-requires : tie.Need-is-hot-requires
+is-hot-requires : tie.Need-is_hot-requires
 is-hot-requires c κs = search rules
 
 returns : tie.Need-returns
 returns c = search rules
 
-pub is-hot-in-spec : {M : Type 1} → statement M
-is-hot-in-spec = tie.close (tie.spec mul-n array-share-prefix-words slice-aggregate-is-hot is-hot-requires returns)
+pub is_hot_in_spec : {M : Type 1} → statement M
+is_hot_in_spec = tie.close (tie.spec mul-n array-share-prefix-words slice-aggregate-is-hot is-hot-requires returns)

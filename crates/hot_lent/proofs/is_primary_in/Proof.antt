@@ -7,24 +7,24 @@ use Rattle.hot_lent.proofs.Rows.{copied-long}
 use Rattle.hot_lent.proofs.is_primary_in.Statement.{statement}
 use Rattle.hot_lent.proofs.is_primary_in.Tie as tie
 
-mul-n : tie.Need-overflow-mul-n
+mul-n : tie.Need-overflow_mul-n
 mul-n c = search rules
 
-array-share-prefix-words : tie.Need-array-share-prefix-words
+array-share-prefix-words : tie.Need-slice_bounds-words-end
 array-share-prefix-words c =
     let b = c.before.before in
-    omega (arith, copied-long b.args.copied _ b.well-formed.1.0)
+    omega (arith, copied-long b.args.copied _ b.well_formed.1.0)
 
-slice-aggregate-is-primary : tie.Need-slice-aggregate-is-primary
+slice-aggregate-is-primary : tie.Need-slice_bounds-is_primary-end
 slice-aggregate-is-primary c =
     let b = c.before.before.before in
-    sym (length-take-le _ b.args.copied.words (omega (arith, copied-long b.args.copied _ b.well-formed.1.0)))
+    sym (length-take-le _ b.args.copied.words (omega (arith, copied-long b.args.copied _ b.well_formed.1.0)))
 
-is-primary-requires : tie.Need-is-primary-requires
+is-primary-requires : tie.Need-is_primary-requires
 is-primary-requires c κs = search rules
 
 returns : tie.Need-returns
 returns c = search rules
 
-pub is-primary-in-spec : {M : Type 1} → statement M
-is-primary-in-spec = tie.close (tie.spec mul-n array-share-prefix-words slice-aggregate-is-primary is-primary-requires returns)
+pub is_primary_in_spec : {M : Type 1} → statement M
+is_primary_in_spec = tie.close (tie.spec mul-n array-share-prefix-words slice-aggregate-is-primary is-primary-requires returns)

@@ -7,18 +7,18 @@ use Rattle.hot_lent.proofs.Rows.{copied-long}
 use Rattle.hot_lent.proofs.len_in.Statement.{statement}
 use Rattle.hot_lent.proofs.len_in.Tie as tie
 
-mul-n : tie.Need-overflow-mul-n
+mul-n : tie.Need-overflow_mul-n
 mul-n c = search rules
 
-array-share-prefix-words : tie.Need-array-share-prefix-words
+array-share-prefix-words : tie.Need-slice_bounds-words-end
 array-share-prefix-words c =
     let b = c.before.before in
-    omega (arith, copied-long b.args.copied _ b.well-formed.1.0)
+    omega (arith, copied-long b.args.copied _ b.well_formed.1.0)
 
-slice-aggregate-len : tie.Need-slice-aggregate-len
+slice-aggregate-len : tie.Need-slice_bounds-len-end
 slice-aggregate-len c =
     let b = c.before.before.before in
-    sym (length-take-le _ b.args.copied.words (omega (arith, copied-long b.args.copied _ b.well-formed.1.0)))
+    sym (length-take-le _ b.args.copied.words (omega (arith, copied-long b.args.copied _ b.well_formed.1.0)))
 
 len-requires : tie.Need-len-requires
 len-requires c κs = search rules
@@ -26,5 +26,5 @@ len-requires c κs = search rules
 returns : tie.Need-returns
 returns c = search rules
 
-pub len-in-spec : {M : Type 1} → statement M
-len-in-spec = tie.close (tie.spec mul-n array-share-prefix-words slice-aggregate-len len-requires returns)
+pub len_in_spec : {M : Type 1} → statement M
+len_in_spec = tie.close (tie.spec mul-n array-share-prefix-words slice-aggregate-len len-requires returns)

@@ -11,23 +11,23 @@ use Rattle.hot_lent.proofs.Rows.{copied-long}
 use Rattle.hot_lent.proofs.update_in.Statement.{statement}
 use Rattle.hot_lent.proofs.update_in.Tie as tie
 
-mul-n : tie.Need-overflow-mul-n
+mul-n : tie.Need-overflow_mul-n
 mul-n c = search rules
 
-array-borrow-prefix-words : tie.Need-array-borrow-prefix-words
+array-borrow-prefix-words : tie.Need-slice_bounds-words-end
 array-borrow-prefix-words c =
     let b = c.before.before in
-    omega (arith, copied-long b.args.copied _ b.well-formed.1.0)
+    omega (arith, copied-long b.args.copied _ b.well_formed.1.0)
 
-slice-aggregate-update-with : tie.Need-slice-aggregate-update-with
+slice-aggregate-update-with : tie.Need-slice_bounds-update_with-end
 slice-aggregate-update-with c =
     let b = c.before.before.before in
-    sym (length-take-le _ b.args.copied.words (omega (arith, copied-long b.args.copied _ b.well-formed.1.0)))
+    sym (length-take-le _ b.args.copied.words (omega (arith, copied-long b.args.copied _ b.well_formed.1.0)))
 
-update-with-requires : tie.Need-update-with-requires
+update-with-requires : tie.Need-update_with-answer-requires
 update-with-requires c κs = search rules
 
-length-left-requires : tie.Need-length-left-requires
+length-left-requires : tie.Need-length_left-len-requires
 length-left-requires c κs = search rules
 
 returns : tie.Need-returns
@@ -35,11 +35,11 @@ returns c =
     let b = c.before.before.before.before.before.before in
     let t = b.args in
     record {
-      answered = c.before.before.update-with.ensures.answered;
+      answered = c.before.before.update_with-answer.ensures.answered;
       left =
-          turn-of t.set _ t.key t.demand-rate t.threshold t.now t.hot-elsewhere (fits-true _ b.well-formed.1.1.1.0.1) _ _ _
-          (drop (t.copied.len * 6) t.copied.words) _ c.length-left.ensures refl c.before.before.update-with.ensures;
+          turn-of t.set _ t.key t.demand-rate t.threshold t.now t.hot-elsewhere (fits-true _ b.well_formed.1.1.1.0.1) _ _ _
+          (drop (t.copied.len * 6) t.copied.words) _ c.length_left-len.ensures refl c.before.before.update_with-answer.ensures;
     }
 
-pub update-in-spec : {M : Type 1} → statement M
-update-in-spec = tie.close (tie.spec mul-n array-borrow-prefix-words slice-aggregate-update-with update-with-requires length-left-requires returns)
+pub update_in_spec : {M : Type 1} → statement M
+update_in_spec = tie.close (tie.spec mul-n array-borrow-prefix-words slice-aggregate-update-with update-with-requires length-left-requires returns)

@@ -12,5 +12,5 @@ zeros n = sym (length-replicate n 0)
 returns : tie.Need-returns
 returns c = zeros 1372567
 
-pub input-buffer-spec : {M : Type 1} → statement M
-input-buffer-spec = tie.close (tie.spec returns)
+pub input_buffer_spec : {M : Type 1} → statement M
+input_buffer_spec = tie.close (tie.spec returns)

@@ -6,18 +6,18 @@ use borrow.Author.Rules.{rules}
 use Rattle.inspect.proofs.put_image.Statement.{statement}
 use Rattle.inspect.proofs.put_image.Tie as tie
 
-abbrev invariant-loop : tie.invariant-loop
-invariant-loop out₀ image at₀ here₀ out at here = (here ≤ length image) × (length out ≡ length out₀)
+abbrev invariant-loop-here : tie.invariant-loop-here
+invariant-loop-here out₀ image at₀ here₀ out at here = (here ≤ length image) × (length out ≡ length out₀)
 
-abbrev decreases-loop : tie.decreases-loop
-decreases-loop out₀ image at₀ here₀ out at here = length image - here
+abbrev decreases-loop-here : tie.decreases-loop-here
+decreases-loop-here out₀ image at₀ here₀ out at here = length image - here
 
-pub put-image-spec : {M : Type 1} → statement M
-put-image-spec =
+pub put_image_spec : {M : Type 1} → statement M
+put_image_spec =
     tie.close
     (tie.spec
-    invariant-loop
-    decreases-loop
+    invariant-loop-here
+    decreases-loop-here
     (λ c. search rules)
     (λ c κs. search rules)
     (λ c. search rules)

@@ -7,15 +7,15 @@ use Rattle.image.proofs.Loading.KindLaws.{record-within}
 use Rattle.inspect.proofs.record_end.Statement.{statement}
 use Rattle.inspect.proofs.record_end.Tie as tie
 
-returns : tie.Need-returns
+returns : tie.Need-returns-in-NoRecord
 returns c = omega (arith, c.before.before.before.before.requires)
 
-returns-2 : tie.Need-returns-2
+returns-2 : tie.Need-returns-in-Is
 returns-2 c =
     let x = c.before in
     let r = x.before.before in
     let s = r.before.before in
-    record-within s.args.here s.args.image.now _ (sym (ap record_told x.«record».given.1) ∙ r.record-at.ensures)
+    record-within s.args.here s.args.image.now _ (sym (ap record_told x.«record».given.1) ∙ r.record_at.ensures)
 
-pub record-end-spec : {M : Type 1} → statement M
-record-end-spec = tie.close (tie.spec (λ c κs. search rules) (λ c. search rules) (λ c. search rules) returns returns-2)
+pub record_end_spec : {M : Type 1} → statement M
+record_end_spec = tie.close (tie.spec (λ c κs. search rules) (λ c. search rules) (λ c. search rules) returns returns-2)

@@ -53,24 +53,24 @@ settings s = s.limiter.settings.config
 -- ---- what the definitions say of a call
 
 -- the library's own questions, of the state
-abbrev pub own_in_lem : Call → What → State → List Question
-own_in_lem c x s = own_of (settings s) c.lent c.report (what_takes c.answer x).needs
+abbrev pub own_in : Call → What → State → List Question
+own_in c x s = own_of (settings s) c.lent c.report (what_takes c.answer x).needs
 
 -- what it says, and the state after it, by whether its own questions are passed
 module _ (c : Call) (x : What) (s : State) where
   abbrev pub said_where : (passed : Bool) → Said
   said_where passed =
       cond passed (said_in (replied c.lent.tables (what_of c.report x) s) c.answer)
-      (said (first_no (own_in_lem c x s)) c.answer (what_takes c.answer x).output)
+      (said (first_no (own_in c x s)) c.answer (what_takes c.answer x).output)
 
   abbrev pub next_where : (passed : Bool) → State
   next_where passed = cond passed (after c.lent.tables (what_of c.report x) s) s
 
 abbrev pub said_of : Call → State → Said
-said_of c s = said_where c c.what s (passes (own_in_lem c c.what s))
+said_of c s = said_where c c.what s (passes (own_in c c.what s))
 
 abbrev pub next : Call → State → State
-next c s = next_where c c.what s (passes (own_in_lem c c.what s))
+next c s = next_where c c.what s (passes (own_in c c.what s))
 
 -- a call that said z and left b says what is right, and b stands for the state and is as long as what was there before
 pub record Leads (before : Buffers) (z : Said) (b : Buffers) (right : Said) (s : State) : Type 0 where
@@ -86,9 +86,9 @@ module _ {b : Buffers} {s : State} (c : Call) (enough : lent_by (lend c.lent b) 
   needs_of x = (what_takes c.answer x).needs
 
   -- they are the same of all words that stand for the state
-  pub own_in_lem : (x : What) → SameAsked (own lent c.report (needs_of x)) (own_in_lem c x s)
+  pub own_in_lem : (x : What) → SameAsked (own lent c.report (needs_of x)) (own_in c x s)
   own_in_lem x =
-      subst (λ (n : _). SameAsked (own_asked lent.limiter n c.report (needs_of x)) (own_in_lem c x s)) (sym enough)
+      subst (λ (n : _). SameAsked (own_asked lent.limiter n c.report (needs_of x)) (own_in c x s)) (sym enough)
       (own_same lent.limiter (settings s) c.lent c.report (needs_of x) (ap (λ (n : _). n.limiter) enough)
       (λ n. (
         is-limiter-lent c.lent.limiter b.limiter n ∙ st.value,
@@ -293,12 +293,12 @@ module _ {b : Buffers} {s : State} (c : Call) (enough : lent_by (lend c.lent b) 
 
   -- by the answer to its own questions
   by-own : (x : What) {z : Said} (b' : Buffers) (passed : Bool) → passes (asked x) ≡ passed → LeadsWhere x passed z b'
-      → LeadsWhere x (passes (own_in_lem c x s)) z b'
+      → LeadsWhere x (passes (own_in c x s)) z b'
   by-own x {z} b' passed e u = subst (λ (p : Bool). LeadsWhere x p z b') (sym e ∙ (own_in_lem x).passed) u
 
   acts-lead :
       (x : What) {z : Said} {b' : Buffers} → typed_what (what_of c.report x) ≡ true → calls.Acts lent c.answer c.report x z b'
-      → LeadsWhere x (passes (own_in_lem c x s)) z b'
+      → LeadsWhere x (passes (own_in c x s)) z b'
   acts-lead (What.changes x) {b' = b'} w (calls.Acts.does d) =
       let k = changes-refined lent c.answer c.report (limiter_of b.limiter) (peers_of b.peers) x d in
       split (passes (asked (What.changes x)))

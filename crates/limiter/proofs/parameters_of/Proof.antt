@@ -8,5 +8,5 @@ returns : tie.Need-returns
 unfolding parameters_for
 returns c = refl
 
-pub parameters-of-spec : {M : Type 1} → statement M
-parameters-of-spec = tie.close (tie.spec returns)
+pub parameters_of_spec : {M : Type 1} → statement M
+parameters_of_spec = tie.close (tie.spec returns)

@@ -5,11 +5,11 @@ use borrow.Author.Rules.{rules}
 use Rattle.meter.proofs.meter_of_line.Statement.{statement}
 use Rattle.meter.proofs.meter_of_line.Tie as tie
 
-slice-aggregate-decimal : tie.Need-slice-aggregate-decimal
-slice-aggregate-decimal c = let i = c.before.before.index_of in sym (length-take-le i.result c.before.before.before.before.args.line.now i.ensures.1)
+slice-aggregate-decimal : tie.Need-slice_bounds-decimal-end
+slice-aggregate-decimal c = let i = c.before.before.index_of-space in sym (length-take-le i.result c.before.before.before.before.args.line.now i.ensures.1)
 
-pub meter-of-line-spec : {M : Type 1} → statement M
-meter-of-line-spec =
+pub meter_of_line_spec : {M : Type 1} → statement M
+meter_of_line_spec =
     tie.close
     (tie.spec
     (λ c κs. search rules)

@@ -5,18 +5,18 @@ use borrow.Author.Rules.{rules}
 use Rattle.meter.proofs.run.Statement.{statement}
 use Rattle.meter.proofs.run.Tie as tie
 
-abbrev invariant-loop : tie.invariant-loop
-invariant-loop input₀ out₀ t₀ turns₀ input out t turns = (length input ≡ length input₀) × (length out ≡ length out₀)
+abbrev invariant-loop-turns : tie.invariant-loop-turns
+invariant-loop-turns input₀ out₀ t₀ turns₀ input out t turns = (length input ≡ length input₀) × (length out ≡ length out₀)
 
-abbrev decreases-loop : tie.decreases-loop
-decreases-loop input₀ out₀ t₀ turns₀ input out t turns = turns
+abbrev decreases-loop-turns : tie.decreases-loop-turns
+decreases-loop-turns input₀ out₀ t₀ turns₀ input out t turns = turns
 
 pub run_spec : {M : Type 1} → statement M
 run_spec =
     tie.close
     (tie.spec
-    invariant-loop
-    decreases-loop
+    invariant-loop-turns
+    decreases-loop-turns
     (λ c. search rules)
     (λ c κs. search rules)
     (λ c. search rules)

@@ -9,10 +9,10 @@ use borrow.Author.Tests.{ne_eqb, eqb-true, lt-leb}
 use lib.Dec.{leb, eqb, eqb-suc-zero}
 use Rattle.records.specs.Records.{same}
 use Rattle.questions.proofs.Tests.{eqb-self, eqb-turn}
-use Rattle.records.specs.Fields.{flag_word_lem, flag_of, time_flag, time_word, time_words, time_of, is_time}
+use Rattle.records.specs.Fields.{flag_word, flag_of, time_flag, time_word, time_words, time_of, is_time}
 use Rattle.records.specs.Typed.{is_word}
 
-pub flag-of-word : (b : Bool) → flag_of (flag_word_lem b) ≡ b
+pub flag-of-word : (b : Bool) → flag_of (flag_word b) ≡ b
 flag-of-word false = refl
 flag-of-word true = refl
 
@@ -22,19 +22,19 @@ flag_is zero = refl
 flag_is (suc w) = ap not (eqb-suc-zero w)
 
 -- it is a flag's where it is 0 or 1
-pub flag_word_lem : (w : ℕ) → eqb (flag_word_lem (flag_of w)) w ≡ leb w 1
+pub flag_word_lem : (w : ℕ) → eqb (flag_word (flag_of w)) w ≡ leb w 1
 flag_word_lem zero = refl
 flag_word_lem (suc zero) = refl
 flag_word_lem (suc (suc n)) = ne_eqb 1 (suc (suc n)) (λ e. omega (arith, e)) ∙ sym (lt-leb (suc (suc n)) 1 (omega arith))
 
-pub flag-back : (w : ℕ) → leb w 1 ≡ true → flag_word_lem (flag_of w) ≡ w
-flag-back w e = eqb-true (flag_word_lem (flag_of w)) w (flag_word_lem w ∙ e)
+pub flag-back : (w : ℕ) → leb w 1 ≡ true → flag_word (flag_of w) ≡ w
+flag-back w e = eqb-true (flag_word (flag_of w)) w (flag_word_lem w ∙ e)
 
-pub flag_small : (b : Bool) → leb (flag_word_lem b) 1 ≡ true
+pub flag_small : (b : Bool) → leb (flag_word b) 1 ≡ true
 flag_small true = refl
 flag_small false = refl
 
-pub flag-fits : (b : Bool) → is_word (flag_word_lem b) ≡ true
+pub flag-fits : (b : Bool) → is_word (flag_word b) ≡ true
 flag-fits true = refl
 flag-fits false = refl
 

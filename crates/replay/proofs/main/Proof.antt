@@ -6,7 +6,7 @@ use borrow.Author.Rules.{rules}
 use Rattle.replay.proofs.main.Statement.{statement}
 use Rattle.replay.proofs.main.Tie as tie
 
-slice-aggregate-start : tie.Need-slice-aggregate-start
+slice-aggregate-start : tie.Need-slice_bounds-start-end
 slice-aggregate-start c = sym (length-replicate {A = ℕ} 3145729 0)
 
 pub main_spec : {M : Type 1} → statement M

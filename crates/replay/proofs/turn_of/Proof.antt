@@ -3,11 +3,11 @@ use borrow.Author.Rules.{rules}
 use Rattle.replay.proofs.turn_of.Statement.{statement}
 use Rattle.replay.proofs.turn_of.Tie as tie
 
-same_length : tie.Need-same-length
+same_length : tie.Need-shape_of-input
 same_length c = search (rules, c.before.before.before.before.before.before.before.before.before.before.before.before.before.before.before.before.before.before.input)
 
-pub turn-of-spec : {M : Type 1} → statement M
-turn-of-spec =
+pub turn_of_spec : {M : Type 1} → statement M
+turn_of_spec =
     tie.close
     (tie.spec
     (λ c κs. search rules)

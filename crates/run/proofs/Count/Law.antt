@@ -21,7 +21,7 @@ use Rattle.gcra.proofs.Meter.Checks.{check-deny, check-fits}
 use Rattle.gcra.proofs.Meter.Count.{full, within, Allowed, allows}
 use Rattle.gcra.proofs.Rate.Rates.{equal-same, by-quota, set-fits}
 use Rattle.gcra.proofs.Rate.Carry.{carry-keeps}
-use Rattle.run.specs.Seen.{Seen, goes_on_lem, change, changes, share, shares, last, allowed_in, burst_of, bound, KeepsToTheBound, Onward, stays, Kept, largest_burst, IsSmall, Small, Premises}
+use Rattle.run.specs.Seen.{Seen, goes_on, change, changes, share, shares, last, allowed_in, burst_of, bound, KeepsToTheBound, Onward, stays, Kept, largest_burst, IsSmall, Small, Premises}
 use Rattle.run.proofs.Count.Slots.{Carries, carried-over}
 use Rattle.run.proofs.Count.Turns.{Gate, unchecked, checked, Turn, absent, drops, makes, keeps, sets, Turns, carried_to, gate-quota, Fits}
 
@@ -160,7 +160,7 @@ module _ (u : Units) (a : Accepted u) (largest : ℕ) where
     f' : ℕ
     n' : ℕ
     counts : Counts m' f' t n' c
-    enough : (S : ℕ → ℕ) → n + c + S f' ≤ n' + cond (goes_on_lem m m') (S f) (share m f t + S t) + 2 * change t m m'
+    enough : (S : ℕ → ℕ) → n + c + S f' ≤ n' + cond (goes_on m m') (S f) (share m f t + S t) + 2 * change t m m'
 
   -- The spell goes on.
   goes_on_lem : {t : ℕ} {g : Gcra} {c : ℕ} {h : Gcra} (f n : ℕ) → t < 2 ^ 62 → Gate t g c h → Owes g f t n → Turned (some g) (some h) f t n c

@@ -34,7 +34,7 @@ use Rattle.image.specs.Image.{State}
 use Rattle.image.specs.Image as image
 use Rattle.run.specs.Seen.{Seen, KeepsToTheBound, Onward, Kept, largest_burst, Small}
 use Rattle.run.specs.Run.{Change, What, Lent, Move, Shown}
-use Rattle.run.specs.Trace.{new_states, on_limiter, on_both_lem, asked, made, allows, meters, was_done, allowed_first, meter_in, if_key, seen_each, seen_in, trace, units_in}
+use Rattle.run.specs.Trace.{new_states, on_limiter, on_both, asked, made, allows, meters, was_done, allowed_first, meter_in, if_key, seen_each, seen_in, trace, units_in}
 use Rattle.run.specs.Trace as trace
 use Rattle.run.specs.Demand3.{Counted}
 use Rattle.run.proofs.Count.Turns.{unchecked, checked, Turns, after, turns_then, never_lowered}
@@ -104,7 +104,7 @@ traced-burst x (some y) qs e =
     (both (is_rate x.rate && is_rate y.rate) _ e).1).0).0
 
 -- A call on both is asked so too.
-on_both_lem : (n : Lent) (s : State) (qs : List Question) → passes (on_both_lem n s ++ qs) ≡ true → valid (units_in s) s.limiter ≡ true
+on_both_lem : (n : Lent) (s : State) (qs : List Question) → passes (on_both n s ++ qs) ≡ true → valid (units_in s) s.limiter ≡ true
 unfolding passes image.valid
 on_both_lem n s qs e =
     (both (valid (units_in s) s.limiter) _
@@ -309,7 +309,7 @@ module _ (c : Config) (ms : List Move) where
   shown = shown_by (new_states c) ms
 
   -- No key is tracked at first.
-  pub from-none : (key : ℕ)
+  from-none : (key : ℕ)
       → Turns (units_in (new_states c)) none (trace key (new_states c) ms shown) × (Spared key (new_states c) ms → Kept none (trace key (new_states c) ms shown))
   from-none key = rw (found_nowhere key) at (trace-turns key (new_states c) ms)
 

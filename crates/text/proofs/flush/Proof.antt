@@ -27,23 +27,23 @@ failed-is : 18446744073709551615 ≡ failed
 unfolding failed
 failed-is = refl
 
-returns : tie.Need-returns
+returns : tie.Need-returns-then-out-at
 returns c = let t = c.before.before.args in nothing-due t.at t.room t.out.now (inr (omega arith))
 
-returns-2 : tie.Need-returns-2
+returns-2 : tie.Need-returns-then-room-out
 returns-2 c = let t = c.before.before.before.args in nothing-due t.at t.room t.out.now (inl (omega arith))
 
-slice-aggregate-write-all : tie.Need-slice-aggregate-write-all
+slice-aggregate-write-all : tie.Need-slice_bounds-write_all-end
 slice-aggregate-write-all c = let t = c.before.before.before.before.args in sym (length-take-le t.at t.out.now (omega arith))
 
-returns-3 : tie.Need-returns-3
+returns-3 : tie.Need-returns-then-write_all
 returns-3 c = let t = c.before.before.before.before.before.before.args in written_out t.at t.room t.out.now (omega arith) (omega arith) (inl refl)
 
-returns-4 : tie.Need-returns-4
+returns-4 : tie.Need-returns
 returns-4 c = let t = c.before.before.before.before.before.before.before.before.args in written_out t.at t.room t.out.now (omega arith) (omega arith) (inr failed-is)
 
-pub flush-spec : {M : Type 1} → statement M
-flush-spec =
+pub flush_spec : {M : Type 1} → statement M
+flush_spec =
     tie.close
     (tie.spec
     returns

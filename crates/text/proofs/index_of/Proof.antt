@@ -9,39 +9,39 @@ use Rattle.text.proofs.Search.{found, passed, none}
 use Rattle.text.proofs.index_of.Statement.{statement}
 use Rattle.text.proofs.index_of.Tie as tie
 
-abbrev invariant-loop : tie.invariant-loop
-invariant-loop s b i₀ i = (i ≤ length s) × (index_of b s ≡ i + index_of b (drop i s))
+abbrev invariant-loop-i : tie.invariant-loop-i
+invariant-loop-i s b i₀ i = (i ≤ length s) × (index_of b s ≡ i + index_of b (drop i s))
 
-abbrev decreases-loop : tie.decreases-loop
-decreases-loop s b i₀ i = length s - i
+abbrev decreases-loop-i : tie.decreases-loop-i
+decreases-loop-i s b i₀ i = length s - i
 
-loop-holds : tie.Need-loop-init invariant-loop decreases-loop
+loop-holds : tie.Need-loop-i-init invariant-loop-i decreases-loop-i
 loop-holds c = (omega arith, sym (zero-add _))
 
-returns : tie.Need-returns invariant-loop decreases-loop
+returns : tie.Need-returns-then-s-i invariant-loop-i decreases-loop-i
 returns c =
     let l = c.before.before.before in
     let a = l.before.args in
-    (sym (l.loop.invariant.1 ∙ found a.b l.loop.i a.s.now c.before.before.loop-test.true c.if1.true), l.loop.invariant.0)
+    (sym (l.loop-i.invariant.1 ∙ found a.b l.loop-i.i a.s.now c.before.before.loop-i-test.true c.if-s-i.true), l.loop-i.invariant.0)
 
-loop-again : tie.Need-loop-preserved invariant-loop decreases-loop
+loop-again : tie.Need-loop-i-preserved invariant-loop-i decreases-loop-i
 loop-again c =
     let l = c.before.before.before in
     let a = l.before.args in
-    (omega arith, l.loop.invariant.1 ∙ passed a.b l.loop.i a.s.now c.before.before.loop-test.true c.if1.false)
+    (omega arith, l.loop-i.invariant.1 ∙ passed a.b l.loop-i.i a.s.now c.before.before.loop-i-test.true c.if-s-i.false)
 
-returns-2 : tie.Need-returns-2 invariant-loop decreases-loop
+returns-2 : tie.Need-returns invariant-loop-i decreases-loop-i
 returns-2 c =
     let l = c.before in
     let a = l.before.args in
-    (sym (l.loop.invariant.1 ∙ none a.b l.loop.i a.s.now c.loop-test.false), l.loop.invariant.0)
+    (sym (l.loop-i.invariant.1 ∙ none a.b l.loop-i.i a.s.now c.loop-i-test.false), l.loop-i.invariant.0)
 
-pub index-of-spec : {M : Type 1} → statement M
-index-of-spec =
+pub index_of_spec : {M : Type 1} → statement M
+index_of_spec =
     tie.close
     (tie.spec
-    invariant-loop
-    decreases-loop
+    invariant-loop-i
+    decreases-loop-i
     loop-holds
     (λ c. omega arith)
     returns

@@ -5,7 +5,7 @@ use Rattle.text.proofs.put_hex.Statement.{statement}
 use Rattle.text.proofs.put_hex.Tie as tie
 
 returns : tie.Need-returns
-returns c = spelled c.before.before.before.before.before.hex.ensures.1 c.before.before.put.ensures
+returns c = spelled c.before.before.before.before.before.hex-k.ensures.1 c.before.before.put.ensures
 
-pub put-hex-spec : {M : Type 1} → statement M
-put-hex-spec = tie.close (tie.spec (λ c κs. search rules) (λ c. search rules) (λ c. search rules) (λ c κs. search rules) (λ c. search rules) returns)
+pub put_hex_spec : {M : Type 1} → statement M
+put_hex_spec = tie.close (tie.spec (λ c κs. search rules) (λ c. search rules) (λ c. search rules) (λ c κs. search rules) (λ c. search rules) returns)

@@ -16,11 +16,11 @@ none : (n : ℕ) → n < 1 → false ≡ is_cluster_size n
 unfolding is_cluster_size
 none n h = rw (lt-leb 1 n h)
 
-returns : tie.Need-returns
-returns c = some _ c.if1.true
+returns : tie.Need-returns-then-n-ge1
+returns c = some _ c.if-n-ge1.true
 
-returns-2 : tie.Need-returns-2
-returns-2 c = none _ c.if1.false
+returns-2 : tie.Need-returns-else-n-ge1
+returns-2 c = none _ c.if-n-ge1.false
 
-pub is-cluster-size-spec : {M : Type 1} → statement M
-is-cluster-size-spec = tie.close (tie.spec returns returns-2)
+pub is_cluster_size_spec : {M : Type 1} → statement M
+is_cluster_size_spec = tie.close (tie.spec returns returns-2)

@@ -15,11 +15,11 @@ not_least : (x : Float) → le (of_bits binary64 0) x ≡ false → false ≡ is
 unfolding is_floor_factor
 not_least x t = rw (sym (ap (λ (z : Float). le z x) zero_is) ∙ t)
 
-returns : tie.Need-returns
-returns c = at_least _ c.if1.true
+returns : tie.Need-returns-then-x
+returns c = at_least _ c.if-x.true
 
-returns-2 : tie.Need-returns-2
-returns-2 c = not_least _ c.if1.false
+returns-2 : tie.Need-returns-else-x
+returns-2 c = not_least _ c.if-x.false
 
-pub is-floor-factor-spec : {M : Type 1} → statement M
-is-floor-factor-spec = tie.close (tie.spec returns returns-2)
+pub is_floor_factor_spec : {M : Type 1} → statement M
+is_floor_factor_spec = tie.close (tie.spec returns returns-2)

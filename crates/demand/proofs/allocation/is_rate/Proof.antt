@@ -17,11 +17,11 @@ not_above : (x : Float) → lt (of_bits binary64 0) x ≡ false → false ≡ is
 unfolding is_rate
 not_above x t = rw (sym (ap (λ (z : Float). lt z x) zero_is) ∙ t)
 
-returns : tie.Need-returns
-returns c = above _ _ c.before.if1.true c.is_finite.ensures
+returns : tie.Need-returns-then-x
+returns c = above _ _ c.before.if-x.true c.is_finite.ensures
 
-returns-2 : tie.Need-returns-2
-returns-2 c = not_above _ c.if1.false
+returns-2 : tie.Need-returns-else-x
+returns-2 c = not_above _ c.if-x.false
 
-pub is-rate-spec : {M : Type 1} → statement M
-is-rate-spec = tie.close (tie.spec (λ c κs. search rules) returns returns-2)
+pub is_rate_spec : {M : Type 1} → statement M
+is_rate_spec = tie.close (tie.spec (λ c κs. search rules) returns returns-2)

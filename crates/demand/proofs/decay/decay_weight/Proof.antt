@@ -27,24 +27,24 @@ worked-out e c y p w d z h ey ep ew ed = simp (ne_eqb c 0 z, lt-leb 37 (e / c) h
 small : (r c y : ℕ) → r < c → y ≡ r * S / c → y < S
 small r c y h e = rw e (scaled-lt r S c h (lit< tt))
 
-returns : tie.Need-returns
-returns c = no-constant _ _ c.if1.true
+returns : tie.Need-returns-then-time_constant-eq0
+returns c = no-constant _ _ c.if-time_constant-eq0.true
 
-returns-2 : tie.Need-returns-2
-returns-2 c = late _ _ c.before.if1.false c.if2.true
+returns-2 : tie.Need-returns-then-q-ge37
+returns-2 c = late _ _ c.before.if-time_constant-eq0.false c.if-q-ge37.true
 
-ratio-requires : tie.Need-ratio-requires
-ratio-requires c κs = mod-lt _ (pos_of_ne-zero c.before.if1.false)
+ratio-requires : tie.Need-ratio-y-requires
+ratio-requires c κs = mod-lt _ (pos_of_ne-zero c.before.if-time_constant-eq0.false)
 
 series-requires : tie.Need-series-requires
-series-requires c κs = small _ _ _ (mod-lt _ (pos_of_ne-zero c.before.before.if1.false)) c.ratio.ensures
+series-requires c κs = small _ _ _ (mod-lt _ (pos_of_ne-zero c.before.before.if-time_constant-eq0.false)) c.ratio-y.ensures
 
-returns-3 : tie.Need-returns-3
+returns-3 : tie.Need-returns
 returns-3 c =
     let p = c.before in
     let s = p.before in
     let r = s.before in
-    worked-out _ _ _ _ _ _ r.before.before.if1.false r.before.if2.false r.ratio.ensures s.series.ensures.0 p.power.ensures.0 c.scaled-product.ensures
+    worked-out _ _ _ _ _ _ r.before.before.if-time_constant-eq0.false r.before.if-q-ge37.false r.ratio-y.ensures s.series.ensures.0 p.power.ensures.0 c.scaled_product.ensures
 
-pub decay-weight-spec : {M : Type 1} → statement M
-decay-weight-spec = tie.close (tie.spec returns (λ c. search rules) returns-2 (λ c. search rules) ratio-requires series-requires (λ c κs. search rules) (λ c κs. search rules) returns-3)
+pub decay_weight_spec : {M : Type 1} → statement M
+decay_weight_spec = tie.close (tie.spec returns (λ c. search rules) returns-2 (λ c. search rules) ratio-requires series-requires (λ c κs. search rules) (λ c κs. search rules) returns-3)

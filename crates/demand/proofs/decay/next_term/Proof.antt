@@ -16,8 +16,8 @@ returns : tie.Need-returns
 returns c =
     let s = c.before in
     let a = s.args in
-    let e = is-next a.k a.t a.y _ c.scaled-product.ensures in
+    let e = is-next a.k a.t a.y _ c.scaled_product.ensures in
     (e, subst (λ (n : ℕ). n ≤ a.t) (sym e) (next_le a.k a.t a.y (le_of_lt s.requires.2) s.requires.0))
 
-pub next-term-spec : {M : Type 1} → statement M
-next-term-spec = tie.close (tie.spec (λ c κs. search rules) (λ c. search rules) returns)
+pub next_term_spec : {M : Type 1} → statement M
+next_term_spec = tie.close (tie.spec (λ c κs. search rules) (λ c. search rules) returns)

@@ -34,13 +34,13 @@ scaled-le p' p h e = rw e (div-le_of_le-mul S (mul-le-mul {m₂ = S} h (lit≤ t
 loop-holds : tie.Need-loop-init invariant-loop decreases-loop
 loop-holds c = (omega arith, le_refl S, start)
 
-scaled-product-requires : tie.Need-scaled-product-requires invariant-loop decreases-loop
+scaled-product-requires : tie.Need-scaled_product-p-requires invariant-loop decreases-loop
 scaled-product-requires c κs = (omega arith, omega arith)
 
 loop-again : tie.Need-loop-preserved invariant-loop decreases-loop
 loop-again c =
     let i = c.before.before.loop.invariant in
-    (omega arith, scaled-le _ _ i.1 c.scaled-product.ensures, step _ _ _ i.2 c.scaled-product.ensures)
+    (omega arith, scaled-le _ _ i.1 c.scaled_product-p.ensures, step _ _ _ i.2 c.scaled_product-p.ensures)
 
 done : (p q i : ℕ) → i ≤ q → q ≤ i → p ≡ power i → p ≡ power q
 done p q i h k e =
@@ -52,5 +52,5 @@ returns c =
     let i = c.before.loop.invariant in
     (done _ _ _ i.0 c.loop-test.false i.2, i.1)
 
-pub power-spec : {M : Type 1} → statement M
-power-spec = tie.close (tie.spec invariant-loop decreases-loop loop-holds scaled-product-requires (λ c. omega arith) (λ c. omega arith) loop-again returns)
+pub power_spec : {M : Type 1} → statement M
+power_spec = tie.close (tie.spec invariant-loop decreases-loop loop-holds scaled-product-requires (λ c. omega arith) (λ c. omega arith) loop-again returns)

@@ -14,21 +14,21 @@ both r c h = digit (2 ^ 26) r (2 ^ 26) c _ _ (first (2 ^ 26) r c h)
 positive : {r c : ℕ} → r < c → zero < c
 positive h = omega arith
 
-mul-second : tie.Need-overflow-mul-second
+mul-second : tie.Need-overflow_mul-second
 mul-second c = omega (arith, mod-lt (c.before.args.r * 2 ^ 26) (positive c.before.requires))
 
-mul-result : tie.Need-overflow-mul-result
+mul-result : tie.Need-overflow_mul-result
 mul-result c =
     let s = c.before in
     omega (arith, scaled-lt s.args.r (2 ^ 26) s.args.c s.requires (pow_pos 26))
 
-add-result : tie.Need-overflow-add-result
+add-result : tie.Need-overflow_add-result
 add-result c =
     let s = c.before in
     omega (arith, quotient-lt s.requires (pow_pos 52) (both s.args.r s.args.c s.requires))
 
-returns : tie.Need-returns
+returns : tie.Need-returns-then-c-le274877906944
 returns c = quotient (both c.before.args.r c.before.args.c c.before.requires)
 
-pub ratio-spec : {M : Type 1} → statement M
-ratio-spec = tie.close (tie.spec (λ c. search rules) (λ c. search rules) mul-second (λ c. search rules) mul-result (λ c. search rules) add-result returns (λ c κs. search rules) (λ c. search rules))
+pub ratio_spec : {M : Type 1} → statement M
+ratio_spec = tie.close (tie.spec (λ c. search rules) (λ c. search rules) mul-second (λ c. search rules) mul-result (λ c. search rules) add-result returns (λ c κs. search rules) (λ c. search rules))

@@ -13,5 +13,5 @@ scaled a b = ap (λ (n : ℕ). n / 2 ^ 64) (mul-mul-mul_comm a (2 ^ 11) b 2) ∙
 returns : tie.Need-returns
 returns c = c.high_product.ensures ∙ scaled _ _
 
-pub scaled-product-spec : {M : Type 1} → statement M
-scaled-product-spec = tie.close (tie.spec (λ c. search rules) (λ c. search rules) (λ c κs. search rules) returns)
+pub scaled_product_spec : {M : Type 1} → statement M
+scaled_product_spec = tie.close (tie.spec (λ c. search rules) (λ c. search rules) (λ c κs. search rules) returns)

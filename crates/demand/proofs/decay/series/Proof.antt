@@ -6,45 +6,45 @@ use Rattle.demand.proofs.Weight.Terms.{Upto, start, step, settled, whole_sum}
 use Rattle.demand.proofs.decay.series.Statement.{statement}
 use Rattle.demand.proofs.decay.series.Tie as tie
 
-abbrev invariant-loop : tie.invariant-loop
-invariant-loop y sum₀ term₀ j₀ sum term j = (j ≤ 10) × (term ≤ sum) × (sum ≤ S) × Upto y j sum term
+abbrev invariant-loop-j : tie.invariant-loop-j
+invariant-loop-j y sum₀ term₀ j₀ sum term j = (j ≤ 10) × (term ≤ sum) × (sum ≤ S) × Upto y j sum term
 
-abbrev decreases-loop : tie.decreases-loop
-decreases-loop y sum₀ term₀ j₀ sum term j = 10 - j
+abbrev decreases-loop-j : tie.decreases-loop-j
+decreases-loop-j y sum₀ term₀ j₀ sum term j = 10 - j
 
-loop-holds : tie.Need-loop-init invariant-loop decreases-loop
+loop-holds : tie.Need-loop-j-init invariant-loop-j decreases-loop-j
 loop-holds c = (omega arith, omega arith, omega arith, start _)
 
-returns : tie.Need-returns invariant-loop decreases-loop
+returns : tie.Need-returns-then-term-eq0 invariant-loop-j decreases-loop-j
 returns c =
-    let i = c.before.before.loop.invariant in
-    (settled _ _ _ _ i.0 i.3 c.if1.true, i.2)
+    let i = c.before.before.loop-j.invariant in
+    (settled _ _ _ _ i.0 i.3 c.if-term-eq0.true, i.2)
 
-next-term-requires : tie.Need-next-term-requires invariant-loop decreases-loop
+next-term-requires : tie.Need-next_term-odd-requires invariant-loop-j decreases-loop-j
 next-term-requires c κs = (omega arith, omega arith, omega arith)
 
-next-term-requires-2 : tie.Need-next-term-requires-2 invariant-loop decreases-loop
+next-term-requires-2 : tie.Need-next_term-term-requires invariant-loop-j decreases-loop-j
 next-term-requires-2 c κs = (omega arith, omega arith, omega arith)
 
-loop-again : tie.Need-loop-preserved invariant-loop decreases-loop
+loop-again : tie.Need-loop-j-preserved invariant-loop-j decreases-loop-j
 loop-again c = (
   omega arith,
   omega arith,
   omega arith,
-  step _ _ _ _ _ _ c.before.before.before.before.loop.invariant.3 c.before.next-term.ensures.0 c.next-term2.ensures.0,
+  step _ _ _ _ _ _ c.before.before.before.before.loop-j.invariant.3 c.before.next_term-odd.ensures.0 c.next_term-term.ensures.0,
 )
 
-returns-2 : tie.Need-returns-2 invariant-loop decreases-loop
+returns-2 : tie.Need-returns invariant-loop-j decreases-loop-j
 returns-2 c =
-    let i = c.before.loop.invariant in
-    (whole_sum _ _ _ _ i.0 c.loop-test.false i.3, i.2)
+    let i = c.before.loop-j.invariant in
+    (whole_sum _ _ _ _ i.0 c.loop-j-test.false i.3, i.2)
 
-pub series-spec : {M : Type 1} → statement M
-series-spec =
+pub series_spec : {M : Type 1} → statement M
+series_spec =
     tie.close
     (tie.spec
-    invariant-loop
-    decreases-loop
+    invariant-loop-j
+    decreases-loop-j
     loop-holds
     returns
     (λ c. omega arith)

@@ -17,11 +17,11 @@ unfolding alpha
 divided e c d x is h =
     (λ i. div binary64 (h i) (parts_is i)) ∙ parts-over (S - d) (sub-le S d) ∙ ap (λ (n : ℕ). round binary64 false (S - n) S) is
 
-sub_parts : tie.Need-overflow-sub-parts
-sub_parts c = subst (λ (d : ℕ). d ≤ S) (sym c.decay-weight.ensures) (weight-le _ _)
+sub_parts : tie.Need-overflow_sub-parts
+sub_parts c = subst (λ (d : ℕ). d ≤ S) (sym c.decay_weight-parts.ensures) (weight-le _ _)
 
 returns : tie.Need-returns
-returns c = divided _ _ _ _ c.before.decay-weight.ensures c.u64-to-f64.ensures
+returns c = divided _ _ _ _ c.before.decay_weight-parts.ensures c.u64_to_f64.ensures
 
-pub alpha-spec : {M : Type 1} → statement M
-alpha-spec = tie.close (tie.spec (λ c κs. search rules) sub_parts (λ c κs. search rules) returns)
+pub alpha_spec : {M : Type 1} → statement M
+alpha_spec = tie.close (tie.spec (λ c κs. search rules) sub_parts (λ c κs. search rules) returns)

@@ -4,38 +4,38 @@ use Rattle.float.proofs.Formats.Products.{sizes, upper_is, lower-is}
 use Rattle.float.proofs.wide.product.Statement.{statement}
 use Rattle.float.proofs.wide.product.Tie as tie
 
-mul-first : tie.Need-overflow-mul-first
+mul-first : tie.Need-overflow_mul-first
 mul-first c = omega (arith, sizes c.ranges.a c.ranges.b)
 
-mul-first-2 : tie.Need-overflow-mul-first-2
+mul-first-2 : tie.Need-overflow_mul-first-2
 mul-first-2 c = omega (arith, sizes c.ranges.a c.ranges.b)
 
-add-first : tie.Need-overflow-add-first
+add-first : tie.Need-overflow_add-first
 add-first c = omega (arith, sizes c.ranges.a c.ranges.b)
 
-mul-second : tie.Need-overflow-mul-second
+mul-second : tie.Need-overflow_mul-second
 mul-second c = omega (arith, sizes c.ranges.a c.ranges.b)
 
-add-second : tie.Need-overflow-add-second
+add-second : tie.Need-overflow_add-second
 add-second c = omega (arith, sizes c.ranges.a c.ranges.b)
 
-mul-high : tie.Need-overflow-mul-high
+mul-high : tie.Need-overflow_mul-high
 mul-high c = omega (arith, sizes c.ranges.a c.ranges.b)
 
-add-high : tie.Need-overflow-add-high
+add-high : tie.Need-overflow_add-high
 add-high c = omega (arith, sizes c.ranges.a c.ranges.b)
 
-add-high-2 : tie.Need-overflow-add-high-2
+add-high-2 : tie.Need-overflow_add-high-2
 add-high-2 c = omega (arith, sizes c.ranges.a c.ranges.b)
 
-mul-low-2 : tie.Need-overflow-mul-low-2
+mul-low-2 : tie.Need-overflow_mul-low-2
 mul-low-2 c = omega (arith, sizes c.ranges.a c.ranges.b)
 
 returns : tie.Need-returns
 returns c = (upper_is c.args.a c.args.b, lower-is c.args.a c.args.b)
 
-pub product-spec : {M : Type 1} → statement M
-product-spec =
+pub product_spec : {M : Type 1} → statement M
+product_spec =
     tie.close
     (tie.spec
     mul-first

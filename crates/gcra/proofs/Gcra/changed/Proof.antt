@@ -6,24 +6,24 @@ use Rattle.gcra.proofs.Rate.Rates.{same-keeps, other-carries, carried-unset, car
 use Rattle.gcra.proofs.Gcra.changed.Statement.{statement}
 use Rattle.gcra.proofs.Gcra.changed.Tie as tie
 
-returns : tie.Need-returns
-returns c = same-keeps _ _ _ (sym c.before.same.ensures ∙ c.if1.true)
+returns : tie.Need-returns-then-same
+returns c = same-keeps _ _ _ (sym c.before.same.ensures ∙ c.if-same.true)
 
-returns-2 : tie.Need-returns-2
+returns-2 : tie.Need-returns-in-Unset
 returns-2 c =
     let s = c.before.before.before.before.before.args in
-    other-carries s.self s.quota s.now (sym c.before.before.before.same.ensures ∙ c.before.before.if1.false)
+    other-carries s.self s.quota s.now (sym c.before.before.before.same.ensures ∙ c.before.before.if-same.false)
     (carried-unset s.self.tat s.self.quota s.quota s.now c.enum_told.given.1)
 
-returns-3 : tie.Need-returns-3
+returns-3 : tie.Need-returns-in-At
 returns-3 c =
     let s = c.before.before.before.before.before.before.before.args in
     let t = c.before.before.tat.given in
-    other-carries s.self s.quota s.now (sym c.before.before.before.before.before.same.ensures ∙ c.before.before.before.before.if1.false)
-    (ap At c.carry-tat.ensures ∙ carried-at s.self.tat t.0.0 s.self.quota s.quota s.now t.1)
+    other-carries s.self s.quota s.now (sym c.before.before.before.before.before.same.ensures ∙ c.before.before.before.before.if-same.false)
+    (ap At c.carry_tat.ensures ∙ carried-at s.self.tat t.0.0 s.self.quota s.quota s.now t.1)
 
-pub changed-spec : {M : Type 1} → statement M
-changed-spec =
+pub changed_spec : {M : Type 1} → statement M
+changed_spec =
     tie.close
     (tie.spec
     (λ c κs. search rules)

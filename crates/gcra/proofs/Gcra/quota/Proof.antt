@@ -6,13 +6,13 @@ use Rattle.questions.proofs.Answers.{alone-no, alone-yes}
 use Rattle.gcra.proofs.Gcra.quota.Statement.{statement}
 use Rattle.gcra.proofs.Gcra.quota.Tie as tie
 
-returns : tie.Need-returns
+returns : tie.Need-returns-then-not-is_valid
 unfolding gcra_quota
-returns c = alone-no 2 _ (told-no c.before.is-valid.ensures c.if1.true)
+returns c = alone-no 2 _ (told-no c.before.is_valid.ensures c.if-not-is_valid.true)
 
-returns-2 : tie.Need-returns-2
+returns-2 : tie.Need-returns
 unfolding gcra_quota
-returns-2 c = alone-yes 2 _ (told-yes c.before.is-valid.ensures c.if1.false)
+returns-2 c = alone-yes 2 _ (told-yes c.before.is_valid.ensures c.if-not-is_valid.false)
 
-pub quota-spec : {M : Type 1} → statement M
-quota-spec = tie.close (tie.spec (λ c κs. search rules) returns returns-2)
+pub quota_spec : {M : Type 1} → statement M
+quota_spec = tie.close (tie.spec (λ c κs. search rules) returns returns-2)

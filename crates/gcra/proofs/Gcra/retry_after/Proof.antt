@@ -13,42 +13,42 @@ use Rattle.gcra.proofs.Meter.Checks.{stepped-decision, deny-is}
 use Rattle.gcra.proofs.Gcra.retry_after.Statement.{statement}
 use Rattle.gcra.proofs.Gcra.retry_after.Tie as tie
 
-abbrev start : tie.After-attempt → tie.Start
+abbrev start : tie.After-attempt-s → tie.Start
 start c = c.before.before.before.before.before.before
 
-decided : (c : tie.After-attempt) → c.attempt.result.decision ≡ decision (start c).args.self (start c).args.now
-decided c = stepped-decision (start c).args.self (start c).args.now c.attempt.result (cc)
+decided : (c : tie.After-attempt-s) → c.attempt-s.result.decision ≡ decision (start c).args.self (start c).args.now
+decided c = stepped-decision (start c).args.self (start c).args.now c.attempt-s.result (cc)
 
-valid : (c : tie.After-attempt) → valid_quota unit_nanos (start c).args.self.quota ≡ true
-valid c = told-yes c.before.before.before.before.is-valid.ensures c.before.before.before.if1.false
+valid : (c : tie.After-attempt-s) → valid_quota unit_nanos (start c).args.self.quota ≡ true
+valid c = told-yes c.before.before.before.before.is_valid.ensures c.before.before.before.if-not-is_valid.false
 
-returns : tie.Need-returns
+returns : tie.Need-returns-then-not-is_valid
 unfolding gcra_retry_after
-returns c = alone-no 2 _ (told-no c.before.is-valid.ensures c.if1.true)
+returns c = alone-no 2 _ (told-no c.before.is_valid.ensures c.if-not-is_valid.true)
 
-sub-t14 : tie.Need-overflow-sub-t14
+sub-t14 : tie.Need-overflow_sub-result
 unfolding decision
 sub-t14 c =
     let s = c.before.before.before in
     let a = (start s).args in
     omega (arith, (deny-is (pace_of a.self.quota) (tat_at a.self.tat a.now) a.now (sym (decided s) ∙ c.before.decision.given.1)).0)
 
-returns-2 : tie.Need-returns-2
+returns-2 : tie.Need-returns-in-Allow
 unfolding gcra_retry_after retry_after answer
 returns-2 c =
     let s = c.before.before in
     let e = sym (decided s) ∙ c.enum_told.given.1 in
     rw (valid s, e)
 
-returns-3 : tie.Need-returns-3
+returns-3 : tie.Need-returns-in-Deny
 unfolding gcra_retry_after retry_after answer
 returns-3 c =
     let s = c.before.before.before in
     let e = sym (decided s) ∙ c.before.decision.given.1 in
     rw (valid s, e)
 
-pub retry-after-spec : {M : Type 1} → statement M
-retry-after-spec =
+pub retry_after_spec : {M : Type 1} → statement M
+retry_after_spec =
     tie.close
     (tie.spec
     (λ c κs. search rules)

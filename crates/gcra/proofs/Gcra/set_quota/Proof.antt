@@ -24,19 +24,19 @@ module _ (g : Gcra) (q : Quota) (now : ℕ) where
   sets : {h : Gcra} → (valid_quota unit_nanos g.quota && valid_quota unit_nanos q) ≡ true → h ≡ set_quota g q now → GcraSets g q now (record { answer = Done; gcra = h })
   sets y e = record { set = alone-yes 2 tt y; left = e ∙ alone-changed 2 g (set_quota g q now) y }
 
-returns : tie.Need-returns
-returns c = refuses _ _ _ (rw (told-no c.before.is-valid.ensures c.if1.true))
+returns : tie.Need-returns-then-not-is_valid
+returns c = refuses _ _ _ (rw (told-no c.before.is_valid.ensures c.if-not-is_valid.true))
 
-returns-2 : tie.Need-returns-2
-returns-2 c = refuses-new _ _ _ (told-no c.before.is-valid2.ensures c.if2.true)
+returns-2 : tie.Need-returns-then-not-is_valid-2
+returns-2 c = refuses-new _ _ _ (told-no c.before.is_valid-2.ensures c.if-not-is_valid-2.true)
 
-returns-3 : tie.Need-returns-3
+returns-3 : tie.Need-returns
 returns-3 c =
-    let o = told-yes c.before.before.before.before.is-valid.ensures c.before.before.before.if1.false in
-    let n = told-yes c.before.before.is-valid2.ensures c.before.if2.false in
+    let o = told-yes c.before.before.before.before.is_valid.ensures c.before.before.before.if-not-is_valid.false in
+    let n = told-yes c.before.before.is_valid-2.ensures c.before.if-not-is_valid-2.false in
     sets _ _ _ (and_intro _ _ o n) c.changed.ensures
 
-pub set-quota-spec : {M : Type 1} → statement M
-set-quota-spec =
+pub set_quota_spec : {M : Type 1} → statement M
+set_quota_spec =
     tie.close
     (tie.spec (λ c κs. search rules) returns (λ c κs. search rules) returns-2 (λ c κs. search rules) returns-3)

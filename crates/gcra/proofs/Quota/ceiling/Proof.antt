@@ -1,58 +1,34 @@
 -- `gcra::Quota::ceiling` meets its contract: a quotient is at most the window, so the sum fits.
-use Prim.Native.Nat.{◌-◌, ◌^◌, ◌≤◌}
-use mathlib.Core.Path.{◌≡◌}
-use mathlib.Core.Bool.{true}
 use native.Mathlib.Omega.{arith}
 use native.Mathlib.Nat.{div-le_self}
-use lib.Dec.{leb}
 use borrow.Author.Rules.{rules}
-use borrow.Author.Tests.{leb-true}
+use borrow.Author.Tests.{le-leb, lt-leb}
 use Rattle.gcra.specs.Calls.{quota_ceiling}
-use Rattle.gcra.specs.Packed.{unit_nanos, valid_quota, valid_window, ceiling}
+use Rattle.gcra.specs.Packed.{ceiling}
 use Rattle.questions.specs.Questions.{answer}
-use Rattle.questions.proofs.Tests.{both, told-no, told-yes}
+use Rattle.questions.proofs.Tests.{told-no, told-yes}
 use Rattle.gcra.proofs.Packed.Validity.{valid-quota}
 use Rattle.gcra.proofs.Quota.ceiling.Statement.{statement}
 use Rattle.gcra.proofs.Quota.ceiling.Tie as tie
 
-abbrev start : tie.Else2 → tie.Start
-start c = c.before.before.before.before
-
-valid : (c : tie.Else2) → valid_quota unit_nanos (start c).args.self ≡ true
-valid c = told-yes c.before.before.before.is-valid.ensures c.before.before.if1.false
-
-fits : (c : tie.Else2) → valid_window (start c).args.window ≡ true
-fits c = told-yes c.before.window-fits.ensures c.if2.false
-
-window : (c : tie.Else2) → (1 ≤ (start c).args.window) × ((start c).args.window ≤ 2 ^ 62)
-window c =
-    let w = (start c).args.window in
-    let p = both (leb 1 w) (leb w (2 ^ 62)) (fits c) in
-    (leb-true 1 w p.0, leb-true w (2 ^ 62) p.1)
-
-returns : tie.Need-returns
+returns : tie.Need-returns-then-not-is_valid
 unfolding quota_ceiling answer
-returns c = rw (told-no c.before.is-valid.ensures c.if1.true)
+returns c = rw (told-no c.before.is_valid.ensures c.if-not-is_valid.true)
 
-returns-2 : tie.Need-returns-2
+returns-2 : tie.Need-returns-then-window
 unfolding quota_ceiling answer
-returns-2 c = rw (told-yes c.before.before.before.is-valid.ensures c.before.before.if1.false, told-no c.before.window-fits.ensures c.if2.true)
+returns-2 c = rw (told-yes c.before.before.is_valid.ensures c.before.if-not-is_valid.false, lt-leb _ _ c.if-window.true)
 
-sub-t7 : tie.Need-overflow-sub-t7
-sub-t7 c = omega (arith, window c.before)
+div-t7 : tie.Need-nonzero_div-result
+div-t7 c = let v = valid-quota _ _ (told-yes c.before.before.before.before.is_valid.ensures c.before.before.before.if-not-is_valid.false) in v.least
 
-div-t8 : tie.Need-nonzero-div-t8
-div-t8 c = let v = valid-quota _ _ (valid c.before.before) in v.least
+add-t8 : tie.Need-overflow_add-result
+add-t8 c = let s = c.before.before.before.before.before in record { fits = omega (arith, div-le_self s.args.window s.args.self.interval) }
 
-add-t9 : tie.Need-overflow-add-t9
-add-t9 c =
-    let s = (start c.before.before).args in
-    record { fits = omega (arith, window c.before.before, div-le_self (s.window - 1) s.self.interval) }
-
-returns-3 : tie.Need-returns-3
+returns-3 : tie.Need-returns
 unfolding quota_ceiling answer ceiling
-returns-3 c = rw (valid c.before.before, fits c.before.before)
+returns-3 c = rw (told-yes c.before.before.before.before.is_valid.ensures c.before.before.before.if-not-is_valid.false, le-leb _ _ c.before.before.if-window.false)
 
-pub ceiling-spec : {M : Type 1} → statement M
-ceiling-spec =
-    tie.close (tie.spec (λ c κs. search rules) returns (λ c κs. search rules) returns-2 (λ c. search rules) sub-t7 div-t8 add-t9 returns-3)
+pub ceiling_spec : {M : Type 1} → statement M
+ceiling_spec =
+    tie.close (tie.spec (λ c κs. search rules) returns returns-2 (λ c. search rules) div-t7 add-t8 returns-3)

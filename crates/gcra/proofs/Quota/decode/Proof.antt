@@ -8,5 +8,5 @@ returns : tie.Need-returns
 unfolding decode
 returns c = cc
 
-pub decode-spec : {M : Type 1} → statement M
-decode-spec = tie.close (tie.spec (λ c κs. search rules) (λ c κs. search rules) returns)
+pub decode_spec : {M : Type 1} → statement M
+decode_spec = tie.close (tie.spec (λ c κs. search rules) (λ c κs. search rules) returns)

@@ -4,19 +4,19 @@ use Rattle.gcra.proofs.Packed.Encoding.{first-unit, second-unit, third-unit}
 use Rattle.gcra.proofs.Quota.encode_interval.Statement.{statement}
 use Rattle.gcra.proofs.Quota.encode_interval.Tie as tie
 
-returns : tie.Need-returns
-returns c = first-unit _ _ c.before.div_ceil.ensures c.if1.true
+returns : tie.Need-returns-then-nanos-lt-VALUES
+returns c = first-unit _ _ c.before.div_ceil-nanos.ensures c.if-nanos-lt-VALUES.true
 
-returns-2 : tie.Need-returns-2
-returns-2 c = second-unit _ _ c.before.before.before.div_ceil.ensures c.before.before.if1.false c.before.div-ceil2.ensures c.if2.true
+returns-2 : tie.Need-returns-then-coarser-lt-VALUES
+returns-2 c = second-unit _ _ c.before.before.before.div_ceil-nanos.ensures c.before.before.if-nanos-lt-VALUES.false c.before.div_ceil-coarser.ensures c.if-coarser-lt-VALUES.true
 
-returns-3 : tie.Need-returns-3
+returns-3 : tie.Need-returns
 returns-3 c =
-    third-unit _ _ c.before.before.before.before.div_ceil.ensures c.before.before.before.if1.false c.before.before.div-ceil2.ensures c.before.if2.false
-    c.div-ceil3.ensures
+    third-unit _ _ c.before.before.before.before.div_ceil-nanos.ensures c.before.before.before.if-nanos-lt-VALUES.false c.before.before.div_ceil-coarser.ensures c.before.if-coarser-lt-VALUES.false
+    c.div_ceil.ensures
 
-pub encode-interval-spec : {M : Type 1} → statement M
-encode-interval-spec =
+pub encode_interval_spec : {M : Type 1} → statement M
+encode_interval_spec =
     tie.close
     (tie.spec
     (λ c κs. search rules)

@@ -6,13 +6,13 @@ use Rattle.gcra.proofs.Packed.Encoding.{value-small}
 use Rattle.gcra.proofs.Quota.interval_of.Statement.{statement}
 use Rattle.gcra.proofs.Quota.interval_of.Tie as tie
 
-mul-result : tie.Need-overflow-mul-result
+mul-result : tie.Need-overflow_mul-result
 mul-result c =
     let w = c.before.args.packed in
-    record { fits = rw c.unit-nanos.ensures (value-small _ c.before.requires (value_of w) (unit_of w) (omega arith)) }
+    record { fits = rw c.unit_nanos.ensures (value-small _ c.before.requires (value_of w) (unit_of w) (omega arith)) }
 
 returns : tie.Need-returns
 returns c = cc
 
-pub interval-of-spec : {M : Type 1} → statement M
-interval-of-spec = tie.close (tie.spec (λ c κs. search rules) mul-result returns)
+pub interval_of_spec : {M : Type 1} → statement M
+interval_of_spec = tie.close (tie.spec (λ c κs. search rules) mul-result returns)

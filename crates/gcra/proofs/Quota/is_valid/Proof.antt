@@ -7,36 +7,36 @@ use Rattle.questions.proofs.Tests.{told-no, told-yes}
 use Rattle.gcra.proofs.Quota.is_valid.Statement.{statement}
 use Rattle.gcra.proofs.Quota.is_valid.Tie as tie
 
-returns : tie.Need-returns
+returns : tie.Need-returns-then-interval-lt1
 unfolding valid_quota
-returns c = rw (lt-leb 1 c.before.args.self.interval c.if1.true)
+returns c = rw (lt-leb 1 c.before.args.self.interval c.if-interval-lt1.true)
 
-returns-2 : tie.Need-returns-2
+returns-2 : tie.Need-returns-then-max_interval-interval
 unfolding valid_quota
 returns-2 c =
     let s = c.before.before.before.args in
     rw (
-      le-leb 1 s.self.interval c.before.before.if1.false,
-      lt-leb s.self.interval (max_interval s.units) (rw c.before.max-interval.ensures at c.if2.true),
+      le-leb 1 s.self.interval c.before.before.if-interval-lt1.false,
+      lt-leb s.self.interval (max_interval s.units) (rw c.before.max_interval.ensures at c.if-max_interval-interval.true),
     )
 
-returns-3 : tie.Need-returns-3
+returns-3 : tie.Need-returns-then-not-burst_fits
 unfolding valid_quota
-returns-3 c = rw (told-no c.before.burst-fits.ensures c.if3.true, and-false)
+returns-3 c = rw (told-no c.before.burst_fits.ensures c.if-not-burst_fits.true, and-false)
 
-returns-4 : tie.Need-returns-4
+returns-4 : tie.Need-returns
 unfolding valid_quota
 returns-4 c =
     let s = c.before.before.before.before.before.before.args in
     rw (
-      le-leb 1 s.self.interval c.before.before.before.before.before.if1.false,
-      le-leb s.self.interval (max_interval s.units) (rw c.before.before.before.before.max-interval.ensures at c.before.before.before.if2.false),
-      told-yes c.before.before.burst-fits.ensures c.before.if3.false,
+      le-leb 1 s.self.interval c.before.before.before.before.before.if-interval-lt1.false,
+      le-leb s.self.interval (max_interval s.units) (rw c.before.before.before.before.max_interval.ensures at c.before.before.before.if-max_interval-interval.false),
+      told-yes c.before.before.burst_fits.ensures c.before.if-not-burst_fits.false,
       c.rounded.ensures,
     )
 
-pub is-valid-spec : {M : Type 1} → statement M
-is-valid-spec =
+pub is_valid_spec : {M : Type 1} → statement M
+is_valid_spec =
     tie.close
     (tie.spec
     returns

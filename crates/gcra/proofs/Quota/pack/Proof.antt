@@ -8,16 +8,16 @@ use Rattle.gcra.proofs.Packed.Validity.{valid-quota}
 use Rattle.gcra.proofs.Quota.pack.Statement.{statement}
 use Rattle.gcra.proofs.Quota.pack.Tie as tie
 
-returns : tie.Need-returns
+returns : tie.Need-returns-then-not-is_valid
 unfolding quota_pack
-returns c = alone-no 2 _ (told-no c.before.is-valid.ensures c.if1.true)
+returns c = alone-no 2 _ (told-no c.before.is_valid.ensures c.if-not-is_valid.true)
 
-pack-in-requires : tie.Need-pack-in-requires
-pack-in-requires c κs = let v = valid-quota _ _ (told-yes c.before.is-valid.ensures c.if1.false) in (units-accepted, v.most, v.burst.most)
+pack-in-requires : tie.Need-pack_in-requires
+pack-in-requires c κs = let v = valid-quota _ _ (told-yes c.before.is_valid.ensures c.if-not-is_valid.false) in (units-accepted, v.most, v.burst.most)
 
-returns-2 : tie.Need-returns-2
+returns-2 : tie.Need-returns
 unfolding quota_pack
-returns-2 c = rw c.pack-in.ensures (alone-yes 2 _ (told-yes c.before.before.is-valid.ensures c.before.if1.false))
+returns-2 c = rw c.pack_in.ensures (alone-yes 2 _ (told-yes c.before.before.is_valid.ensures c.before.if-not-is_valid.false))
 
-pub pack-spec : {M : Type 1} → statement M
-pack-spec = tie.close (tie.spec (λ c κs. search rules) returns pack-in-requires returns-2)
+pub pack_spec : {M : Type 1} → statement M
+pack_spec = tie.close (tie.spec (λ c κs. search rules) returns pack-in-requires returns-2)

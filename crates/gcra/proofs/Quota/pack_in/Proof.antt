@@ -8,29 +8,29 @@ use Rattle.gcra.proofs.Quota.pack_in.Statement.{statement}
 use Rattle.gcra.proofs.Quota.pack_in.Tie as tie
 
 -- the value is below 2^40, and the unit's code below 3
-sizes : (c : tie.After-encode-interval) → (c.encode-interval.result.value < 2 ^ 40) × (c.encode-interval.result.unit < 3)
+sizes : (c : tie.After-encode_interval-e) → (c.encode_interval-e.result.value < 2 ^ 40) × (c.encode_interval-e.result.unit < 3)
 sizes c =
     let t = encode-takes _ _ c.before.requires.0 c.before.requires.1 in
-    rw c.encode-interval.ensures (t.fits, t.code)
+    rw c.encode_interval-e.ensures (t.fits, t.code)
 
-mul-result : tie.Need-overflow-mul-result
+mul-result : tie.Need-overflow_mul-result
 mul-result c = record { fits = omega (arith, sizes c.before) }
 
-mul-result-2 : tie.Need-overflow-mul-result-2
+mul-result-2 : tie.Need-overflow_mul-result-2
 mul-result-2 c = record { fits = omega (arith, sizes c.before.before) }
 
-add-result : tie.Need-overflow-add-result
+add-result : tie.Need-overflow_add-result
 add-result c = record { fits = omega (arith, sizes c.before.before) }
 
-add-result-2 : tie.Need-overflow-add-result-2
+add-result-2 : tie.Need-overflow_add-result-2
 add-result-2 c = record { fits = omega (arith, sizes c.before.before.before) }
 
 returns : tie.Need-returns
 unfolding pack
 returns c = cc
 
-pub pack-in-spec : {M : Type 1} → statement M
-pack-in-spec =
+pub pack_in_spec : {M : Type 1} → statement M
+pack_in_spec =
     tie.close
     (tie.spec
     (λ c κs. search rules)

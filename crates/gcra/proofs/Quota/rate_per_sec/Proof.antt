@@ -8,13 +8,13 @@ use Rattle.gcra.proofs.Rate.Rates.{second_is}
 use Rattle.gcra.proofs.Quota.rate_per_sec.Statement.{statement}
 use Rattle.gcra.proofs.Quota.rate_per_sec.Tie as tie
 
-returns : tie.Need-returns
+returns : tie.Need-returns-then-not-is_valid
 unfolding quota_rate
-returns c = alone-no 2 _ (told-no c.before.is-valid.ensures c.if1.true)
+returns c = alone-no 2 _ (told-no c.before.is_valid.ensures c.if-not-is_valid.true)
 
-returns-2 : tie.Need-returns-2
+returns-2 : tie.Need-returns
 unfolding quota_rate rate_per_sec
-returns-2 c = rw (second_is, c.u64-to-f64.ensures) (alone-yes 2 _ (told-yes c.before.before.is-valid.ensures c.before.if1.false))
+returns-2 c = rw (second_is, c.u64_to_f64.ensures) (alone-yes 2 _ (told-yes c.before.before.is_valid.ensures c.before.if-not-is_valid.false))
 
-pub rate-per-sec-spec : {M : Type 1} → statement M
-rate-per-sec-spec = tie.close (tie.spec (λ c κs. search rules) returns (λ c κs. search rules) returns-2)
+pub rate_per_sec_spec : {M : Type 1} → statement M
+rate_per_sec_spec = tie.close (tie.spec (λ c κs. search rules) returns (λ c κs. search rules) returns-2)

@@ -12,14 +12,14 @@ use Rattle.gcra.proofs.Quota.rounded.Tie as tie
 small : (u : Units) (n : ℕ) → Accepted u → n ≤ max_interval u → (e : Encoded) (w : ℕ) → e ≡ encode u n → w ≡ width u e.unit → e.value * w < 2 ^ 64
 small u n a l e w h k = rw (k, h) (value-small u a (encode u n).value (encode u n).unit (encode-takes u n a l).fits)
 
-mul-result : tie.Need-overflow-mul-result
+mul-result : tie.Need-overflow_mul-result
 mul-result c =
     let s = c.before.before.before in
-    record { fits = small _ _ s.requires.0 s.requires.1 _ _ c.before.before.encode-interval.ensures c.before.unit-nanos.ensures }
+    record { fits = small _ _ s.requires.0 s.requires.1 _ _ c.before.before.encode_interval-e.ensures c.before.unit_nanos.ensures }
 
 returns : tie.Need-returns
 unfolding rounded
 returns c = cc
 
-pub rounded-spec : {M : Type 1} → statement M
-rounded-spec = tie.close (tie.spec (λ c κs. search rules) (λ c κs. search rules) mul-result returns)
+pub rounded_spec : {M : Type 1} → statement M
+rounded_spec = tie.close (tie.spec (λ c κs. search rules) (λ c κs. search rules) mul-result returns)

@@ -6,5 +6,5 @@ use Rattle.gcra.proofs.Quota.t_and_tau.Tie as tie
 returns : tie.Need-returns
 returns c = cc
 
-pub t-and-tau-spec : {M : Type 1} → statement M
-t-and-tau-spec = tie.close (tie.spec (λ c. search rules) (λ c κs. search rules) returns)
+pub t_and_tau_spec : {M : Type 1} → statement M
+t_and_tau_spec = tie.close (tie.spec (λ c. search rules) (λ c κs. search rules) returns)

@@ -8,6 +8,6 @@ returns : tie.Need-returns
 unfolding unpack
 returns c = cc
 
-pub unpack-in-spec : {M : Type 1} → statement M
-unpack-in-spec =
+pub unpack_in_spec : {M : Type 1} → statement M
+unpack_in_spec =
     tie.close (tie.spec (λ c κs. search rules) (λ c. search rules) (λ c κs. search rules) returns)

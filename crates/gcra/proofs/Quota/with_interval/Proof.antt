@@ -8,5 +8,5 @@ returns : tie.Need-returns
 unfolding with_interval
 returns c = cc
 
-pub with-interval-spec : {M : Type 1} → statement M
-with-interval-spec = tie.close (tie.spec (λ c κs. search rules) (λ c κs. search rules) returns)
+pub with_interval_spec : {M : Type 1} → statement M
+with_interval_spec = tie.close (tie.spec (λ c κs. search rules) (λ c κs. search rules) returns)

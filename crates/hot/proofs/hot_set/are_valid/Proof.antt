@@ -18,94 +18,94 @@ use Rattle.hot.proofs.HotSet.Scan.{scanned-is-asked, record-entry}
 use Rattle.hot.proofs.hot_set.are_valid.Statement.{statement}
 use Rattle.hot.proofs.hot_set.are_valid.Tie as tie
 
-abbrev invariant-loop : tie.invariant-loop
-invariant-loop hot n i₀ i = Scanned are_entry_words 6 n hot i
+abbrev invariant-loop-i : tie.invariant-loop-i
+invariant-loop-i hot n i₀ i = Scanned are_entry_words 6 n hot i
 
-abbrev decreases-loop : tie.decreases-loop
-decreases-loop hot n i₀ i = n - i
+abbrev decreases-loop-i : tie.decreases-loop-i
+decreases-loop-i hot n i₀ i = n - i
 
-abbrev start : tie.Else1 invariant-loop decreases-loop → tie.Start invariant-loop decreases-loop
+abbrev start : tie.Else-not-fits invariant-loop-i decreases-loop-i → tie.Start invariant-loop-i decreases-loop-i
 start c = c.before.before.before
 
-fit : (c : tie.Else1 invariant-loop decreases-loop) → fits (length (start c).args.hot.now) 6 (start c).args.n ≡ true
-fit c = told-yes c.before.fits2.ensures c.if1.false
+fit : (c : tie.Else-not-fits invariant-loop-i decreases-loop-i) → fits (length (start c).args.hot.now) 6 (start c).args.n ≡ true
+fit c = told-yes c.before.fits.ensures c.if-not-fits.false
 
-room : (c : tie.Else1 invariant-loop decreases-loop) → (start c).args.n * 6 ≤ length (start c).args.hot.now
+room : (c : tie.Else-not-fits invariant-loop-i decreases-loop-i) → (start c).args.n * 6 ≤ length (start c).args.hot.now
 room c = fits_le _ 6 _ (fit c)
 
 -- what the pass answers is what is asked
-asked : (c : tie.Else1 invariant-loop decreases-loop) → let s = (start c).args in are_records are_entry_words (records 6 s.n s.hot.now) ≡ (fits (length s.hot.now) 6 s.n && (exact words entry (records 6 s.n s.hot.now) && valid_entries (entries s.n s.hot.now)))
+asked : (c : tie.Else-not-fits invariant-loop-i decreases-loop-i) → let s = (start c).args in are_records are_entry_words (records 6 s.n s.hot.now) ≡ (fits (length s.hot.now) 6 s.n && (exact words entry (records 6 s.n s.hot.now) && valid_entries (entries s.n s.hot.now)))
 asked c =
     let s = (start c).args in
-    scanned-is-asked s.n s.hot.now (fit c) (all_words s.hot.now (λ i. omega (arith, c.before.before.shared-slice-known.given i)))
+    scanned-is-asked s.n s.hot.now (fit c) (all_words s.hot.now (λ i. omega (arith, c.before.before.shared_slice_known-1.given i)))
 
-bound : (c : tie.In-loop invariant-loop decreases-loop) → c.before.loop.i * 6 + 6 ≤ length (start c.before.before).args.hot.now
-bound c = omega (arith, c.loop-test.true, room c.before.before)
+bound : (c : tie.In-loop-i invariant-loop-i decreases-loop-i) → c.before.loop-i.i * 6 + 6 ≤ length (start c.before.before).args.hot.now
+bound c = omega (arith, c.loop-i-test.true, room c.before.before)
 
-returns : tie.Need-returns invariant-loop decreases-loop
-returns c = stop _ _ (told-no c.before.fits2.ensures c.if1.true)
+returns : tie.Need-returns-then-not-fits invariant-loop-i decreases-loop-i
+returns c = stop _ _ (told-no c.before.fits.ensures c.if-not-fits.true)
 
-loop-holds : tie.Need-loop-init invariant-loop decreases-loop
+loop-holds : tie.Need-loop-i-init invariant-loop-i decreases-loop-i
 loop-holds c = scan-start _ _ _ _
 
-mul_at : tie.Need-overflow-mul-at invariant-loop decreases-loop
+mul_at : tie.Need-overflow_mul-at invariant-loop-i decreases-loop-i
 mul_at c = omega (arith, bound c)
 
-follows-requires : tie.Need-follows-requires invariant-loop decreases-loop
+follows-requires : tie.Need-follows-requires invariant-loop-i decreases-loop-i
 follows-requires c κs = omega (arith, bound c)
 
-returns-2 : tie.Need-returns-2 invariant-loop decreases-loop
+returns-2 : tie.Need-returns-then-not-follows invariant-loop-i decreases-loop-i
 returns-2 c =
     let l = c.before.before in
     let e = l.before.before in
     let s = (start e).args in
-    scan-order are_entry_words 6 s.n s.hot.now (omega arith) (room e) l.before.loop.i l.loop-test.true (told-no c.before.follows.ensures c.if2.true)
+    scan-order are_entry_words 6 s.n s.hot.now (omega arith) (room e) l.before.loop-i.i l.loop-i-test.true (told-no c.before.follows.ensures c.if-not-follows.true)
     ∙ asked e
 
-is-entry-requires : tie.Need-is-entry-requires invariant-loop decreases-loop
+is-entry-requires : tie.Need-is_entry-requires invariant-loop-i decreases-loop-i
 is-entry-requires c κs = omega (arith, bound c.before.before)
 
 -- the words of the turn are those of its record
-record-told : (c : tie.After-is-entry invariant-loop decreases-loop) → let l = c.before.before.before in let s = (start l.before.before).args in c.is-entry.result ≡ are_entry_words (get_or (records 6 s.n s.hot.now) l.before.loop.i [])
+record-told : (c : tie.After-is_entry invariant-loop-i decreases-loop-i) → let l = c.before.before.before in let s = (start l.before.before).args in c.is_entry.result ≡ are_entry_words (get_or (records 6 s.n s.hot.now) l.before.loop-i.i [])
 record-told c =
     let l = c.before.before.before in
     let s = (start l.before.before).args in
-    c.is-entry.ensures ∙ record-entry s.n s.hot.now l.before.loop.i l.loop-test.true
+    c.is_entry.ensures ∙ record-entry s.n s.hot.now l.before.loop-i.i l.loop-i-test.true
 
-returns-3 : tie.Need-returns-3 invariant-loop decreases-loop
+returns-3 : tie.Need-returns-then-not-is_entry invariant-loop-i decreases-loop-i
 returns-3 c =
     let l = c.before.before.before.before in
     let e = l.before.before in
     let s = (start e).args in
-    scan-record are_entry_words 6 s.n s.hot.now (omega arith) (room e) l.before.loop.i l.loop-test.true (told-no (record-told c.before) c.if3.true)
+    scan-record are_entry_words 6 s.n s.hot.now (omega arith) (room e) l.before.loop-i.i l.loop-i-test.true (told-no (record-told c.before) c.if-not-is_entry.true)
     ∙ asked e
 
-add-i : tie.Need-overflow-add-i invariant-loop decreases-loop
+add-i : tie.Need-overflow_add-i invariant-loop-i decreases-loop-i
 add-i c = let l = c.before.before.before.before in omega (arith, bound l)
 
-loop-less : tie.Need-loop-smaller invariant-loop decreases-loop
-loop-less c = let l = c.before.before.before.before in omega (arith, l.loop-test.true)
+loop-less : tie.Need-loop-i-smaller invariant-loop-i decreases-loop-i
+loop-less c = let l = c.before.before.before.before in omega (arith, l.loop-i-test.true)
 
-loop-again : tie.Need-loop-preserved invariant-loop decreases-loop
+loop-again : tie.Need-loop-i-preserved invariant-loop-i decreases-loop-i
 loop-again c =
     let f = c.before.before in
     let l = f.before.before in
     let s = (start l.before.before).args in
-    scan_step are_entry_words 6 s.n s.hot.now l.before.loop.i l.before.loop.invariant l.loop-test.true (told-yes f.before.follows.ensures f.if2.false) (told-yes (record-told c.before) c.if3.false)
+    scan_step are_entry_words 6 s.n s.hot.now l.before.loop-i.i l.before.loop-i.invariant l.loop-i-test.true (told-yes f.before.follows.ensures f.if-not-follows.false) (told-yes (record-told c.before) c.if-not-is_entry.false)
 
-returns-4 : tie.Need-returns-4 invariant-loop decreases-loop
+returns-4 : tie.Need-returns invariant-loop-i decreases-loop-i
 returns-4 c =
     let e = c.before.before in
     let s = (start e).args in
-    scan-done are_entry_words 6 s.n s.hot.now (omega arith) (room e) c.before.loop.i c.before.loop.invariant c.loop-test.false
+    scan-done are_entry_words 6 s.n s.hot.now (omega arith) (room e) c.before.loop-i.i c.before.loop-i.invariant c.loop-i-test.false
     ∙ asked e
 
-pub are-valid-spec : {M : Type 1} → statement M
-are-valid-spec =
+pub are_valid_spec : {M : Type 1} → statement M
+are_valid_spec =
     tie.close
     (tie.spec
-    invariant-loop
-    decreases-loop
+    invariant-loop-i
+    decreases-loop-i
     (λ c κs. search rules)
     returns
     loop-holds

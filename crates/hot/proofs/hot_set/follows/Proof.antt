@@ -4,16 +4,16 @@ use Rattle.records.proofs.Tables.ScanLaws.{first-follows, next-follows}
 use Rattle.hot.proofs.hot_set.follows.Statement.{statement}
 use Rattle.hot.proofs.hot_set.follows.Tie as tie
 
-returns : tie.Need-returns
-returns c = first-follows _ _ _ c.if1.true
+returns : tie.Need-returns-then-at-lt-WORDS
+returns c = first-follows _ _ _ c.if-at-lt-WORDS.true
 
-returns-2 : tie.Need-returns-2
+returns-2 : tie.Need-returns
 returns-2 c =
     let e = c.before.before in
-    next-follows 6 e.before.args.at e.before.args.hot.now e.if1.false
+    next-follows 6 e.before.args.at e.before.args.hot.now e.if-at-lt-WORDS.false
 
-pub follows-spec : {M : Type 1} → statement M
-follows-spec =
+pub follows_spec : {M : Type 1} → statement M
+follows_spec =
     tie.close
     (tie.spec
     returns

@@ -11,28 +11,28 @@ use Rattle.hot.proofs.HotSet.Table.{at-within, got-at, got-gap, never-unfit}
 use Rattle.hot.proofs.hot_set.get.Statement.{statement}
 use Rattle.hot.proofs.hot_set.get.Tie as tie
 
-abbrev start : tie.After-known-told → tie.Start
+abbrev start : tie.In-At → tie.Start
 start c = c.before.before.before.before.before
 
-found : (c : tie.After-known-told) → At c.before.i.given.0.0 ≡ find_in 6 1 (start c).args.n (start c).args.key 0 (start c).args.hot.now
+found : (c : tie.In-At) → At c.before.i.given.0.0 ≡ find_in 6 1 (start c).args.n (start c).args.key 0 (start c).args.hot.now
 found c = sym c.before.i.given.1 ∙ c.before.before.before.find.ensures
 
-within : (c : tie.After-known-told) → c.before.i.given.0.0 * 6 + 6 ≤ length (start c).args.hot.now
+within : (c : tie.In-At) → c.before.i.given.0.0 * 6 + 6 ≤ length (start c).args.hot.now
 within c = (at-within (start c).args.n (start c).args.hot.now (start c).requires (start c).args.key _ (found c)).1
 
-mul-of-words : tie.Need-overflow-mul-of-words
+mul-of-words : tie.Need-overflow_mul-i
 mul-of-words c = omega (arith, within c)
 
-of-words-requires : tie.Need-of-words-requires
+of-words-requires : tie.Need-of_words-requires
 of-words-requires c κs = within c
 
-returns : tie.Need-returns
+returns : tie.Need-returns-in-At
 returns c = let s = start c.before in ap some c.of_words.ensures ∙ got-at s.args.n s.args.hot.now s.pre s.args.key _ (found c.before)
 
-returns-2 : tie.Need-returns-2
+returns-2 : tie.Need-returns-in-Gap
 returns-2 c = let s = c.before.before.before.before in got-gap s.args.n s.args.hot.now s.requires s.args.key _ (sym c.enum_told.given.1 ∙ c.before.before.find.ensures)
 
-returns-3 : tie.Need-returns-3
+returns-3 : tie.Need-returns-in-Unfit
 returns-3 c = let s = c.before.before.before.before in never-unfit s.args.n s.args.hot.now s.requires s.args.key (sym c.enum-told2.given.1 ∙ c.before.before.find.ensures)
 
 pub get_spec : {M : Type 1} → statement M

@@ -10,8 +10,8 @@ returns c =
     let s = c.before.before.before.before.before.before in
     c.are_words.ensures ∙ sym (is-entry-at s.args.at s.args.hot.now)
 
-pub is-entry-spec : {M : Type 1} → statement M
-is-entry-spec =
+pub is_entry_spec : {M : Type 1} → statement M
+is_entry_spec =
     tie.close
     (tie.spec
     (λ c. search rules)

@@ -5,25 +5,25 @@ use Rattle.hot.proofs.HotSet.Table.{put-at, put-gap, never-unfit}
 use Rattle.hot.proofs.hot_set.put.Statement.{statement}
 use Rattle.hot.proofs.hot_set.put.Tie as tie
 
-returns : tie.Need-returns
+returns : tie.Need-returns-in-At
 returns c =
     let o = c.before.before in
     let i = o.before.before.before.before in
     let f = i.before.before in
     let w = f.before.before in
     let s = w.before.before in
-    o.overwrite.ensures.1 ∙ put-at s.args.n s.args.hot.now s.requires.0 s.args.entry _ w.words.ensures _ (sym i.i.given.1 ∙ f.find.ensures)
+    o.overwrite.ensures.1 ∙ put-at s.args.n s.args.hot.now s.requires.0 s.args.entry _ w.words-r.ensures _ (sym i.i.given.1 ∙ f.find.ensures)
 
-returns-2 : tie.Need-returns-2
+returns-2 : tie.Need-returns-in-Gap
 returns-2 c =
     let o = c.before.before in
     let i = o.before.before.before.before in
     let f = i.before.before in
     let w = f.before.before in
     let s = w.before.before in
-    o.insert.ensures.1 ∙ put-gap s.args.n s.args.hot.now s.requires.0 s.args.entry _ w.words.ensures _ s.requires.1 (sym i.i2.given.1 ∙ f.find.ensures)
+    o.insert.ensures.1 ∙ put-gap s.args.n s.args.hot.now s.requires.0 s.args.entry _ w.words-r.ensures _ s.requires.1 (sym i.i2.given.1 ∙ f.find.ensures)
 
-returns-3 : tie.Need-returns-3
+returns-3 : tie.Need-returns-in-Unfit
 returns-3 c =
     let f = c.before.before in
     let s = f.before.before.before.before in

@@ -5,7 +5,7 @@ use Rattle.hot.proofs.HotSet.Table.{removed-at, removed-none, never-unfit}
 use Rattle.hot.proofs.hot_set.remove.Statement.{statement}
 use Rattle.hot.proofs.hot_set.remove.Tie as tie
 
-returns : tie.Need-returns
+returns : tie.Need-returns-in-At
 returns c =
     let o = c.before.before in
     let i = o.before.before.before in
@@ -13,20 +13,20 @@ returns c =
     let s = f.before.before.before in
     o.remove.ensures.1 ∙ removed-at s.args.n s.args.hot.now s.requires s.args.key _ (sym i.i.given.1 ∙ f.find.ensures)
 
-returns-2 : tie.Need-returns-2
+returns-2 : tie.Need-returns-in-Gap
 returns-2 c =
     let f = c.before.before in
     let s = f.before.before.before in
     removed-none s.args.n s.args.hot.now s.requires s.args.key _ (sym c.enum_told.given.1 ∙ f.find.ensures)
 
-returns-3 : tie.Need-returns-3
+returns-3 : tie.Need-returns-in-Unfit
 returns-3 c =
     let f = c.before.before in
     let s = f.before.before.before in
     never-unfit s.args.n s.args.hot.now s.requires s.args.key (sym c.enum-told2.given.1 ∙ f.find.ensures)
 
-pub remove-spec : {M : Type 1} → statement M
-remove-spec =
+pub remove_spec : {M : Type 1} → statement M
+remove_spec =
     tie.close
     (tie.spec
     (λ c κs. search rules)

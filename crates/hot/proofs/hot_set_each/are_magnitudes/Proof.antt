@@ -13,48 +13,48 @@ use Rattle.records.proofs.Changes.StepLaws.{all-next, all-stop, all_end}
 use Rattle.hot.proofs.hot_set_each.are_magnitudes.Statement.{statement}
 use Rattle.hot.proofs.hot_set_each.are_magnitudes.Tie as tie
 
-abbrev invariant-loop : tie.invariant-loop
-invariant-loop demands n i₀ i = (i ≤ n) × (all magnitude (drop i (take n demands)) ≡ all magnitude (take n demands))
+abbrev invariant-loop-i : tie.invariant-loop-i
+invariant-loop-i demands n i₀ i = (i ≤ n) × (all magnitude (drop i (take n demands)) ≡ all magnitude (take n demands))
 
-abbrev decreases-loop : tie.decreases-loop
-decreases-loop demands n i₀ i = n - i
+abbrev decreases-loop-i : tie.decreases-loop-i
+decreases-loop-i demands n i₀ i = n - i
 
-loop-holds : tie.Need-loop-init invariant-loop decreases-loop
+loop-holds : tie.Need-loop-i-init invariant-loop-i decreases-loop-i
 loop-holds c = (omega arith, refl)
 
-returns : tie.Need-returns invariant-loop decreases-loop
+returns : tie.Need-returns-then-not-is_magnitude invariant-loop-i decreases-loop-i
 returns c =
     let l = c.before.before.before.before in
     let s = l.before.before in
-    let h = c.before.before.before.loop-test.true in
-    sym (sym l.loop.invariant.1
-    ∙ all-stop magnitude _ (take s.args.n s.args.demands.now) l.loop.i (omega (arith, length-take-le s.args.n s.args.demands.now s.requires))
-    (ap magnitude (get_or-take s.args.n s.args.demands.now l.loop.i _ h) ∙ sym c.before.is-magnitude.ensures ∙ not-true _ c.if1.true))
+    let h = c.before.before.before.loop-i-test.true in
+    sym (sym l.loop-i.invariant.1
+    ∙ all-stop magnitude _ (take s.args.n s.args.demands.now) l.loop-i.i (omega (arith, length-take-le s.args.n s.args.demands.now s.requires))
+    (ap magnitude (get_or-take s.args.n s.args.demands.now l.loop-i.i _ h) ∙ sym c.before.is_magnitude.ensures ∙ c.if-not-is_magnitude.true))
 
-loop-again : tie.Need-loop-preserved invariant-loop decreases-loop
+loop-again : tie.Need-loop-i-preserved invariant-loop-i decreases-loop-i
 loop-again c =
     let l = c.before.before.before.before in
     let s = l.before.before in
-    let h = c.before.before.before.loop-test.true in (
+    let h = c.before.before.before.loop-i-test.true in (
       omega arith,
-      all-next magnitude _ (take s.args.n s.args.demands.now) l.loop.i (omega (arith, length-take-le s.args.n s.args.demands.now s.requires))
-          (ap magnitude (get_or-take s.args.n s.args.demands.now l.loop.i _ h) ∙ sym c.before.is-magnitude.ensures ∙ not-false _ c.if1.false)
-          ∙ l.loop.invariant.1,
+      all-next magnitude _ (take s.args.n s.args.demands.now) l.loop-i.i (omega (arith, length-take-le s.args.n s.args.demands.now s.requires))
+          (ap magnitude (get_or-take s.args.n s.args.demands.now l.loop-i.i _ h) ∙ sym c.before.is_magnitude.ensures ∙ c.if-not-is_magnitude.false)
+          ∙ l.loop-i.invariant.1,
     )
 
-returns-2 : tie.Need-returns-2 invariant-loop decreases-loop
+returns-2 : tie.Need-returns invariant-loop-i decreases-loop-i
 returns-2 c =
     let l = c.before in
     let s = l.before.before in
-    sym (sym l.loop.invariant.1
-    ∙ all_end magnitude nan (take s.args.n s.args.demands.now) l.loop.i (omega (arith, length-take-le s.args.n s.args.demands.now s.requires, c.loop-test.false)))
+    sym (sym l.loop-i.invariant.1
+    ∙ all_end magnitude nan (take s.args.n s.args.demands.now) l.loop-i.i (omega (arith, length-take-le s.args.n s.args.demands.now s.requires, c.loop-i-test.false)))
 
-pub are-magnitudes-spec : {M : Type 1} → statement M
-are-magnitudes-spec =
+pub are_magnitudes_spec : {M : Type 1} → statement M
+are_magnitudes_spec =
     tie.close
     (tie.spec
-    invariant-loop
-    decreases-loop
+    invariant-loop-i
+    decreases-loop-i
     loop-holds
     (λ c. omega arith)
     (λ c. omega arith)

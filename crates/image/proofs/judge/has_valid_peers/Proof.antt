@@ -10,17 +10,17 @@ use Rattle.image.proofs.judge.has_valid_peers.Statement.{statement}
 use Rattle.image.proofs.judge.has_valid_peers.Tie as tie
 
 -- each table is long enough for as many records as may be found
-read-table-requires : tie.Need-read-table-requires
+read-table-requires : tie.Need-read_table-requires
 read-table-requires c κs =
     let s = c.before.before in
     (omega (arith, s.requires.1.peers, length-replicate {A = ℕ} 384 0), omega (arith, s.requires.0.peers), refl)
 
-read-table-requires-2 : tie.Need-read-table-requires-2
+read-table-requires-2 : tie.Need-read_table-requires-2
 read-table-requires-2 c κs =
     let s = c.before.before.before.before.before in
     (omega (arith, s.requires.1.snapshot-keys, length-replicate {A = ℕ} 8192 0), omega (arith, s.requires.0.snapshot-keys), refl)
 
-read-table-requires-3 : tie.Need-read-table-requires-3
+read-table-requires-3 : tie.Need-read_table-requires-3
 read-table-requires-3 c κs =
     let s = c.before.before.before.before.before.before.before.before in
     (omega (arith, s.requires.1.contested, length-replicate {A = ℕ} 49152 0), omega (arith, s.requires.0.contested), refl)
@@ -35,12 +35,12 @@ returns c =
     ap (λ (n : ℕ). eqb n 0) c.ask.ensures
     ∙ peers-asked _ _ s.requires.0 s.requires.1 _
     (replicate 384 0) (replicate 8192 0) (replicate 49152 0)
-    first.read_table.ensures second.read-table2.ensures third.read-table3.ensures
+    first.read_table.ensures second.read_table-2.ensures third.read_table-3.ensures
     (length-replicate {A = ℕ} 384 0) (length-replicate {A = ℕ} 8192 0) (length-replicate {A = ℕ} 49152 0)
-    _ of.peers-of.ensures
+    _ of.peers_of.ensures
 
-pub has-valid-peers-spec : {M : Type 1} → statement M
-has-valid-peers-spec =
+pub has_valid_peers_spec : {M : Type 1} → statement M
+has_valid_peers_spec =
     tie.close
     (tie.spec
     (λ c. search rules)

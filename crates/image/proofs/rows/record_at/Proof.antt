@@ -5,37 +5,37 @@ use Rattle.image.proofs.Loading.KindLaws.{none-short, none_first, none-second, b
 use Rattle.image.proofs.rows.record_at.Statement.{statement}
 use Rattle.image.proofs.rows.record_at.Tie as tie
 
-abbrev start : tie.Else2 → tie.Start
+abbrev start : tie.Else-from-at → tie.Start
 start c = c.before.before.before
 
 -- the bytes before the one that is read are there
-abbrev first : tie.Else4 → tie.Else3
+abbrev first : tie.Else-from-at-ne71 → tie.Else-from-at-ne82
 first c = c.before.before
 
-returns : tie.Need-returns
-returns c = let s = c.before.before.args in none-short s.at s.from.now (omega (arith, c.if1.true))
+returns : tie.Need-returns-then-from-lt-HEAD
+returns c = let s = c.before.before.args in none-short s.at s.from.now (omega (arith, c.if-from-lt-HEAD.true))
 
-returns-2 : tie.Need-returns-2
-returns-2 c = let s = c.before.before.before.args in none-short s.at s.from.now (omega (arith, c.if2.true, c.before.if1.false))
+returns-2 : tie.Need-returns-then-from-at
+returns-2 c = let s = c.before.before.before.args in none-short s.at s.from.now (omega (arith, c.if-from-at.true, c.before.if-from-lt-HEAD.false))
 
-returns-3 : tie.Need-returns-3
-returns-3 c = let s = (start c.before.before).args in none_first s.at s.from.now c.if3.true
+returns-3 : tie.Need-returns-then-from-at-ne82
+returns-3 c = let s = (start c.before.before).args in none_first s.at s.from.now c.if-from-at-ne82.true
 
-returns-4 : tie.Need-returns-4
+returns-4 : tie.Need-returns-then-from-at-ne71
 returns-4 c =
     let e = c.before.before in
     let s = (start e.before.before).args in
-    none-second s.at s.from.now e.if3.false c.if4.true
+    none-second s.at s.from.now e.if-from-at-ne82.false c.if-from-at-ne71.true
 
-returns-5 : tie.Need-returns-5
+returns-5 : tie.Need-returns
 returns-5 c =
     let f = c.before.before in
     let e = first f in
     let s = (start e.before.before).args in
-    c.record_of.ensures ∙ by_kind s.at s.from.now e.if3.left f.if4.false
+    c.record_of.ensures ∙ by_kind s.at s.from.now e.if-from-at-ne82.left f.if-from-at-ne71.false
 
-pub record-at-spec : {M : Type 1} → statement M
-record-at-spec =
+pub record_at_spec : {M : Type 1} → statement M
+record_at_spec =
     tie.close
     (tie.spec
     returns

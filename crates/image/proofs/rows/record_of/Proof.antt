@@ -11,35 +11,35 @@ use Rattle.image.proofs.Loading.KindLaws.{no_kind, kind-count, no-record-of, sho
 use Rattle.image.proofs.rows.record_of.Statement.{statement}
 use Rattle.image.proofs.rows.record_of.Tie as tie
 
-abbrev start : tie.After-known-told → tie.Start
+abbrev start : tie.In-Is → tie.Start
 start c = c.before.before.before.before
 
 -- the count that was answered
-answered : (c : tie.After-known-told) → some c.before.n.given.0.0 ≡ kind_words (start c).args.kind
+answered : (c : tie.In-Is) → some c.before.n.given.0.0 ≡ kind_words (start c).args.kind
 answered c = sym (ap words_told c.before.n.given.1) ∙ c.before.before.before.word_count.ensures
 
-few : (c : tie.After-known-told) → c.before.n.given.0.0 ≤ 22
+few : (c : tie.In-Is) → c.before.n.given.0.0 ≤ 22
 few c = omega (arith, count-few (start c).args.kind, (kind-count (start c).args.kind _ (answered c)).1)
 
-returns : tie.Need-returns
+returns : tie.Need-returns-then-len-at
 returns c =
     let s = start c.before in
-    short-record s.args.kind s.args.at s.args.len _ (kind-count s.args.kind _ (answered c.before)).1 (omega (arith, c.if1.true, s.pre))
+    short-record s.args.kind s.args.at s.args.len _ (kind-count s.args.kind _ (answered c.before)).1 (omega (arith, c.if-len-at.true, s.pre))
 
-returns-2 : tie.Need-returns-2
+returns-2 : tie.Need-returns-in-NoKind
 returns-2 c =
     let w = c.before.before in
     let s = w.before in
     no-record-of s.args.kind s.args.at s.args.len (no_kind s.args.kind (sym (ap words_told c.enum_told.given.1) ∙ w.word_count.ensures))
 
-returns-3 : tie.Need-returns-3
+returns-3 : tie.Need-returns-else-len-at
 returns-3 c =
     let s = start c.before in
     let k = kind-count s.args.kind _ (answered c.before) in
-    whole-record s.args.kind s.args.at s.args.len _ k.0 k.1 (omega (arith, c.if1.false, s.pre))
+    whole-record s.args.kind s.args.at s.args.len _ k.0 k.1 (omega (arith, c.if-len-at.false, s.pre))
 
-pub record-of-spec : {M : Type 1} → statement M
-record-of-spec =
+pub record_of_spec : {M : Type 1} → statement M
+record_of_spec =
     tie.close
     (tie.spec
     (λ c κs. search rules)
@@ -49,6 +49,6 @@ record-of-spec =
     (λ c. omega (arith, few c))
     (λ c. omega (arith, (start c).requires))
     returns
-    (λ c. omega (arith, c.if1.false, (start c.before).requires))
+    (λ c. omega (arith, c.if-len-at.false, (start c.before).requires))
     returns-2
     returns-3)

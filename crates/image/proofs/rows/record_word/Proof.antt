@@ -12,7 +12,7 @@ use Rattle.image.proofs.rows.record_word.Tie as tie
 returns : tie.Need-returns
 returns c =
     let s = c.before.before.args in
-    c.word-at.ensures ∙ ap (λ (l : List ℕ). number (take 8 l)) (sym (drop-drop (3 + 8 * s.i) s.at s.from.now))
+    c.word_at.ensures ∙ ap (λ (l : List ℕ). number (take 8 l)) (sym (drop-drop (3 + 8 * s.i) s.at s.from.now))
 
-pub record-word-spec : {M : Type 1} → statement M
-record-word-spec = tie.close (tie.spec (λ c. omega arith) (λ c. omega arith) (λ c. omega arith) (λ c κs. omega arith) returns)
+pub record_word_spec : {M : Type 1} → statement M
+record_word_spec = tie.close (tie.spec (λ c. omega arith) (λ c. omega arith) (λ c. omega arith) (λ c κs. omega arith) returns)

@@ -7,17 +7,17 @@ use Rattle.image.proofs.Loading.KindLaws.{no_kind, kind-count}
 use Rattle.image.proofs.rows.words_of.Statement.{statement}
 use Rattle.image.proofs.rows.words_of.Tie as tie
 
-returns : tie.Need-returns
+returns : tie.Need-returns-in-NoKind
 returns c =
     let w = c.before.before in
     let s = w.before in
     contradiction (sym s.requires ∙ no_kind s.args.kind (sym (ap words_told c.enum_told.given.1) ∙ w.word_count.ensures))
 
-returns-2 : tie.Need-returns-2
+returns-2 : tie.Need-returns-in-Is
 returns-2 c =
     let n = c.before in
     let w = n.before.before in
     (kind-count w.before.args.kind _ (sym (ap words_told n.n.given.1) ∙ w.word_count.ensures)).1
 
-pub words-of-spec : {M : Type 1} → statement M
-words-of-spec = tie.close (tie.spec (λ c κs. search rules) (λ c. search rules) (λ c. search rules) returns returns-2)
+pub words_of_spec : {M : Type 1} → statement M
+words_of_spec = tie.close (tie.spec (λ c κs. search rules) (λ c. search rules) (λ c. search rules) returns returns-2)

@@ -4,18 +4,18 @@ use borrow.Author.Rules.{rules}
 use Rattle.inspect.proofs.bignum.first_digit.Statement.{statement}
 use Rattle.inspect.proofs.bignum.first_digit.Tie as tie
 
-abbrev invariant-loop : tie.invariant-loop
-invariant-loop n from k₀ k = k ≤ max from 774
+abbrev invariant-loop-k : tie.invariant-loop-k
+invariant-loop-k n from k₀ k = k ≤ max from 774
 
-abbrev decreases-loop : tie.decreases-loop
-decreases-loop n from k₀ k = 774 - k
+abbrev decreases-loop-k : tie.decreases-loop-k
+decreases-loop-k n from k₀ k = 774 - k
 
-pub first-digit-spec : {M : Type 1} → statement M
-first-digit-spec =
+pub first_digit_spec : {M : Type 1} → statement M
+first_digit_spec =
     tie.close
     (tie.spec
-    invariant-loop
-    decreases-loop
+    invariant-loop-k
+    decreases-loop-k
     (λ c. search rules)
     (λ c κs. search rules)
     (λ c. search rules)

@@ -15,30 +15,30 @@ at_most m k h = pow-le-pow_right (lit< tt) h
 ten-times : (k : ℕ) → 10 ^ (k + 1) ≡ 10 ^ k * 10
 ten-times k = rw (add-one k) (pow-suc 10 k)
 
-abbrev invariant-loop : tie.invariant-loop
-invariant-loop n from word₀ k₀ word k = (k ≤ 19) × (word < 10 ^ k)
+abbrev invariant-loop-k : tie.invariant-loop-k
+invariant-loop-k n from word₀ k₀ word k = (k ≤ 19) × (word < 10 ^ k)
 
-abbrev decreases-loop : tie.decreases-loop
-decreases-loop n from word₀ k₀ word k = 19 - k
+abbrev decreases-loop-k : tie.decreases-loop-k
+decreases-loop-k n from word₀ k₀ word k = 19 - k
 
-mul-word : tie.Need-overflow-mul-word invariant-loop decreases-loop
-mul-word c = omega (arith, at_most 18 c.before.loop.k (omega arith))
+mul-word : tie.Need-overflow_mul-word invariant-loop-k decreases-loop-k
+mul-word c = omega (arith, at_most 18 c.before.loop-k.k (omega arith))
 
-add-word : tie.Need-overflow-add-word invariant-loop decreases-loop
-add-word c = omega (arith, at_most 18 c.before.before.loop.k (omega arith))
+add-word : tie.Need-overflow_add-word invariant-loop-k decreases-loop-k
+add-word c = omega (arith, at_most 18 c.before.before.loop-k.k (omega arith))
 
-loop-again : tie.Need-loop-preserved invariant-loop decreases-loop
-loop-again c = (search rules, omega (arith, ten-times c.before.before.loop.k))
+loop-again : tie.Need-loop-k-preserved invariant-loop-k decreases-loop-k
+loop-again c = (search rules, omega (arith, ten-times c.before.before.loop-k.k))
 
-returns : tie.Need-returns invariant-loop decreases-loop
-returns c = omega (arith, at_most 19 c.before.before.loop.k (omega arith))
+returns : tie.Need-returns invariant-loop-k decreases-loop-k
+returns c = omega (arith, at_most 19 c.before.before.loop-k.k (omega arith))
 
-pub head-of-spec : {M : Type 1} → statement M
-head-of-spec =
+pub head_of_spec : {M : Type 1} → statement M
+head_of_spec =
     tie.close
     (tie.spec
-    invariant-loop
-    decreases-loop
+    invariant-loop-k
+    decreases-loop-k
     (λ c. search rules)
     mul-word
     (λ c. search rules)

@@ -8,17 +8,17 @@ use Rattle.inspect.proofs.bignum.product.Tie as tie
 at_most : (x f : ℕ) → x < 2 ^ 32 → f < 1000000000 → x * f ≤ 4294967295 * 999999999
 at_most x f p q = mul-le-mul {n₂ = 4294967295} {m₂ = 999999999} (omega arith) (omega arith)
 
-mul-result : tie.Need-overflow-mul-result
+mul-result : tie.Need-overflow_mul-result
 mul-result c = let p : c.args.x < 2 ^ 32 = omega arith in omega (arith, at_most _ _ p c.requires)
 
-add-result : tie.Need-overflow-add-result
+add-result : tie.Need-overflow_add-result
 add-result c = let p : c.args.x < 2 ^ 32 = omega arith in omega (arith, at_most _ _ p c.requires)
 
 returns : tie.Need-returns
 returns c = let p : c.args.x < 2 ^ 32 = omega arith in omega (arith, at_most _ _ p c.requires)
 
-pub product-spec : {M : Type 1} → statement M
-product-spec =
+pub product_spec : {M : Type 1} → statement M
+product_spec =
     tie.close
     (tie.spec
     mul-result

@@ -4,18 +4,18 @@ use borrow.Author.Rules.{rules}
 use Rattle.inspect.proofs.bignum.times.Statement.{statement}
 use Rattle.inspect.proofs.bignum.times.Tie as tie
 
-abbrev invariant-loop : tie.invariant-loop
-invariant-loop n₀ factor carry₀ i₀ n carry i = i ≤ 86
+abbrev invariant-loop-i : tie.invariant-loop-i
+invariant-loop-i n₀ factor carry₀ i₀ n carry i = i ≤ 86
 
-abbrev decreases-loop : tie.decreases-loop
-decreases-loop n₀ factor carry₀ i₀ n carry i = 86 - i
+abbrev decreases-loop-i : tie.decreases-loop-i
+decreases-loop-i n₀ factor carry₀ i₀ n carry i = 86 - i
 
-pub times-spec : {M : Type 1} → statement M
-times-spec =
+pub times_spec : {M : Type 1} → statement M
+times_spec =
     tie.close
     (tie.spec
-    invariant-loop
-    decreases-loop
+    invariant-loop-i
+    decreases-loop-i
     (λ c. search rules)
     (λ c. search rules)
     (λ c. search rules)

@@ -4,18 +4,18 @@ use borrow.Author.Rules.{rules}
 use Rattle.inspect.proofs.bignum.times_power.Statement.{statement}
 use Rattle.inspect.proofs.bignum.times_power.Tie as tie
 
-abbrev invariant-loop : tie.invariant-loop
-invariant-loop n₀ base twelve power left₀ n left = left ≤ power
+abbrev invariant-loop-left : tie.invariant-loop-left
+invariant-loop-left n₀ base twelve power left₀ n left = left ≤ power
 
-abbrev decreases-loop : tie.decreases-loop
-decreases-loop n₀ base twelve power left₀ n left = left
+abbrev decreases-loop-left : tie.decreases-loop-left
+decreases-loop-left n₀ base twelve power left₀ n left = left
 
-pub times-power-spec : {M : Type 1} → statement M
-times-power-spec =
+pub times_power_spec : {M : Type 1} → statement M
+times_power_spec =
     tie.close
     (tie.spec
-    invariant-loop
-    decreases-loop
+    invariant-loop-left
+    decreases-loop-left
     (λ c. search rules)
     (λ c κs. search rules)
     (λ c. search rules)

@@ -5,11 +5,11 @@ use borrow.Author.Rules.{rules}
 use Rattle.inspect.proofs.decimal.put_first.Statement.{statement}
 use Rattle.inspect.proofs.decimal.put_first.Tie as tie
 
-slice-aggregate-put : tie.Need-slice-aggregate-put
-slice-aggregate-put c = sym (length-take-le _ _ c.before.before.if1.false)
+slice-aggregate-put : tie.Need-slice_bounds-put-end
+slice-aggregate-put c = sym (length-take-le _ _ c.before.before.if-s-count.false)
 
-pub put-first-spec : {M : Type 1} → statement M
-put-first-spec =
+pub put_first_spec : {M : Type 1} → statement M
+put_first_spec =
     tie.close
     (tie.spec
     (λ c. search rules)

@@ -6,11 +6,11 @@ use borrow.Author.Rules.{rules}
 use Rattle.inspect.proofs.decimal.put_pointed.Statement.{statement}
 use Rattle.inspect.proofs.decimal.put_pointed.Tie as tie
 
-slice-aggregate-put : tie.Need-slice-aggregate-put
-slice-aggregate-put c = sym (length-take-le _ _ (le_of_lt c.before.before.if1.false))
+slice-aggregate-put : tie.Need-slice_bounds-put-end
+slice-aggregate-put c = sym (length-take-le _ _ (le_of_lt c.before.before.if-digits-whole.false))
 
-pub put-pointed-spec : {M : Type 1} → statement M
-put-pointed-spec =
+pub put_pointed_spec : {M : Type 1} → statement M
+put_pointed_spec =
     tie.close
     (tie.spec
     (λ c κs. search rules)

@@ -7,14 +7,14 @@ use borrow.Author.Rules.{rules}
 use Rattle.inspect.proofs.decimal.put_text.Statement.{statement}
 use Rattle.inspect.proofs.decimal.put_text.Tie as tie
 
-slice-aggregate-digits : tie.Need-slice-aggregate-digits
+slice-aggregate-digits : tie.Need-slice_bounds-digits-end
 slice-aggregate-digits c = simp length-take (omega arith)
 
-slice-aggregate-put-digits : tie.Need-slice-aggregate-put-digits
-slice-aggregate-put-digits c = sym (length-take-le _ _ c.before.before.without-zeros.ensures)
+slice-aggregate-put-digits : tie.Need-slice_bounds-put_digits-end
+slice-aggregate-put-digits c = sym (length-take-le _ _ c.before.before.without_zeros-kept.ensures)
 
-pub put-text-spec : {M : Type 1} → statement M
-put-text-spec =
+pub put_text_spec : {M : Type 1} → statement M
+put_text_spec =
     tie.close
     (tie.spec
     slice-aggregate-digits

@@ -4,11 +4,11 @@ use borrow.Author.Rules.{rules}
 use Rattle.inspect.proofs.decimal.rounded.Statement.{statement}
 use Rattle.inspect.proofs.decimal.rounded.Tie as tie
 
-sub-below : tie.Need-overflow-sub-below
+sub-below : tie.Need-overflow_sub-below
 sub-below c = mod-le _ _
 
-pub rounded-spec : {M : Type 1} → statement M
-rounded-spec =
+pub rounded_spec : {M : Type 1} → statement M
+rounded_spec =
     tie.close
     (tie.spec
     (λ c. search rules)

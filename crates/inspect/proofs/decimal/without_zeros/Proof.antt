@@ -5,18 +5,18 @@ use borrow.Author.Rules.{rules}
 use Rattle.inspect.proofs.decimal.without_zeros.Statement.{statement}
 use Rattle.inspect.proofs.decimal.without_zeros.Tie as tie
 
-abbrev invariant-loop : tie.invariant-loop
-invariant-loop text n₀ n = n ≤ length text
+abbrev invariant-loop-n : tie.invariant-loop-n
+invariant-loop-n text n₀ n = n ≤ length text
 
-abbrev decreases-loop : tie.decreases-loop
-decreases-loop text n₀ n = n
+abbrev decreases-loop-n : tie.decreases-loop-n
+decreases-loop-n text n₀ n = n
 
-pub without-zeros-spec : {M : Type 1} → statement M
-without-zeros-spec =
+pub without_zeros_spec : {M : Type 1} → statement M
+without_zeros_spec =
     tie.close
     (tie.spec
-    invariant-loop
-    decreases-loop
+    invariant-loop-n
+    decreases-loop-n
     (λ c. search rules)
     (λ c. search rules)
     (λ c. search rules)

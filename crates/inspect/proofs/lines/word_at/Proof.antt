@@ -5,18 +5,18 @@ use borrow.Author.Rules.{rules}
 use Rattle.inspect.proofs.lines.word_at.Statement.{statement}
 use Rattle.inspect.proofs.lines.word_at.Tie as tie
 
-abbrev invariant-loop : tie.invariant-loop
-invariant-loop «record» at w₀ k₀ w k = (k ≤ 8) × (at + 8 ≤ length «record»)
+abbrev invariant-loop-k : tie.invariant-loop-k
+invariant-loop-k «record» at w₀ k₀ w k = (k ≤ 8) × (at + 8 ≤ length «record»)
 
-abbrev decreases-loop : tie.decreases-loop
-decreases-loop «record» at w₀ k₀ w k = k
+abbrev decreases-loop-k : tie.decreases-loop-k
+decreases-loop-k «record» at w₀ k₀ w k = k
 
-pub word-at-spec : {M : Type 1} → statement M
-word-at-spec =
+pub word_at_spec : {M : Type 1} → statement M
+word_at_spec =
     tie.close
     (tie.spec
-    invariant-loop
-    decreases-loop
+    invariant-loop-k
+    decreases-loop-k
     (λ c. search rules)
     (λ c. search rules)
     (λ c. search rules)

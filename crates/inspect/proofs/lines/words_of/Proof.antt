@@ -4,18 +4,18 @@ use borrow.Author.Rules.{rules}
 use Rattle.inspect.proofs.lines.words_of.Statement.{statement}
 use Rattle.inspect.proofs.lines.words_of.Tie as tie
 
-abbrev invariant-loop : tie.invariant-loop
-invariant-loop «record» w₀ j₀ w j = j ≤ 22
+abbrev invariant-loop-j : tie.invariant-loop-j
+invariant-loop-j «record» w₀ j₀ w j = j ≤ 22
 
-abbrev decreases-loop : tie.decreases-loop
-decreases-loop «record» w₀ j₀ w j = 22 - j
+abbrev decreases-loop-j : tie.decreases-loop-j
+decreases-loop-j «record» w₀ j₀ w j = 22 - j
 
-pub words-of-spec : {M : Type 1} → statement M
-words-of-spec =
+pub words_of_spec : {M : Type 1} → statement M
+words_of_spec =
     tie.close
     (tie.spec
-    invariant-loop
-    decreases-loop
+    invariant-loop-j
+    decreases-loop-j
     (λ c. search rules)
     (λ c. search rules)
     (λ c. search rules)

@@ -13,17 +13,17 @@ use Rattle.limiter.proofs.Cap.stored.Tie as tie
 abbrev stored : Cap → Option Float
 stored k = stored_cap (cap_of k)
 
-returns : tie.Need-returns
+returns : tie.Need-returns-then-x
 returns c =
     let k = c.before in
     let s = k.before in
-    cap-kept s.self.given.0.0 k.known-told.given.0.1 c.if1.true ∙ ap stored (sym s.self.given.1)
+    cap-kept s.self.given.0.0 k.known-told.given.0.1 c.if-x.true ∙ ap stored (sym s.self.given.1)
 
-returns-3 : tie.Need-returns-3
+returns-3 : tie.Need-returns-else-x
 returns-3 c =
     let k = c.before in
     let s = k.before in
-    cap-dropped s.self.given.0.0 k.known-told.given.0.1 c.if1.false ∙ ap stored (sym s.self.given.1)
+    cap-dropped s.self.given.0.0 k.known-told.given.0.1 c.if-x.false ∙ ap stored (sym s.self.given.1)
 
-pub stored-spec : {M : Type 1} → statement M
-stored-spec = tie.close (tie.spec (λ c. search rules) (λ c. search rules) returns (λ c. search rules) returns-3)
+pub stored_spec : {M : Type 1} → statement M
+stored_spec = tie.close (tie.spec (λ c. search rules) (λ c. search rules) returns (λ c. search rules) returns-3)

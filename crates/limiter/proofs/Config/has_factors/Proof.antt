@@ -4,11 +4,11 @@ use Rattle.questions.proofs.Tests.{told-no, told-yes, stop, goes}
 use Rattle.limiter.proofs.Config.has_factors.Statement.{statement}
 use Rattle.limiter.proofs.Config.has_factors.Tie as tie
 
-returns : tie.Need-returns
-returns c = stop _ _ (told-no c.before.is-alpha.ensures c.if1.true)
+returns : tie.Need-returns-then-not-is_alpha
+returns c = stop _ _ (told-no c.before.is_alpha.ensures c.if-not-is_alpha.true)
 
-returns-2 : tie.Need-returns-2
-returns-2 c = let e = c.before in goes _ _ _ (told-yes e.before.is-alpha.ensures e.if1.false) c.is-floor-factor.ensures
+returns-2 : tie.Need-returns
+returns-2 c = let e = c.before in goes _ _ _ (told-yes e.before.is_alpha.ensures e.if-not-is_alpha.false) c.is_floor_factor.ensures
 
-pub has-factors-spec : {M : Type 1} → statement M
-has-factors-spec = tie.close (tie.spec (λ c κs. search rules) returns (λ c κs. search rules) returns-2)
+pub has_factors_spec : {M : Type 1} → statement M
+has_factors_spec = tie.close (tie.spec (λ c κs. search rules) returns (λ c κs. search rules) returns-2)

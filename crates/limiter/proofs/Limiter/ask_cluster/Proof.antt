@@ -18,18 +18,18 @@ before s = state_questions s.args.self (tables s.args.keys.now s.args.hot.now s.
 abbrev others : tie.Start → List Question
 others s = cluster_questions s.args.cluster-size
 
-returns : tie.Need-returns
+returns : tie.Need-returns-then-no-ne0
 returns c =
     let o = c.before in
     let s = o.before.before.before.before in
-    first_more (before s) (others s) _ o.ask.ensures c.if1.true
+    first_more (before s) (others s) _ o.ask-no.ensures c.if-no-ne0.true
 
-returns-2 : tie.Need-returns-2
+returns-2 : tie.Need-returns
 returns-2 c =
     let o = c.before.before in
     let s = o.before.before.before.before in
-    c.ask-cluster.ensures
-    ∙ first_rest (before s) (others s) (passed_none (before s) _ (lit< tt, (lit< tt, tt)) o.ask.ensures c.before.if1.false)
+    c.ask_cluster.ensures
+    ∙ first_rest (before s) (others s) (passed_none (before s) _ (lit< tt, (lit< tt, tt)) o.ask-no.ensures c.before.if-no-ne0.false)
 
-pub ask-cluster-spec : {M : Type 1} → statement M
-ask-cluster-spec = tie.close (tie.spec (λ c κs. search rules) returns (λ c κs. search rules) returns-2)
+pub ask_cluster_spec : {M : Type 1} → statement M
+ask_cluster_spec = tie.close (tie.spec (λ c κs. search rules) returns (λ c κs. search rules) returns-2)

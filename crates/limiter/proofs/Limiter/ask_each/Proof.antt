@@ -26,15 +26,15 @@ before s =
 abbrev last : tie.Start → List Question
 last s = (16 asks leb (3 * s.args.count) (length s.args.out.now)) ∷ []
 
-abbrev start : tie.Else1 → tie.Start
+abbrev start : tie.Else-not-fits → tie.Start
 start e = e.before.before.before.before.before.before.before
 
 -- the list is long enough
-long : (e : tie.Else1) → let s = start e in fits (length s.args.list.now) 2 s.args.count ≡ true
-long e = told-yes e.before.fits2.ensures e.if1.false
+long : (e : tie.Else-not-fits) → let s = start e in fits (length s.args.list.now) 2 s.args.count ≡ true
+long e = told-yes e.before.fits-2.ensures e.if-not-fits.false
 
 -- question 16 where the others pass
-rest : (e : tie.Else2) {m : ℕ} → let s = start e.before.before in
+rest : (e : tie.Else-no-ne0) {m : ℕ} → let s = start e.before.before in
     m ≡ first_no (last s)
     → m ≡ first_no
     (each_asked s.args.self (tables s.args.keys.now s.args.hot.now s.args.shadows.now) s.args.list.now s.args.count
@@ -43,25 +43,25 @@ rest e h =
     let s = start e.before.before in
     first-yes 1 _ (long e.before.before)
     (h ∙ first_rest (before s) (last s)
-    (passed_none (before s) _ (lit< tt, (lit< tt, (lit< tt, tt))) e.before.ask-cluster.ensures e.if2.false))
+    (passed_none (before s) _ (lit< tt, (lit< tt, (lit< tt, tt))) e.before.ask_cluster-no.ensures e.if-no-ne0.false))
 
-returns : tie.Need-returns
-returns c = first-no 1 _ (told-no c.before.fits2.ensures c.if1.true)
+returns : tie.Need-returns-then-not-fits
+returns c = first-no 1 _ (told-no c.before.fits-2.ensures c.if-not-fits.true)
 
-returns-2 : tie.Need-returns-2
+returns-2 : tie.Need-returns-then-no-ne0
 returns-2 c =
     let e = c.before.before in
     let s = start e in
-    first-yes 1 _ (long e) (first_more (before s) (last s) _ c.before.ask-cluster.ensures c.if2.true)
+    first-yes 1 _ (long e) (first_more (before s) (last s) _ c.before.ask_cluster-no.ensures c.if-no-ne0.true)
 
-returns-3 : tie.Need-returns-3
-returns-3 c = rest c.before.before (first-no 16 _ (sym (each-room _ _) ∙ told-no c.before.fits3.ensures c.if3.true))
+returns-3 : tie.Need-returns-then-not-fits-2
+returns-3 c = rest c.before.before (first-no 16 _ (sym (each-room _ _) ∙ told-no c.before.fits3.ensures c.if-not-fits-2.true))
 
-returns-4 : tie.Need-returns-4
-returns-4 c = rest c.before.before (first-yes 16 _ (sym (each-room _ _) ∙ told-yes c.before.fits3.ensures c.if3.false) first-none)
+returns-4 : tie.Need-returns
+returns-4 c = rest c.before.before (first-yes 16 _ (sym (each-room _ _) ∙ told-yes c.before.fits3.ensures c.if-not-fits-2.false) first-none)
 
-pub ask-each-spec : {M : Type 1} → statement M
-ask-each-spec =
+pub ask_each_spec : {M : Type 1} → statement M
+ask_each_spec =
     tie.close
     (tie.spec
     (λ c κs. search rules)

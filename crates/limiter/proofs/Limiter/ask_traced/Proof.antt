@@ -20,36 +20,36 @@ before s = state_questions s.args.self (tables s.args.keys.now s.args.hot.now s.
 abbrev others : tie.Start → Option Limit → List Question
 others s shadow = both_limit_questions s.args.limit shadow ++ cluster_questions s.args.cluster-size
 
-abbrev start : tie.Else1 → tie.Start
+abbrev start : tie.Else-no-ne0 → tie.Start
 start e = e.before.before.before.before.before
 
 -- the others where questions 1 and 2 pass
-rest : (e : tie.Else1) (shadow : Option Limit) → let s = start e in first_no (others s shadow) ≡ first_no (before s ++ others s shadow)
+rest : (e : tie.Else-no-ne0) (shadow : Option Limit) → let s = start e in first_no (others s shadow) ≡ first_no (before s ++ others s shadow)
 rest e shadow = let s = start e in
-    first_rest (before s) (others s shadow) (passed_none (before s) _ (lit< tt, (lit< tt, tt)) e.before.ask.ensures e.if1.false)
+    first_rest (before s) (others s shadow) (passed_none (before s) _ (lit< tt, (lit< tt, tt)) e.before.ask-no.ensures e.if-no-ne0.false)
 
-returns : tie.Need-returns
+returns : tie.Need-returns-then-no-ne0
 returns c =
     let s = c.before.before.before.before.before in
-    first_more (before s) (others s (shadow_limit s.args.shadow)) _ c.before.ask.ensures c.if1.true
+    first_more (before s) (others s (shadow_limit s.args.shadow)) _ c.before.ask-no.ensures c.if-no-ne0.true
 
-returns-2 : tie.Need-returns-2
+returns-2 : tie.Need-returns-in-Unset
 returns-2 c =
     let t = c.before in
     let e = t.before.before in
     let s = start e in
-    c.ask-limit.ensures ∙ rest e none ∙ sym (ap (λ (x : Option Limit). first_no (before s ++ others s x)) (ap shadow_limit t.enum_told.given.1))
+    c.ask_limit.ensures ∙ rest e none ∙ sym (ap (λ (x : Option Limit). first_no (before s ++ others s x)) (ap shadow_limit t.enum_told.given.1))
 
-returns-3 : tie.Need-returns-3
+returns-3 : tie.Need-returns-in-Of
 returns-3 c =
     let t = c.before.before in
     let e = t.before.before in
     let s = start e in
-    c.ask-limits.ensures ∙ rest e (some t.shadow.given.0.0)
+    c.ask_limits.ensures ∙ rest e (some t.shadow.given.0.0)
     ∙ sym (ap (λ (x : Option Limit). first_no (before s ++ others s x)) (ap shadow_limit t.shadow.given.1))
 
-pub ask-traced-spec : {M : Type 1} → statement M
-ask-traced-spec =
+pub ask_traced_spec : {M : Type 1} → statement M
+ask_traced_spec =
     tie.close
     (tie.spec
     (λ c κs. search rules)

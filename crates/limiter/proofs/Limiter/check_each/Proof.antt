@@ -9,35 +9,35 @@ use Rattle.limiter.proofs.Limiter.check_each.Tie as tie
 abbrev lent : tie.Start → LimiterTables
 lent s = tables s.args.keys.now s.args.hot.now s.args.shadows.now
 
-abbrev start : tie.Else1 → tie.Start
+abbrev start : tie.Else-no-ne0 → tie.Start
 start e = e.before.before.before.before.before.before.before.before.before
 
-asked : (e : tie.Else1)
+asked : (e : tie.Else-no-ne0)
     → let s = start e in Asked s.args.self (lent s) s.args.list.now s.args.count s.args.cluster-size s.args.out.now
 asked e =
     let s = start e in
     asked-passed s.args.self (lent s) s.args.list.now s.args.count s.args.cluster-size s.args.out.now _
-    e.before.ask-each.ensures e.if1.false
+    e.before.ask_each-no.ensures e.if-no-ne0.false
 
-returns : tie.Need-returns
+returns : tie.Need-returns-then-no-ne0
 returns c =
     let s = c.before.before.before.before.before.before.before.before.before in
     each-refused s.args.self (lent s) s.args.list.now s.args.count s.args.cluster-size s.args.out.now _
-    c.before.ask-each.ensures c.if1.true
+    c.before.ask_each-no.ensures c.if-no-ne0.true
 
-check-pairs-requires : tie.Need-check-pairs-requires
+check-pairs-requires : tie.Need-check_pairs-requires
 check-pairs-requires c κs = (asked c.before.before).ready
 
-returns-2 : tie.Need-returns-2
+returns-2 : tie.Need-returns
 returns-2 c =
     let k = c.before.before.before.before in
     let e = k.before.before.before in
     let s = start e in
     each_lifted s.args.self (lent s) s.args.list.now s.args.count s.args.cluster-size s.args.out.now (asked e)
-    k.check-pairs.result _ _ k.check-pairs.ensures
+    k.check_pairs.result _ _ k.check_pairs.ensures
 
-pub check-each-spec : {M : Type 1} → statement M
-check-each-spec =
+pub check_each_spec : {M : Type 1} → statement M
+check_each_spec =
     tie.close
     (tie.spec
     (λ c κs. search rules)

@@ -18,26 +18,26 @@ use Rattle.limiter.proofs.Limiter.check_in_traced.Tie as tie
 abbrev lent : tie.Start → LimiterTables
 lent s = tables s.args.keys.now s.args.hot.now s.args.shadows.now
 
-abbrev start : tie.Else1 → tie.Start
+abbrev start : tie.Else-no-ne0 → tie.Start
 start e = e.before.before.before.before.before.before.before
 
 -- the questions before those of the key are passed
 abbrev PassedWith : tie.Start → Option Limit → Type 0
 PassedWith s shadow = Passed s.args.self (lent s) (both_limit_questions s.args.limit shadow ++ cluster_questions s.args.cluster-size)
 
-asked : (e : tie.Else1) → let s = start e in PassedWith s (shadow_limit s.args.shadow)
+asked : (e : tie.Else-no-ne0) → let s = start e in PassedWith s (shadow_limit s.args.shadow)
 asked e =
     let s = start e in
     traced-passed s.args.self (lent s) s.args.key s.args.limit s.args.reading s.args.cluster-size
-    (shadow_limit s.args.shadow) _ e.before.ask-traced.ensures e.if1.false
+    (shadow_limit s.args.shadow) _ e.before.ask_traced-no.ensures e.if-no-ne0.false
 
-returns : tie.Need-returns
+returns : tie.Need-returns-then-no-ne0
 returns c =
     let s = c.before.before.before.before.before.before.before in
     traced-refused s.args.self (lent s) s.args.key s.args.limit s.args.reading s.args.cluster-size
-    (shadow_limit s.args.shadow) _ c.before.ask-traced.ensures c.if1.true
+    (shadow_limit s.args.shadow) _ c.before.ask_traced-no.ensures c.if-no-ne0.true
 
-trace-none-requires : tie.Need-trace-none-requires
+trace-none-requires : tie.Need-trace_none-requires
 trace-none-requires c κs =
     let m = c.before.before in
     let e = m.before.before in
@@ -47,7 +47,7 @@ trace-none-requires c κs =
       (shadows-ready s.args.self (lent s) p.room p.ok, burst-passed s.args.limit s.args.cluster-size p.rest),
     )
 
-trace-with-requires : tie.Need-trace-with-requires
+trace-with-requires : tie.Need-trace_with-requires
 trace-with-requires c κs =
     let m = c.before.before.before in
     let e = m.before.before in
@@ -71,26 +71,26 @@ trace-with-requires c κs =
       ),
     )
 
-returns-2 : tie.Need-returns-2
+returns-2 : tie.Need-returns-in-Unset
 returns-2 c =
     let o = c.before.before.before.before in
     let m = o.before.before.before in
     let e = m.before.before in
     let s = start e in
     traced-done s.args.self (lent s) s.args.key s.args.limit s.args.reading s.args.cluster-size (shadow_limit s.args.shadow) _
-    (ap shadow_limit m.enum_told.given.1) (asked e) o.trace-none.result _ _ o.trace-none.ensures
+    (ap shadow_limit m.enum_told.given.1) (asked e) o.trace_none.result _ _ o.trace_none.ensures
 
-returns-3 : tie.Need-returns-3
+returns-3 : tie.Need-returns-in-Of
 returns-3 c =
     let o = c.before.before.before.before in
     let m = o.before.before.before.before in
     let e = m.before.before in
     let s = start e in
     traced-done s.args.self (lent s) s.args.key s.args.limit s.args.reading s.args.cluster-size (shadow_limit s.args.shadow) _
-    (ap shadow_limit m.shadow.given.1) (asked e) o.trace-with.result _ _ o.trace-with.ensures
+    (ap shadow_limit m.shadow.given.1) (asked e) o.trace_with.result _ _ o.trace_with.ensures
 
-pub check-in-traced-spec : {M : Type 1} → statement M
-check-in-traced-spec =
+pub check_in_traced_spec : {M : Type 1} → statement M
+check_in_traced_spec =
     tie.close
     (tie.spec
     (λ c κs. search rules)

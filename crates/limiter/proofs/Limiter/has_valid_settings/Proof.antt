@@ -10,7 +10,7 @@ use Rattle.limiter.proofs.Limiter.has_valid_settings.Tie as tie
 -- what the types say
 widths : (s : tie.Start) → Widths s.args.self
 widths s =
-    let config = s.well-formed.0.1.1.0.1.1 in
+    let config = s.well_formed.0.1.1.0.1.1 in
     record {
       rate = config.0.1.1.0.1;
       burst = config.0.1.1.1.0.1;
@@ -21,46 +21,46 @@ widths s =
       most = config.1.1.1.1.1.0.1;
       constant = config.1.1.1.1.1.1.0.1;
       size = config.1.1.1.1.1.1.1.0.1;
-      cap = cap-words s.args.self.cap _ s.well-formed.0.1.1.1.0;
-      tick = tick-words s.args.self.last_tick _ s.well-formed.0.1.1.1.1.0;
+      cap = cap-words s.args.self.cap _ s.well_formed.0.1.1.1.0;
+      tick = tick-words s.args.self.last_tick _ s.well_formed.0.1.1.1.1.0;
     }
 
-abbrev start : tie.Else1 → tie.Start
+abbrev start : tie.Else-not-is_valid → tie.Start
 start e = e.before.before.before.before
 
-returns : tie.Need-returns
+returns : tie.Need-returns-then-not-is_valid
 returns c =
     let s = c.before.before.before.before in
-    stop _ _ (told-no c.before.is-valid.ensures c.if1.true) ∙ settings-are s.args.self (widths s)
+    stop _ _ (told-no c.before.is_valid.ensures c.if-not-is_valid.true) ∙ settings-are s.args.self (widths s)
 
-returns-2 : tie.Need-returns-2
+returns-2 : tie.Need-returns-then-not-is_alpha
 returns-2 c =
     let e = c.before.before in
-    goes _ _ false (told-yes e.before.is-valid.ensures e.if1.false) (stop _ _ (told-no c.before.is-alpha.ensures c.if2.true)) ∙ settings-are (start e).args.self (widths (start e))
+    goes _ _ false (told-yes e.before.is_valid.ensures e.if-not-is_valid.false) (stop _ _ (told-no c.before.is_alpha.ensures c.if-not-is_alpha.true)) ∙ settings-are (start e).args.self (widths (start e))
 
-returns-3 : tie.Need-returns-3
+returns-3 : tie.Need-returns-then-not-is_floor_factor
 returns-3 c =
     let f = c.before.before in
     let e = f.before.before in
-    goes _ _ false (told-yes e.before.is-valid.ensures e.if1.false) (goes _ _ false (told-yes f.before.is-alpha.ensures f.if2.false) (stop _ _ (told-no c.before.is-floor-factor.ensures c.if3.true))) ∙ settings-are (start e).args.self (widths (start e))
+    goes _ _ false (told-yes e.before.is_valid.ensures e.if-not-is_valid.false) (goes _ _ false (told-yes f.before.is_alpha.ensures f.if-not-is_alpha.false) (stop _ _ (told-no c.before.is_floor_factor.ensures c.if-not-is_floor_factor.true))) ∙ settings-are (start e).args.self (widths (start e))
 
-returns-4 : tie.Need-returns-4
+returns-4 : tie.Need-returns-then-not-has_sizes
 returns-4 c =
     let g = c.before.before in
     let f = g.before.before in
     let e = f.before.before in
-    goes _ _ false (told-yes e.before.is-valid.ensures e.if1.false) (goes _ _ false (told-yes f.before.is-alpha.ensures f.if2.false) (goes _ _ false (told-yes g.before.is-floor-factor.ensures g.if3.false) (stop _ _ (told-no c.before.has-sizes.ensures c.if4.true)))) ∙ settings-are (start e).args.self (widths (start e))
+    goes _ _ false (told-yes e.before.is_valid.ensures e.if-not-is_valid.false) (goes _ _ false (told-yes f.before.is_alpha.ensures f.if-not-is_alpha.false) (goes _ _ false (told-yes g.before.is_floor_factor.ensures g.if-not-is_floor_factor.false) (stop _ _ (told-no c.before.has_sizes.ensures c.if-not-has_sizes.true)))) ∙ settings-are (start e).args.self (widths (start e))
 
-returns-5 : tie.Need-returns-5
+returns-5 : tie.Need-returns
 returns-5 c =
     let h = c.before in
     let g = h.before.before in
     let f = g.before.before in
     let e = f.before.before in
-    goes _ _ _ (told-yes e.before.is-valid.ensures e.if1.false) (goes _ _ _ (told-yes f.before.is-alpha.ensures f.if2.false) (goes _ _ _ (told-yes g.before.is-floor-factor.ensures g.if3.false) (goes _ _ _ (told-yes h.before.has-sizes.ensures h.if4.false) c.is-valid2.ensures))) ∙ settings-are (start e).args.self (widths (start e))
+    goes _ _ _ (told-yes e.before.is_valid.ensures e.if-not-is_valid.false) (goes _ _ _ (told-yes f.before.is_alpha.ensures f.if-not-is_alpha.false) (goes _ _ _ (told-yes g.before.is_floor_factor.ensures g.if-not-is_floor_factor.false) (goes _ _ _ (told-yes h.before.has_sizes.ensures h.if-not-has_sizes.false) c.is_valid-2.ensures))) ∙ settings-are (start e).args.self (widths (start e))
 
-pub has-valid-settings-spec : {M : Type 1} → statement M
-has-valid-settings-spec =
+pub has_valid_settings_spec : {M : Type 1} → statement M
+has_valid_settings_spec =
     tie.close
     (tie.spec
     (λ c κs. search rules)

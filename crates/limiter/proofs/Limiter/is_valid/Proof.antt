@@ -17,74 +17,74 @@ use Rattle.limiter.proofs.States.StateValidLaws.{units-of-accepted}
 abbrev words : tie.Start → LimiterTables
 words s = tables s.args.keys.now s.args.hot.now s.args.shadows.now
 
-scanned : (c : tie.After-shared-slice-known3) → let s = c.before.before.before in is_scanned (units_in s.args.self) s.args.self (words s) ≡ is_valid (units_in s.args.self) s.args.self (words s)
+scanned : (c : tie.After-shared_slice_known-3-1) → let s = c.before.before.before in is_scanned (units_in s.args.self) s.args.self (words s) ≡ is_valid (units_in s.args.self) s.args.self (words s)
 scanned c =
     let s = c.before.before.before in
     scanned-is-valid (units_in s.args.self) (units-of-accepted (settings_of s.args.self)) s.args.self (words s) s.requires
-    (all_words s.args.keys.now (λ i. omega (arith, c.before.before.shared-slice-known.given i)))
-    (all_words s.args.hot.now (λ i. omega (arith, c.before.shared-slice-known2.given i)))
-    (all_words s.args.shadows.now (λ i. omega (arith, c.shared-slice-known3.given i)))
+    (all_words s.args.keys.now (λ i. omega (arith, c.before.before.shared_slice_known-1.given i)))
+    (all_words s.args.hot.now (λ i. omega (arith, c.before.shared_slice_known-2-1.given i)))
+    (all_words s.args.shadows.now (λ i. omega (arith, c.shared_slice_known-3-1.given i)))
 
-abbrev start : tie.Else1 → tie.Start
+abbrev start : tie.Else-not-has_valid_settings → tie.Start
 start e = e.before.before.before.before.before
 
 -- the settings are valid, so the room is that of the sizes
-sized : (e : tie.Else1) → valid_settings (settings_of (start e).args.self) ≡ true
-sized e = told-yes e.before.has-valid-settings.ensures e.if1.false
+sized : (e : tie.Else-not-has_valid_settings) → valid_settings (settings_of (start e).args.self) ≡ true
+sized e = told-yes e.before.has_valid_settings.ensures e.if-not-has_valid_settings.false
 
-roomy : (e : tie.Else1) → Roomy (start e).args.self.config (words (start e))
+roomy : (e : tie.Else-not-has_valid_settings) → Roomy (start e).args.self.config (words (start e))
 roomy e = room_says (start e).args.self (words (start e)) (start e).requires (sized e)
 
-returns : tie.Need-returns
+returns : tie.Need-returns-then-not-has_valid_settings
 unfolding is_scanned
-returns c = stop _ _ (told-no c.before.has-valid-settings.ensures c.if1.true) ∙ scanned c.before.before
+returns c = stop _ _ (told-no c.before.has_valid_settings.ensures c.if-not-has_valid_settings.true) ∙ scanned c.before.before
 
-are-keys-requires : tie.Need-are-keys-requires
+are-keys-requires : tie.Need-are_keys-requires
 are-keys-requires c κs = (roomy c.before).keys
 
-returns-2 : tie.Need-returns-2
+returns-2 : tie.Need-returns-then-not-are_keys
 unfolding is_scanned units_for
 returns-2 c =
     let e = c.before.before.before in
-    goes _ _ false (sized e) (stop _ _ (told-no c.before.are-keys.ensures c.if2.true)) ∙ scanned e.before.before
+    goes _ _ false (sized e) (stop _ _ (told-no c.before.are_keys.ensures c.if-not-are_keys.true)) ∙ scanned e.before.before
 
 -- the keys are valid, so the others can be looked up in them
-abbrev before-keys : tie.Else2 → tie.Else1
+abbrev before-keys : tie.Else-not-are_keys → tie.Else-not-has_valid_settings
 before-keys f = f.before.before.before
 
-passed : (f : tie.Else2) → let s = (start (before-keys f)).args in are_keys (units_in s.self) s.self.config.table_size (records 22 s.self.keys s.keys.now) ≡ true
+passed : (f : tie.Else-not-are_keys) → let s = (start (before-keys f)).args in are_keys (units_in s.self) s.self.config.table_size (records 22 s.self.keys s.keys.now) ≡ true
 unfolding units_for
-passed f = told-yes f.before.are-keys.ensures f.if2.false
+passed f = told-yes f.before.are_keys.ensures f.if-not-are_keys.false
 
-ready : (f : tie.Else2) → let s = (start (before-keys f)).args in KeysReady s.self.keys s.keys.now
+ready : (f : tie.Else-not-are_keys) → let s = (start (before-keys f)).args in KeysReady s.self.keys s.keys.now
 ready f =
     let e = before-keys f in
     let s = (start e).args in
     keys-ready (units_in s.self) s.self.config.table_size s.self.keys s.keys.now (roomy e).keys (passed f)
 
-are-hot-requires : tie.Need-are-hot-requires
+are-hot-requires : tie.Need-are_hot-requires
 are-hot-requires c κs = (ready c, (roomy (before-keys c)).hot)
 
-returns-3 : tie.Need-returns-3
+returns-3 : tie.Need-returns-then-not-are_hot
 unfolding is_scanned
 returns-3 c =
     let f = c.before.before in
     let e = before-keys f in
-    goes _ _ false (sized e) (goes _ _ false (passed f) (stop _ _ (told-no c.before.are-hot.ensures c.if3.true))) ∙ scanned e.before.before
+    goes _ _ false (sized e) (goes _ _ false (passed f) (stop _ _ (told-no c.before.are_hot.ensures c.if-not-are_hot.true))) ∙ scanned e.before.before
 
-are-shadows-requires : tie.Need-are-shadows-requires
+are-shadows-requires : tie.Need-are_shadows-requires
 are-shadows-requires c κs = let f = c.before.before in (ready f, (roomy (before-keys f)).shadows)
 
-returns-4 : tie.Need-returns-4
+returns-4 : tie.Need-returns
 unfolding is_scanned units_for
 returns-4 c =
     let g = c.before in
     let f = g.before.before in
     let e = before-keys f in
-    goes _ _ _ (sized e) (goes _ _ _ (passed f) (goes _ _ _ (told-yes g.before.are-hot.ensures g.if3.false) c.are-shadows.ensures)) ∙ scanned e.before.before
+    goes _ _ _ (sized e) (goes _ _ _ (passed f) (goes _ _ _ (told-yes g.before.are_hot.ensures g.if-not-are_hot.false) c.are_shadows.ensures)) ∙ scanned e.before.before
 
-pub is-valid-spec : {M : Type 1} → statement M
-is-valid-spec =
+pub is_valid_spec : {M : Type 1} → statement M
+is_valid_spec =
     tie.close
     (tie.spec
     (λ c κs. search rules)

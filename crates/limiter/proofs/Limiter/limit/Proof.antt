@@ -14,33 +14,33 @@ use Rattle.limiter.proofs.Limiter.limit.Tie as tie
 abbrev lent : tie.Start → LimiterTables
 lent s = tables s.args.keys.now s.args.hot.now s.args.shadows.now
 
-abbrev start : tie.After-ask → tie.Start
+abbrev start : tie.After-ask-no → tie.Start
 start o = o.before.before.before.before
 
 -- questions 1 and 2 are passed
-asked : (e : tie.Else1) → let s = start e.before in Passed s.args.self (lent s) []
-asked e = let s = start e.before in past s.args.self (lent s) _ e.before.ask.ensures e.if1.false
+asked : (e : tie.Else-no-ne0) → let s = start e.before in Passed s.args.self (lent s) []
+asked e = let s = start e.before in past s.args.self (lent s) _ e.before.ask-no.ensures e.if-no-ne0.false
 
-returns : tie.Need-returns
-returns c = let s = start c.before in answer-no _ (state_questions s.args.self (lent s)) _ c.before.ask.ensures c.if1.true
+returns : tie.Need-returns-then-no-ne0
+returns c = let s = start c.before in answer-no _ (state_questions s.args.self (lent s)) _ c.before.ask-no.ensures c.if-no-ne0.true
 
-find-key-requires : tie.Need-find-key-requires
+find-key-requires : tie.Need-find_key-requires
 find-key-requires c κs = let s = start c.before in let p = asked c in ready s.args.self (lent s) p.room p.ok
 
-returns-2 : tie.Need-returns-2
+returns-2 : tie.Need-returns-in-Untracked
 returns-2 c =
     let f = c.before.before in
     let s = start f.before.before in
-    tells-untracked s.args.self (lent s) (asked f.before) s.args.key _ f.find-key.ensures (λ (k : KeyRecord). k.limit) c.enum_told.given.1
+    tells-untracked s.args.self (lent s) (asked f.before) s.args.key _ f.find_key.ensures (λ (k : KeyRecord). k.limit) c.enum_told.given.1
 
-returns-3 : tie.Need-returns-3
+returns-3 : tie.Need-returns-in-Is
 returns-3 c =
     let x = c.before.before in
     let f = x.before.before in
     let s = start f.before.before in
-    tells-key s.args.self (lent s) (asked f.before) s.args.key _ f.find-key.ensures (λ (k : KeyRecord). k.limit) _ x.state.given.1 _ refl
+    tells-key s.args.self (lent s) (asked f.before) s.args.key _ f.find_key.ensures (λ (k : KeyRecord). k.limit) _ x.state.given.1 _ refl
 
-pub limit-spec : {M : Type 1} → statement M
-limit-spec =
+pub limit_spec : {M : Type 1} → statement M
+limit_spec =
     tie.close
     (tie.spec (λ c κs. search rules) returns find-key-requires (λ c. search rules) (λ c. search rules) returns-2 returns-3)

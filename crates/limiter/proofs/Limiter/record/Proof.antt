@@ -12,33 +12,33 @@ use Rattle.limiter.proofs.Limiter.record.Tie as tie
 abbrev lent : tie.Start → LimiterTables
 lent s = tables s.args.keys.now s.args.hot.now s.args.shadows.now
 
-abbrev start : tie.Else1 → tie.Start
+abbrev start : tie.Else-no-ne0 → tie.Start
 start e = e.before.before.before.before.before.before
 
-asked : (e : tie.Else1) → let s = start e in Passed s.args.self (lent s) (limit_asked s.args.limit s.args.cluster-size)
-asked e = let s = start e in limit-passed s.args.self (lent s) s.args.limit s.args.cluster-size _ e.before.ask-limit.ensures e.if1.false
+asked : (e : tie.Else-no-ne0) → let s = start e in Passed s.args.self (lent s) (limit_asked s.args.limit s.args.cluster-size)
+asked e = let s = start e in limit-passed s.args.self (lent s) s.args.limit s.args.cluster-size _ e.before.ask_limit-no.ensures e.if-no-ne0.false
 
-returns : tie.Need-returns
+returns : tie.Need-returns-then-no-ne0
 returns c =
     let s = c.before.before.before.before.before.before in
     let x = here s.args.self (lent s) in
     refused-before (tt) s.args.self (lent s) (state_questions s.args.self (lent s) ++ limit_asked s.args.limit s.args.cluster-size)
     (key_questions x (tallied_key s.args.tally (entry (units_in s.args.self) x s.args.key s.args.limit s.args.reading s.args.cluster-size)))
-    (record_tally (units_in s.args.self) x s.args.key s.args.tally s.args.limit s.args.reading s.args.cluster-size) _ c.before.ask-limit.ensures
-    c.if1.true
+    (record_tally (units_in s.args.self) x s.args.key s.args.tally s.args.limit s.args.reading s.args.cluster-size) _ c.before.ask_limit-no.ensures
+    c.if-no-ne0.true
 
-record-key-requires : tie.Need-record-key-requires
+record-key-requires : tie.Need-record_key-requires
 unfolding state_of
 record-key-requires c κs = let s = start c.before in limit-ready s.args.self (lent s) s.args.limit s.args.cluster-size (asked c.before)
 
-returns-2 : tie.Need-returns-2
+returns-2 : tie.Need-returns
 unfolding state_of
 returns-2 c =
     let k = c.before.before in
     let e = k.before.before in
     let s = start e in
     records-lifted s.args.self (lent s) _ (asked e) s.args.key s.args.limit s.args.reading s.args.cluster-size _
-    s.args.tally k.record-key.result k.record-key.ensures
+    s.args.tally k.record_key.result k.record_key.ensures
 
-pub record-spec : {M : Type 1} → statement M
-record-spec = tie.close (tie.spec (λ c κs. search rules) (λ c. search rules) returns record-key-requires (λ c. search rules) returns-2)
+pub record_spec : {M : Type 1} → statement M
+record_spec = tie.close (tie.spec (λ c κs. search rules) (λ c. search rules) returns record-key-requires (λ c. search rules) returns-2)

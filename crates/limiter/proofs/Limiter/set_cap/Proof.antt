@@ -14,21 +14,21 @@ use Rattle.limiter.proofs.Limiter.set_cap.Tie as tie
 abbrev lent : tie.Start → LimiterTables
 lent s = tables s.args.keys.now s.args.hot.now s.args.shadows.now
 
-abbrev start : tie.After-ask → tie.Start
+abbrev start : tie.After-ask-no → tie.Start
 start o = o.before.before.before.before
 
 -- questions 1 and 2 are passed
-asked : (e : tie.Else1) → let s = start e.before in Passed s.args.self (lent s) []
-asked e = let s = start e.before in past s.args.self (lent s) _ e.before.ask.ensures e.if1.false
+asked : (e : tie.Else-no-ne0) → let s = start e.before in Passed s.args.self (lent s) []
+asked e = let s = start e.before in past s.args.self (lent s) _ e.before.ask-no.ensures e.if-no-ne0.false
 
-returns : tie.Need-returns
+returns : tie.Need-returns-then-no-ne0
 returns c =
     let o = c.before in
     let s = start o in
     let qs = state_questions s.args.self (lent s) in
-    record { answered = answer-no _ qs _ o.ask.ensures c.if1.true; limiter = kept-no _ _ qs _ o.ask.ensures c.if1.true }
+    record { answered = answer-no _ qs _ o.ask-no.ensures c.if-no-ne0.true; limiter = kept-no _ _ qs _ o.ask-no.ensures c.if-no-ne0.true }
 
-returns-2 : tie.Need-returns-2
+returns-2 : tie.Need-returns
 returns-2 c =
     let e = c.before.before in
     let s = start e.before in
@@ -36,8 +36,8 @@ returns-2 c =
     let p = asked e in
     record {
       answered = answer-passed _ qs p.all;
-      limiter = c.with-cap.ensures ∙ cap-set s.args.self (lent s) p s.args.cap _ c.before.stored.ensures ∙ changed-passed _ _ qs p.all;
+      limiter = c.with_cap.ensures ∙ cap-set s.args.self (lent s) p s.args.cap _ c.before.stored.ensures ∙ changed-passed _ _ qs p.all;
     }
 
-pub set-cap-spec : {M : Type 1} → statement M
-set-cap-spec = tie.close (tie.spec (λ c κs. search rules) returns (λ c κs. search rules) (λ c κs. search rules) returns-2)
+pub set_cap_spec : {M : Type 1} → statement M
+set_cap_spec = tie.close (tie.spec (λ c κs. search rules) returns (λ c κs. search rules) (λ c κs. search rules) returns-2)

@@ -28,31 +28,31 @@ asks s = state_questions s.args.self (lent s) ++ cluster_questions s.args.cluste
 abbrev after : tie.Start → LimiterState
 after s = tick (parameters_of (settings_of s.args.self)) (units_in s.args.self) s.args.reading s.args.cluster-size (here s.args.self (lent s))
 
-abbrev start : tie.After-ask-cluster → tie.Start
+abbrev start : tie.After-ask_cluster-no → tie.Start
 start c = c.before.before.before.before.before.before.before
 
-returns : tie.Need-returns
+returns : tie.Need-returns-then-no-ne0
 returns c =
     let k = c.before in
     let s = start k in
-    ticking-no (asks s) (after s) s.args.self (lent s) k.ask-cluster.result k.ask-cluster.ensures c.if1.true
+    ticking-no (asks s) (after s) s.args.self (lent s) k.ask_cluster-no.result k.ask_cluster-no.ensures c.if-no-ne0.true
 
-asked : (e : tie.Else1) → let s = start e.before in Passed s.args.self (lent s) (cluster_questions s.args.cluster-size)
+asked : (e : tie.Else-no-ne0) → let s = start e.before in Passed s.args.self (lent s) (cluster_questions s.args.cluster-size)
 asked e =
     let s = start e.before in passed s.args.self (lent s) (cluster_questions s.args.cluster-size) _ (lit< tt, tt)
-    e.before.ask-cluster.ensures e.if1.false
+    e.before.ask_cluster-no.ensures e.if-no-ne0.false
 
-pass-one-requires : tie.Need-pass-one-requires
+pass-one-requires : tie.Need-pass_one-passed-requires
 pass-one-requires c κs =
     let e = c.before.before.before in
     let s = start e.before in
     let p = asked e in
     pass-ready s.args.self (lent s) p.room p.ok _ (omega (arith, few_keys s.args.self (lent s) p.room p.ok))
 
-abbrev began : tie.After-pass-one → tie.Else1
+abbrev began : tie.After-pass_one-passed → tie.Else-no-ne0
 began c = c.before.before.before.before
 
-finish-tick-requires : tie.Need-finish-tick-requires
+finish-tick-requires : tie.Need-finish_tick-limiter-requires
 finish-tick-requires c κs =
     let k = c.before.before.before.before.before.before.before.before.before.before in
     let e = began k in
@@ -60,11 +60,11 @@ finish-tick-requires c κs =
     let p = asked e in
     let l = s.args.self in
     let n = s.args.cluster-size in
-    finishing l (lent s) p.room p.ok (parameters_of (settings_of l)) (no_others n) s.args.reading n k.pass-one.result _ _ _
-    (k.pass-one.ensures (no_others n) (none_elsewhere (units_in l) l.keys s.args.keys.now (few_keys l (lent s) p.room p.ok).0)) _ (omega arith)
+    finishing l (lent s) p.room p.ok (parameters_of (settings_of l)) (no_others n) s.args.reading n k.pass_one-passed.result _ _ _
+    (k.pass_one-passed.ensures (no_others n) (none_elsewhere (units_in l) l.keys s.args.keys.now (few_keys l (lent s) p.room p.ok).0)) _ (omega arith)
     (size-passed n p.rest)
 
-returns-2 : tie.Need-returns-2
+returns-2 : tie.Need-returns
 returns-2 c =
     let d = c.before.before.before.before in
     let k = d.before.before.before.before.before.before.before.before.before.before.before in
@@ -73,13 +73,13 @@ returns-2 c =
     let p = asked e in
     let l = s.args.self in
     let n = s.args.cluster-size in
-    let h = k.pass-one.ensures (no_others n) (none_elsewhere (units_in l) l.keys s.args.keys.now (few_keys l (lent s) p.room p.ok).0) in
-    ticking-done (asks s) (after s) l (lent s) d.finish-tick.result _ p.all
-    (ticked l (lent s) p.room p.ok (parameters_of (settings_of l)) (no_others n) s.args.reading n k.pass-one.result _ _ _ h true _ (even-share l n _ _)
-    d.finish-tick.result _ _ d.finish-tick.ensures)
+    let h = k.pass_one-passed.ensures (no_others n) (none_elsewhere (units_in l) l.keys s.args.keys.now (few_keys l (lent s) p.room p.ok).0) in
+    ticking-done (asks s) (after s) l (lent s) d.finish_tick-limiter.result _ p.all
+    (ticked l (lent s) p.room p.ok (parameters_of (settings_of l)) (no_others n) s.args.reading n k.pass_one-passed.result _ _ _ h true _ (even-share l n _ _)
+    d.finish_tick-limiter.result _ _ d.finish_tick-limiter.ensures)
 
-pub tick-spec : {M : Type 1} → statement M
-tick-spec =
+pub tick_spec : {M : Type 1} → statement M
+tick_spec =
     tie.close
     (tie.spec
     (λ c κs. search rules)

@@ -24,29 +24,29 @@ theirs s = peer-state.tables s.args.peer-table.now s.args.snapshot-keys.now s.ar
 abbrev others : tie.Start → Others
 others s = peers_others (settings_of s.args.self) (peer-state.state_of s.args.peers (theirs s)) s.args.cluster-size
 
-abbrev start : tie.After-shared-slice-known3 → tie.Start
+abbrev start : tie.After-shared_slice_known-3-1 → tie.Start
 start c = c.before.before.before.before.before.before
 
 asked : (s : tie.Start) → BothPassed s.args.self (lent s) s.args.peers (theirs s) s.args.cluster-size
 asked s = both-passed s.args.self (lent s) s.args.peers (theirs s) s.args.cluster-size s.requires
 
-abbrev told : tie.After-hot-elsewhere-of-each → tie.After-shared-slice-known3
+abbrev told : tie.After-hot_elsewhere_of_each → tie.After-shared_slice_known-3-1
 told c = c.before.before.before
 
-pass-one-requires : tie.Need-pass-one-requires
+pass-one-requires : tie.Need-pass_one-passed-requires
 pass-one-requires c κs =
     let e = told c.before.before.before.before in
     let s = start e in
     let p = asked s in
     pass-ready s.args.self (lent s) p.room p.ok _ (omega (arith, few_keys s.args.self (lent s) p.room p.ok))
 
-abbrev began : tie.After-pass-one → tie.After-hot-elsewhere-of-each
+abbrev began : tie.After-pass_one-passed → tie.After-hot_elsewhere_of_each
 began c = c.before.before.before.before.before
 
-abbrev summed : tie.After-total-of-each → tie.After-pass-one
+abbrev summed : tie.After-total_of_each → tie.After-pass_one-passed
 summed c = c.before.before.before.before.before.before.before.before
 
-finish-tick-requires : tie.Need-finish-tick-requires
+finish-tick-requires : tie.Need-finish_tick-requires
 finish-tick-requires c κs =
     let k = summed c.before.before.before.before.before.before in
     let b = began k in
@@ -55,23 +55,23 @@ finish-tick-requires c κs =
     let p = asked s in
     let l = s.args.self in
     let n = s.args.cluster-size in
-    finishing l (lent s) p.room p.ok (parameters_of (settings_of l)) (others s) s.args.reading n k.pass-one.result _ _ _
-    (k.pass-one.ensures (others s)
-    (told-elsewhere s.args.peers (theirs s) p.peers (units_in l) l.keys s.args.keys.now _ _ _ b.hot-elsewhere-of-each.ensures
+    finishing l (lent s) p.room p.ok (parameters_of (settings_of l)) (others s) s.args.reading n k.pass_one-passed.result _ _ _
+    (k.pass_one-passed.ensures (others s)
+    (told-elsewhere s.args.peers (theirs s) p.peers (units_in l) l.keys s.args.keys.now _ _ _ b.hot_elsewhere_of_each.ensures
     (lent-keys l (lent s) p.room p.ok).fit (few_keys l (lent s) p.room p.ok).0))
     _ (omega (arith, c.before.before.before.before.before.totals2.given)) p.size
 
-abbrev ended : tie.After-slice-known7 → tie.After-finish-tick
+abbrev ended : tie.After-slice_known-7-1 → tie.After-finish_tick
 ended c = c.before.before.before.before
 
-abbrev over : tie.After-finish-tick → tie.After-total-of-each
+abbrev over : tie.After-finish_tick → tie.After-total_of_each
 over c = c.before.before.before.before.before.before.before
 
-same_length : tie.Need-same-length
+same_length : tie.Need-shape_of-keys
 same_length c =
     omega (arith, c.before.before.before.keys2.given, (over (ended c)).before.before.before.before.before.before.before.keys.given)
 
-same-length-2 : tie.Need-same-length-2
+same-length-2 : tie.Need-shape_of-hot
 same-length-2 c = omega (arith, (over (ended c)).before.before.before.before.before.hot.given)
 
 returns : tie.Need-returns
@@ -87,18 +87,18 @@ returns c =
     let l = s.args.self in
     let n = s.args.cluster-size in
     let now = s.args.reading in
-    let h = k.pass-one.ensures (others s)
-    (told-elsewhere s.args.peers (theirs s) p.peers (units_in l) l.keys s.args.keys.now _ _ _ b.hot-elsewhere-of-each.ensures
+    let h = k.pass_one-passed.ensures (others s)
+    (told-elsewhere s.args.peers (theirs s) p.peers (units_in l) l.keys s.args.keys.now _ _ _ b.hot_elsewhere_of_each.ensures
     (lent-keys l (lent s) p.room p.ok).fit (few_keys l (lent s) p.room p.ok).0) in
-    let z = few l (lent s) p.room p.ok (parameters_of (settings_of l)) (others s) now n k.pass-one.result _ _ _ h in
-    let t = told-totals s.args.peers (theirs s) p.peers k.pass-one.result.hot _ _ _ _ u.total-of-each.ensures h.hot_lent.fit
+    let z = few l (lent s) p.room p.ok (parameters_of (settings_of l)) (others s) now n k.pass_one-passed.result _ _ _ h in
+    let t = told-totals s.args.peers (theirs s) p.peers k.pass_one-passed.result.hot _ _ _ _ u.total_of_each.ensures h.hot_lent.fit
     z.1 in
     let q = peers-share l (peer-state.state_of s.args.peers (theirs s)) n _ _ (totals-of _ _ _ _ _ h.hot_count h.hot_are t) in
-    ticked l (lent s) p.room p.ok (parameters_of (settings_of l)) (others s) now n k.pass-one.result _ _ _ h false _ q d.finish-tick.result _ _
-    d.finish-tick.ensures
+    ticked l (lent s) p.room p.ok (parameters_of (settings_of l)) (others s) now n k.pass_one-passed.result _ _ _ h false _ q d.finish_tick.result _ _
+    d.finish_tick.ensures
 
-pub tick-asked-spec : {M : Type 1} → statement M
-tick-asked-spec =
+pub tick_asked_spec : {M : Type 1} → statement M
+tick_asked_spec =
     tie.close
     (tie.spec
     (λ c. search rules)

@@ -30,31 +30,31 @@ abbrev after : tie.Start → LimiterState
 after s =
     tick_with_shares (parameters_of (settings_of s.args.self)) (units_in s.args.self) (peer-state.state_of s.args.peers (theirs s)) s.args.reading s.args.cluster-size (here s.args.self (lent s))
 
-abbrev start : tie.After-ask-both → tie.Start
+abbrev start : tie.After-ask_both-no → tie.Start
 start c = c.before.before.before.before.before.before.before.before.before.before
 
-returns : tie.Need-returns
+returns : tie.Need-returns-then-no-ne0
 returns c =
     let k = c.before in
     let s = start k in
-    ticking-no (asks s) (after s) s.args.self (lent s) k.ask-both.result k.ask-both.ensures c.if1.true
+    ticking-no (asks s) (after s) s.args.self (lent s) k.ask_both-no.result k.ask_both-no.ensures c.if-no-ne0.true
 
 -- every question is answered 'yes'
-all_passed : (e : tie.Else1) → passes (asks (start e.before)) ≡ true
-all_passed e = passed_none (asks (start e.before)) _ (lit< tt, (lit< tt, (lit< tt, tt))) e.before.ask-both.ensures e.if1.false
+all_passed : (e : tie.Else-no-ne0) → passes (asks (start e.before)) ≡ true
+all_passed e = passed_none (asks (start e.before)) _ (lit< tt, (lit< tt, (lit< tt, tt))) e.before.ask_both-no.ensures e.if-no-ne0.false
 
-tick-asked-requires : tie.Need-tick-asked-requires
+tick-asked-requires : tie.Need-tick_asked-limiter-requires
 tick-asked-requires c κs = all_passed c.before.before.before
 
-returns-2 : tie.Need-returns-2
+returns-2 : tie.Need-returns
 returns-2 c =
     let a = c.before.before.before.before.before.before in
     let e = a.before.before.before.before in
     let s = start e.before in
-    ticking-done (asks s) (after s) s.args.self (lent s) a.tick-asked.result _ (all_passed e) a.tick-asked.ensures
+    ticking-done (asks s) (after s) s.args.self (lent s) a.tick_asked-limiter.result _ (all_passed e) a.tick_asked-limiter.ensures
 
-pub tick-with-shares-spec : {M : Type 1} → statement M
-tick-with-shares-spec =
+pub tick_with_shares_spec : {M : Type 1} → statement M
+tick_with_shares_spec =
     tie.close
     (tie.spec
     (λ c κs. search rules)

@@ -14,21 +14,21 @@ use Rattle.limiter.proofs.Limiter.tracked_keys.Tie as tie
 abbrev lent : tie.Start → LimiterTables
 lent s = tables s.args.keys.now s.args.hot.now s.args.shadows.now
 
-abbrev start : tie.After-ask → tie.Start
+abbrev start : tie.After-ask-no → tie.Start
 start o = o.before.before.before.before
 
 -- questions 1 and 2 are passed
-asked : (e : tie.Else1) → let s = start e.before in Passed s.args.self (lent s) []
-asked e = let s = start e.before in past s.args.self (lent s) _ e.before.ask.ensures e.if1.false
+asked : (e : tie.Else-no-ne0) → let s = start e.before in Passed s.args.self (lent s) []
+asked e = let s = start e.before in past s.args.self (lent s) _ e.before.ask-no.ensures e.if-no-ne0.false
 
-returns : tie.Need-returns
-returns c = let s = start c.before in answer-no _ (state_questions s.args.self (lent s)) _ c.before.ask.ensures c.if1.true
+returns : tie.Need-returns-then-no-ne0
+returns c = let s = start c.before in answer-no _ (state_questions s.args.self (lent s)) _ c.before.ask-no.ensures c.if-no-ne0.true
 
-returns-2 : tie.Need-returns-2
+returns-2 : tie.Need-returns
 returns-2 c =
     let s = start c.before in
     let p = asked c in
     tells s.args.self (lent s) p _ _ (sym (keys-counted s.args.self (lent s) p.room p.ok))
 
-pub tracked-keys-spec : {M : Type 1} → statement M
-tracked-keys-spec = tie.close (tie.spec (λ c κs. search rules) returns returns-2)
+pub tracked_keys_spec : {M : Type 1} → statement M
+tracked_keys_spec = tie.close (tie.spec (λ c κs. search rules) returns returns-2)

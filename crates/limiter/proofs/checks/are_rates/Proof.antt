@@ -6,16 +6,16 @@ use borrow.Author.Rules.{rules}
 use Rattle.limiter.proofs.checks.are_rates.Statement.{statement}
 use Rattle.limiter.proofs.checks.are_rates.Tie as tie
 
-returns : tie.Need-returns
+returns : tie.Need-returns-then-is_rate
 returns c =
     let t = c.before in
     let s = t.before.before in
-    c.is-rate2.ensures ∙ sym (ap (λ (b : Bool). b && is_rate s.args.y) (sym t.before.is-rate.ensures ∙ t.if1.true))
+    c.is_rate-then-is_rate.ensures ∙ sym (ap (λ (b : Bool). b && is_rate s.args.y) (sym t.before.is_rate.ensures ∙ t.if-is_rate.true))
 
-returns-2 : tie.Need-returns-2
+returns-2 : tie.Need-returns-else-is_rate
 returns-2 c =
     let s = c.before.before in
-    sym (ap (λ (b : Bool). b && is_rate s.args.y) (sym c.before.is-rate.ensures ∙ c.if1.false))
+    sym (ap (λ (b : Bool). b && is_rate s.args.y) (sym c.before.is_rate.ensures ∙ c.if-is_rate.false))
 
-pub are-rates-spec : {M : Type 1} → statement M
-are-rates-spec = tie.close (tie.spec (λ c κs. search rules) (λ c κs. search rules) returns returns-2)
+pub are_rates_spec : {M : Type 1} → statement M
+are_rates_spec = tie.close (tie.spec (λ c κs. search rules) (λ c κs. search rules) returns returns-2)

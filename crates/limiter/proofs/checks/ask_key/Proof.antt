@@ -5,19 +5,19 @@ use borrow.Author.Rules.{rules}
 use Rattle.limiter.proofs.checks.ask_key.Statement.{statement}
 use Rattle.limiter.proofs.checks.ask_key.Tie as tie
 
-returns : tie.Need-returns
-returns c = first-no 8 _ (told-no c.before.has-place.ensures c.if1.true)
+returns : tie.Need-returns-then-not-has_place
+returns c = first-no 8 _ (told-no c.before.has_place.ensures c.if-not-has_place.true)
 
-returns-2 : tie.Need-returns-2
+returns-2 : tie.Need-returns-then-not-has_room
 returns-2 c =
     let p = c.before.before.before in
-    first-yes 8 _ (told-yes p.before.has-place.ensures p.if1.false) (first-no 9 _ (told-no c.before.has_room.ensures c.if2.true))
+    first-yes 8 _ (told-yes p.before.has_place.ensures p.if-not-has_place.false) (first-no 9 _ (told-no c.before.has_room.ensures c.if-not-has_room.true))
 
-returns-3 : tie.Need-returns-3
+returns-3 : tie.Need-returns
 returns-3 c =
     let p = c.before.before.before in
-    first-yes 8 _ (told-yes p.before.has-place.ensures p.if1.false)
-    (first-yes 9 _ (told-yes c.before.has_room.ensures c.if2.false) first-none)
+    first-yes 8 _ (told-yes p.before.has_place.ensures p.if-not-has_place.false)
+    (first-yes 9 _ (told-yes c.before.has_room.ensures c.if-not-has_room.false) first-none)
 
-pub ask-key-spec : {M : Type 1} → statement M
-ask-key-spec = tie.close (tie.spec (λ c κs. search rules) returns (λ c κs. search rules) returns-2 returns-3)
+pub ask_key_spec : {M : Type 1} → statement M
+ask_key_spec = tie.close (tie.spec (λ c κs. search rules) returns (λ c κs. search rules) returns-2 returns-3)

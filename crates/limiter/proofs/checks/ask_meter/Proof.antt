@@ -25,21 +25,21 @@ asked g v = and_intro (valid_quota units g.quota) true v refl
 left : (g : Gcra) (now : ℕ) (r : Checked) → valid_quota units g.quota ≡ true → GcraChecks g now r → r.gcra ≡ check g now
 left g now r v h = h.left ∙ sym (changed-passed (check g now) g (ask_quota g.quota) (asked g v))
 
-returns : tie.Need-returns
+returns : tie.Need-returns-in-Is
 returns c =
     let o = c.before.before.before.before in
     let s = o.before in (
-      given_is (ask_quota s.args.gcra.quota) _ (decision s.args.gcra s.args.reading) o.check.ensures.decided
+      given_is (ask_quota s.args.gcra.quota) _ (decision s.args.gcra s.args.reading) o.check-asked.ensures.decided
           (sym (ap check_answer c.before.answer.given.1)),
-      left _ _ _ s.requires o.check.ensures,
+      left _ _ _ s.requires o.check-asked.ensures,
     )
 
-returns-2 : tie.Need-returns-2
+returns-2 : tie.Need-returns-in-No
 returns-2 c =
     let o = c.before.before.before in
     let s = o.before in
     never-refused (ask_quota s.args.gcra.quota) _ (decision s.args.gcra s.args.reading) (asked s.args.gcra s.requires)
-    o.check.ensures.decided (sym (ap check_answer c.enum_told.given.1))
+    o.check-asked.ensures.decided (sym (ap check_answer c.enum_told.given.1))
 
-pub ask-meter-spec : {M : Type 1} → statement M
-ask-meter-spec = tie.close (tie.spec (λ c κs. search rules) (λ c. search rules) (λ c. search rules) returns returns-2)
+pub ask_meter_spec : {M : Type 1} → statement M
+ask_meter_spec = tie.close (tie.spec (λ c κs. search rules) (λ c. search rules) (λ c. search rules) returns returns-2)

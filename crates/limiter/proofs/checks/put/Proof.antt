@@ -11,7 +11,7 @@ use borrow.Author.Rules.{rules}
 use Rattle.limiter.proofs.checks.put.Statement.{statement}
 use Rattle.limiter.proofs.checks.put.Tie as tie
 
-returns : tie.Need-returns
+returns : tie.Need-returns-then-entry
 unfolding units_for
 returns c =
     let o = c.before.before.before in
@@ -19,10 +19,10 @@ returns c =
     let w = t.before in
     let s = w.before.before.before in
     put-over s.args.limiter s.args.keys.now s.requires.0 (key_record s.args.entry.state) s.args.entry.place
-    (sym (ap (λ (b : Bool). found_as b s.args.entry.place) t.if1.true) ∙ s.requires.1.0)
-    _ _ _ w.words.ensures c.with_keys.ensures o.overwrite.ensures.1
+    (sym (ap (λ (b : Bool). found_as b s.args.entry.place) t.if-entry.true) ∙ s.requires.1.0)
+    _ _ _ w.words-words.ensures c.with_keys.ensures o.overwrite.ensures.1
 
-returns-2 : tie.Need-returns-2
+returns-2 : tie.Need-returns
 unfolding units_for
 returns-2 c =
     let o = c.before.before.before in
@@ -30,10 +30,10 @@ returns-2 c =
     let w = t.before in
     let s = w.before.before.before in
     put_in s.args.limiter s.args.keys.now s.requires.0 (key_record s.args.entry.state) s.args.entry.place
-    (sym (ap (λ (b : Bool). found_as b s.args.entry.place) t.if1.false) ∙ s.requires.1.0)
+    (sym (ap (λ (b : Bool). found_as b s.args.entry.place) t.if-entry.false) ∙ s.requires.1.0)
     (ltb-true _ _
-    (sym (ap (λ (b : Bool). b || ltb s.args.limiter.keys s.args.limiter.config.table_size) t.if1.false) ∙ s.requires.1.1.0))
-    _ _ _ w.words.ensures c.with-keys2.ensures o.insert.ensures.1
+    (sym (ap (λ (b : Bool). b || ltb s.args.limiter.keys s.args.limiter.config.table_size) t.if-entry.false) ∙ s.requires.1.1.0))
+    _ _ _ w.words-words.ensures c.with_keys-2.ensures o.insert.ensures.1
 
 pub put_spec : {M : Type 1} → statement M
 unfolding units_for

@@ -16,23 +16,23 @@ use Rattle.limiter.proofs.checks.raise.Tie as tie
 abbrev after : tie.Start → KeyRecord
 after s = raised s.args.attempts s.args.denials s.args.shadow-denials s.args.gcra (key_record s.args.entry.state)
 
-returns : tie.Need-returns
+returns : tie.Need-returns-then-no-ne0
 returns c =
     let o = c.before in
     let s = o.before.before in
     raises-no s.args.limiter s.args.keys.now (after s) _
-    (o.ask-key.ensures
+    (o.ask_key-no.ensures
     ∙ ap first_no
     (questions-are s.args.limiter s.args.keys.now s.requires.0 s.args.entry s.requires.1.0 s.args.attempts s.args.denials
     s.args.shadow-denials s.args.gcra))
-    c.if1.true
+    c.if-no-ne0.true
 
 raised-requires : tie.Need-raised-requires
 raised-requires c κs =
     let o = c.before.before in
     let s = o.before.before in
-    (place-passed s.args.limiter s.args.entry s.args.attempts s.args.denials s.args.shadow-denials _ o.ask-key.ensures
-    c.before.if1.false).1
+    (place-passed s.args.limiter s.args.entry s.args.attempts s.args.denials s.args.shadow-denials _ o.ask_key-no.ensures
+    c.before.if-no-ne0.false).1
 
 put-requires : tie.Need-put-requires
 put-requires c κs =
@@ -45,13 +45,13 @@ put-requires c κs =
             (sym (ap (λ (k : KeyRecord). k.key) r.raised.ensures)) s.requires.1.0,
         (
           (place-passed s.args.limiter s.args.entry s.args.attempts s.args.denials s.args.shadow-denials _
-              e.before.ask-key.ensures e.if1.false).0,
+              e.before.ask_key-no.ensures e.if-no-ne0.false).0,
           ap (λ (k : KeyRecord). valid_quota (units_in s.args.limiter) k.gcra.quota) r.raised.ensures ∙ s.requires.1.1,
         ),
       ),
     )
 
-returns-2 : tie.Need-returns-2
+returns-2 : tie.Need-returns
 returns-2 c =
     let p = c.before.before in
     let r = p.before.before in
@@ -59,13 +59,13 @@ returns-2 c =
     let o = e.before in
     let s = o.before.before in
     raises-done s.args.limiter s.args.keys.now (after s) _
-    (o.ask-key.ensures
+    (o.ask_key-no.ensures
     ∙ ap first_no
     (questions-are s.args.limiter s.args.keys.now s.requires.0 s.args.entry s.requires.1.0 s.args.attempts s.args.denials
     s.args.shadow-denials s.args.gcra))
-    e.if1.false _ _
+    e.if-no-ne0.false _ _
     (subst (λ (k : KeyRecord). Puts s.args.limiter s.args.keys.now k p.put.result p.put.new.1.0) r.raised.ensures
     p.put.ensures)
 
-pub raise-spec : {M : Type 1} → statement M
-raise-spec = tie.close (tie.spec (λ c κs. search rules) returns raised-requires put-requires (λ c. search rules) returns-2)
+pub raise_spec : {M : Type 1} → statement M
+raise_spec = tie.close (tie.spec (λ c κs. search rules) returns raised-requires put-requires (λ c. search rules) returns-2)

@@ -5,16 +5,16 @@ use borrow.Author.Rules.{rules}
 use Rattle.limiter.proofs.checks.record_key.Statement.{statement}
 use Rattle.limiter.proofs.checks.record_key.Tie as tie
 
-raise-requires : tie.Need-raise-requires
+raise-requires : tie.Need-raise-raised-requires
 raise-requires c κs =
     let o = c.before.before.before in
     let s = o.before.before.before in (
       s.requires.0,
       (
         entry-placed s.args.limiter s.args.keys.now s.requires.0 s.args.key s.args.limit s.args.reading s.args.cluster-size
-            s.requires.1 _ o.entry.ensures,
+            s.requires.1 _ o.entry-found.ensures,
         entry-quota s.args.limiter s.args.keys.now s.requires.0 s.args.key s.args.limit s.args.reading s.args.cluster-size
-            s.requires.1 _ o.entry.ensures,
+            s.requires.1 _ o.entry-found.ensures,
       ),
     )
 
@@ -24,8 +24,8 @@ returns c =
     let o = x.before.before.before.before in
     let s = o.before.before.before in
     record-acts s.args.limiter s.args.keys.now s.requires.0 s.args.key s.args.limit s.args.reading s.args.cluster-size
-    s.requires.1 _ o.entry.ensures
-    s.args.tally _ _ _ _ c.done.ensures refl x.raise.ensures
+    s.requires.1 _ o.entry-found.ensures
+    s.args.tally _ _ _ _ c.done.ensures refl x.raise-raised.ensures
 
-pub record-key-spec : {M : Type 1} → statement M
-record-key-spec = tie.close (tie.spec (λ c κs. search rules) raise-requires (λ c κs. search rules) (λ c. search rules) returns)
+pub record_key_spec : {M : Type 1} → statement M
+record_key_spec = tie.close (tie.spec (λ c κs. search rules) raise-requires (λ c κs. search rules) (λ c. search rules) returns)

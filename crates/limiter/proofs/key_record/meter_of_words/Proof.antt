@@ -5,10 +5,10 @@ use Rattle.limiter.proofs.key_record.meter_of_words.Statement.{statement}
 use Rattle.limiter.proofs.key_record.meter_of_words.Tie as tie
 
 returns : tie.Need-returns
-returns c = rw (meter-at, c.before.before.before.unpacked.ensures, c.tat-of.ensures)
+returns c = rw (meter-at, c.before.before.before.unpacked-quota.ensures, c.tat_of-tat.ensures)
 
-pub meter-of-words-spec : {M : Type 1} → statement M
-meter-of-words-spec =
+pub meter_of_words_spec : {M : Type 1} → statement M
+meter_of_words_spec =
     tie.close
     (tie.spec
     (λ c. search rules)

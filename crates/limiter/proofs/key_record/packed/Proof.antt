@@ -11,14 +11,14 @@ use Rattle.limiter.proofs.key_record.packed.Statement.{statement}
 use Rattle.limiter.proofs.key_record.packed.Tie as tie
 use Rattle.limiter.specs.Steps.KeySteps.{units}
 
-returns : tie.Need-returns
+returns : tie.Need-returns-in-Is
 unfolding quota_pack
 returns c =
     let o = c.before.before.before in
     let q = o.before.args.quota in
     given_is (ask_quota q) _ (pack units q) o.pack.ensures (sym (ap number_answer c.before.word.given.1))
 
-returns-2 : tie.Need-returns-2
+returns-2 : tie.Need-returns-in-No
 unfolding quota_pack passes
 returns-2 c =
     let o = c.before.before in
@@ -26,5 +26,5 @@ returns-2 c =
     never-refused (ask_quota q) _ (pack units q) (and_intro (valid_quota units q) true o.before.requires refl) o.pack.ensures
     (sym (ap number_answer c.enum_told.given.1))
 
-pub packed-spec : {M : Type 1} → statement M
-packed-spec = tie.close (tie.spec (λ c κs. search rules) (λ c. search rules) (λ c. search rules) returns returns-2)
+pub packed_spec : {M : Type 1} → statement M
+packed_spec = tie.close (tie.spec (λ c κs. search rules) (λ c. search rules) (λ c. search rules) returns returns-2)

@@ -7,11 +7,11 @@ use borrow.Author.Rules.{rules}
 use Rattle.limiter.proofs.many_checks.answer_words.Statement.{statement}
 use Rattle.limiter.proofs.many_checks.answer_words.Tie as tie
 
-returns : tie.Need-returns
+returns : tie.Need-returns-in-No
 returns c = sym (ap (λ (a : CheckAnswer). answer_words (check_answer a)) c.before.answer.given.1)
 
-pub answer-words-spec : {M : Type 1} → statement M
-answer-words-spec =
+pub answer_words_spec : {M : Type 1} → statement M
+answer_words_spec =
     tie.close
     (tie.spec
     (λ c. search rules)

@@ -7,19 +7,19 @@ use borrow.Author.Rules.{rules}
 use Rattle.limiter.proofs.many_checks.put_answer.Statement.{statement}
 use Rattle.limiter.proofs.many_checks.put_answer.Tie as tie
 
-slice-write-out-2 : tie.Need-slice-write-out-2
+slice-write-out-2 : tie.Need-bounds-out-at-2
 slice-write-out-2 c = simp length-set (omega arith)
 
-slice-write-out-3 : tie.Need-slice-write-out-3
+slice-write-out-3 : tie.Need-bounds-out-at-3
 slice-write-out-3 c = simp length-set (omega arith)
 
 returns : tie.Need-returns
 returns c =
     let s = c.before.before in
-    put_three (check_answer s.args.answer) _ s.args.out.now s.args.at c.answer-words.ensures s.requires
+    put_three (check_answer s.args.answer) _ s.args.out.now s.args.at c.answer_words-words.ensures s.requires
 
-pub put-answer-spec : {M : Type 1} → statement M
-put-answer-spec =
+pub put_answer_spec : {M : Type 1} → statement M
+put_answer_spec =
     tie.close
     (tie.spec
     (λ c κs. search rules)

@@ -11,11 +11,11 @@ returns c =
     let q = k.before.before.before.before.before in
     let m = q.before.before.before.before in
     let s = m.before.before.before.before.before.before.before in
-    dropped units s.args.silent s.args.reading s.args.n s.args.keys.now s.args.hots.now s.args.flags.now _ k.keep-flagged.result _ _
-    s.requires.1.0 m.mark-busy.ensures q.copy-flagged.ensures k.keep-flagged.ensures
+    dropped units s.args.silent s.args.reading s.args.n s.args.keys.now s.args.hots.now s.args.flags.now _ k.keep_flagged.result _ _
+    s.requires.1.0 m.mark_busy.ensures q.copy_flagged.ensures k.keep_flagged.ensures
 
-pub drop-idle-spec : {M : Type 1} → statement M
-drop-idle-spec =
+pub drop_idle_spec : {M : Type 1} → statement M
+drop_idle_spec =
     tie.close
     (tie.spec
     (λ c. search rules)

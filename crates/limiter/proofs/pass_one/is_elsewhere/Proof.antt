@@ -6,14 +6,14 @@ use Rattle.limiter.specs.Steps.PassOneSteps.{is_demand}
 use Rattle.limiter.proofs.pass_one.is_elsewhere.Statement.{statement}
 use Rattle.limiter.proofs.pass_one.is_elsewhere.Tie as tie
 
-returns : tie.Need-returns
+returns : tie.Need-returns-then-held
 returns c =
     let t = c.before in
     let demand : Bool = is_demand t.before.args.silent t.before.args.rate in
-    c.is-demand.ensures ∙ sym (ap (λ (b : Bool). demand && b) t.if1.true ∙ and-true demand)
+    c.is_demand.ensures ∙ sym (ap (λ (b : Bool). demand && b) t.if-held.true ∙ and-true demand)
 
-returns-2 : tie.Need-returns-2
-returns-2 c = let demand : Bool = is_demand c.before.args.silent c.before.args.rate in sym (ap (λ (b : Bool). demand && b) c.if1.false ∙ and-false demand)
+returns-2 : tie.Need-returns
+returns-2 c = let demand : Bool = is_demand c.before.args.silent c.before.args.rate in sym (ap (λ (b : Bool). demand && b) c.if-held.false ∙ and-false demand)
 
-pub is-elsewhere-spec : {M : Type 1} → statement M
-is-elsewhere-spec = tie.close (tie.spec (λ c κs. search rules) returns returns-2)
+pub is_elsewhere_spec : {M : Type 1} → statement M
+is_elsewhere_spec = tie.close (tie.spec (λ c κs. search rules) returns returns-2)

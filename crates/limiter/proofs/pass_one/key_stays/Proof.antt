@@ -13,47 +13,47 @@ use Rattle.limiter.proofs.pass_one.key_stays.Statement.{statement}
 use Rattle.limiter.proofs.pass_one.key_stays.Tie as tie
 use Rattle.limiter.specs.Steps.KeySteps.{units}
 
-abbrev start : tie.Else1 → tie.Start
+abbrev start : tie.Else-hot → tie.Start
 start c = c.before.before
 
-abbrev cold : tie.After-is-demand → tie.Else1
+abbrev cold : tie.After-is_demand → tie.Else-hot
 cold c = c.before.before.before
 
 long : (s : tie.Start) → length s.args.r.now ≡ 22
 long s = row-long units units-accepted s.args.r.now s.requires
 
-returns-2 : tie.Need-returns-2
+returns-2 : tie.Need-returns-then-is_demand
 returns-2 c =
     let d = c.before in
     let f = d.before in
     let e = cold d in
     let s = start e in
-    stays-demand units s.args.silent s.args.r.now s.args.reading s.args.hot e.if1.left f.from-bits.result f.from-bits.ensures
-    (sym d.is-demand.ensures ∙ c.if2.true)
+    stays-demand units s.args.silent s.args.r.now s.args.reading s.args.hot e.if-hot.left f.from_bits.result f.from_bits.ensures
+    (sym d.is_demand.ensures ∙ c.if-is_demand.true)
 
-returns-3 : tie.Need-returns-3
+returns-3 : tie.Need-returns-then-r-gt0
 returns-3 c =
     let n = c.before.before in
     let d = n.before in
     let f = d.before in
     let e = cold d in
     let s = start e in
-    stays-pending units s.args.silent s.args.r.now s.args.reading s.args.hot e.if1.left f.from-bits.result f.from-bits.ensures
-    (sym d.is-demand.ensures ∙ n.if2.false) c.if3.true
+    stays-pending units s.args.silent s.args.r.now s.args.reading s.args.hot e.if-hot.left f.from_bits.result f.from_bits.ensures
+    (sym d.is_demand.ensures ∙ n.if-is_demand.false) c.if-r-gt0.true
 
 -- the key's words, once its attempts are read
-abbrev at-start : tie.Else3 → tie.Start
+abbrev at-start : tie.Else-r-gt0 → tie.Start
 at-start c = start (cold c.before.before.before)
 
-meter-of-words-requires : tie.Need-meter-of-words-requires
+meter-of-words-requires : tie.Need-meter_of_words-requires
 meter-of-words-requires c κs = let s = at-start c in (omega (arith, long s), word-unpacks units units-accepted s.args.r.now s.pre)
 
-has-debt-requires : tie.Need-has-debt-requires
+has-debt-requires : tie.Need-has_debt-requires
 has-debt-requires c κs =
     let s = at-start c.before in
-    ap (λ (g : Gcra). valid_quota units g.quota) c.meter-of-words.ensures ∙ quota-valid units s.args.r.now s.pre
+    ap (λ (g : Gcra). valid_quota units g.quota) c.meter_of_words.ensures ∙ quota-valid units s.args.r.now s.pre
 
-returns-4 : tie.Need-returns-4
+returns-4 : tie.Need-returns
 returns-4 c =
     let m = c.before in
     let q = m.before in
@@ -62,13 +62,13 @@ returns-4 c =
     let f = d.before in
     let e = cold d in
     let s = start e in
-    stays-debt units s.args.silent s.args.r.now s.args.reading s.args.hot e.if1.left f.from-bits.result f.from-bits.ensures
-    (sym d.is-demand.ensures ∙ n.if2.false)
-    (omega (arith, q.if3.false)) c.has-debt.result
-    (c.has-debt.ensures ∙ ap (λ (g : Gcra). has_debt g s.args.reading) m.meter-of-words.ensures)
+    stays-debt units s.args.silent s.args.r.now s.args.reading s.args.hot e.if-hot.left f.from_bits.result f.from_bits.ensures
+    (sym d.is_demand.ensures ∙ n.if-is_demand.false)
+    (omega (arith, q.if-r-gt0.false)) c.has_debt.result
+    (c.has_debt.ensures ∙ ap (λ (g : Gcra). has_debt g s.args.reading) m.meter_of_words.ensures)
 
-pub key-stays-spec : {M : Type 1} → statement M
-key-stays-spec =
+pub key_stays_spec : {M : Type 1} → statement M
+key_stays_spec =
     tie.close
     (tie.spec
     (λ c. search rules)

@@ -10,33 +10,33 @@ use Rattle.limiter.proofs.pass_one.mark_busy.Statement.{statement}
 use Rattle.limiter.proofs.pass_one.mark_busy.Tie as tie
 use Rattle.limiter.specs.Steps.KeySteps.{units}
 
-abbrev invariant-loop : tie.invariant-loop
-invariant-loop keys n silent reading hots stays₀ i₀ stays i = Busy units silent n keys reading hots stays₀ stays i
+abbrev invariant-loop-i : tie.invariant-loop-i
+invariant-loop-i keys n silent reading hots stays₀ i₀ stays i = Busy units silent n keys reading hots stays₀ stays i
 
-abbrev decreases-loop : tie.decreases-loop
-decreases-loop keys n silent reading hots stays₀ i₀ stays i = n - i
+abbrev decreases-loop-i : tie.decreases-loop-i
+decreases-loop-i keys n silent reading hots stays₀ i₀ stays i = n - i
 
-abbrev start : tie.In-loop invariant-loop decreases-loop → tie.Start invariant-loop decreases-loop
+abbrev start : tie.In-loop-i invariant-loop-i decreases-loop-i → tie.Start invariant-loop-i decreases-loop-i
 start c = c.before.before.before.before.before
 
 -- the record is within the words
-inside : (c : tie.In-loop invariant-loop decreases-loop) → c.before.loop.i * 22 + 22 ≤ length (start c).args.keys.now
-inside c = omega (arith, row 22 (start c).args.n c.before.loop.i c.loop-test.true, (start c).requires.0.fit)
+inside : (c : tie.In-loop-i invariant-loop-i decreases-loop-i) → c.before.loop-i.i * 22 + 22 ≤ length (start c).args.keys.now
+inside c = omega (arith, row 22 (start c).args.n c.before.loop-i.i c.loop-i-test.true, (start c).requires.0.fit)
 
-loop-again : tie.Need-loop-preserved invariant-loop decreases-loop
+loop-again : tie.Need-loop-i-preserved invariant-loop-i decreases-loop-i
 loop-again c =
     let l = c.before.before.before in
     let s = start l in
-    let h = l.loop-test.true in
-    busy-more _ _ _ _ _ _ _ _ _ l.before.loop.invariant s.pre.1 h c.key-stays.result _
-    (lent_is units s.args.n s.args.keys.now l.before.loop.i h) c.key-stays.ensures
+    let h = l.loop-i-test.true in
+    busy-more _ _ _ _ _ _ _ _ _ l.before.loop-i.invariant s.pre.1 h c.key_stays.result _
+    (lent_is units s.args.n s.args.keys.now l.before.loop-i.i h) c.key_stays.ensures
 
-pub mark-busy-spec : {M : Type 1} → statement M
-mark-busy-spec =
+pub mark_busy_spec : {M : Type 1} → statement M
+mark_busy_spec =
     tie.close
     (tie.spec
-    invariant-loop
-    decreases-loop
+    invariant-loop-i
+    decreases-loop-i
     (λ c. fill_none _ _ _ c.before.before.before.requires.2)
     (λ c. omega (arith, inside c))
     (λ c. omega (arith, inside c))
@@ -45,10 +45,10 @@ mark-busy-spec =
     (λ c. omega (arith, inside c))
     (λ c. omega (arith, inside c))
     (λ c. omega (arith, (start c.before.before).pre.1))
-    (λ c κs. let l = c.before.before in lent_again _ _ _ _ l.loop-test.true (start l).requires.0)
-    (λ c. omega (arith, c.before.before.before.before.loop.invariant.fit))
+    (λ c κs. let l = c.before.before in lent_again _ _ _ _ l.loop-i-test.true (start l).requires.0)
+    (λ c. omega (arith, c.before.before.before.before.loop-i.invariant.fit))
     (λ c. omega arith)
     (λ c. omega arith)
     loop-again
-    (λ c. c.before.loop.invariant.long)
-    (λ c. busy-all _ _ _ _ _ _ _ _ _ c.before.loop.invariant c.loop-test.false))
+    (λ c. c.before.loop-i.invariant.long)
+    (λ c. busy-all _ _ _ _ _ _ _ _ _ c.before.loop-i.invariant c.loop-i-test.false))

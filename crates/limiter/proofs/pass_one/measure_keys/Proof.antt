@@ -9,66 +9,66 @@ use Rattle.limiter.proofs.pass_one.measure_keys.Statement.{statement}
 use Rattle.limiter.proofs.pass_one.measure_keys.Tie as tie
 use Rattle.limiter.specs.Steps.KeySteps.{units}
 
-abbrev invariant-loop : tie.invariant-loop
-invariant-loop keys n silent alpha cluster-size elsewhere demands₀ thresholds₀ flags₀ i₀ demands thresholds flags i =
+abbrev invariant-loop-i : tie.invariant-loop-i
+invariant-loop-i keys n silent alpha cluster-size elsewhere demands₀ thresholds₀ flags₀ i₀ demands thresholds flags i =
     Measuring units silent n keys alpha cluster-size elsewhere demands₀ thresholds₀ flags₀ demands thresholds flags i
 
-abbrev decreases-loop : tie.decreases-loop
-decreases-loop keys n silent alpha cluster-size elsewhere demands₀ thresholds₀ flags₀ i₀ demands thresholds flags i = n - i
+abbrev decreases-loop-i : tie.decreases-loop-i
+decreases-loop-i keys n silent alpha cluster-size elsewhere demands₀ thresholds₀ flags₀ i₀ demands thresholds flags i = n - i
 
-loop-holds : tie.Need-loop-init invariant-loop decreases-loop
+loop-holds : tie.Need-loop-i-init invariant-loop-i decreases-loop-i
 loop-holds c =
     let s = c.before.before.before.before.before in
     measure-none _ _ _ _ _ _ _ _ _ _ s.requires.0.1 s.requires.1.0 s.requires.1.1 s.requires.1.2
 
 -- the record is within the words
-inside : (c : tie.In-loop invariant-loop decreases-loop)
-    → c.before.loop.i * 22 + 22 ≤ length c.before.before.before.before.before.before.before.args.keys.now
+inside : (c : tie.In-loop-i invariant-loop-i decreases-loop-i)
+    → c.before.loop-i.i * 22 + 22 ≤ length c.before.before.before.before.before.before.before.args.keys.now
 inside c =
     let s = c.before.before.before.before.before.before.before in
-    omega (arith, row 22 s.args.n c.before.loop.i c.loop-test.true, s.requires.0.0)
+    omega (arith, row 22 s.args.n c.before.loop-i.i c.loop-i-test.true, s.requires.0.0)
 
-abbrev read : tie.After-from-bits invariant-loop decreases-loop → tie.In-loop invariant-loop decreases-loop
+abbrev read : tie.After-from_bits-rate invariant-loop-i decreases-loop-i → tie.In-loop-i invariant-loop-i decreases-loop-i
 read c = c.before.before
 
-abbrev first : tie.After-from-bits2 invariant-loop decreases-loop → tie.After-from-bits invariant-loop decreases-loop
+abbrev first : tie.After-from_bits invariant-loop-i decreases-loop-i → tie.After-from_bits-rate invariant-loop-i decreases-loop-i
 first c = c.before.before
 
-loop-again : tie.Need-loop-preserved invariant-loop decreases-loop
+loop-again : tie.Need-loop-i-preserved invariant-loop-i decreases-loop-i
 loop-again c =
     let x = c.before.before in
     let f = first x in
     let l = read f in
-    measure-more _ _ _ _ _ _ _ _ _ _ _ _ _ _ l.before.loop.inv l.loop-test.taken f.from-bits.result x.from-bits2.result
-    f.from-bits.ensures x.from-bits2.ensures c.is-elsewhere.result c.is-elsewhere.ensures
+    measure-more _ _ _ _ _ _ _ _ _ _ _ _ _ _ l.before.loop-i.inv l.loop-i-test.taken f.from_bits-rate.result x.from_bits.result
+    f.from_bits-rate.ensures x.from_bits.ensures c.is_elsewhere.result c.is_elsewhere.ensures
 
-pub measure-keys-spec : {M : Type 1} → statement M
-measure-keys-spec =
+pub measure_keys_spec : {M : Type 1} → statement M
+measure_keys_spec =
     tie.close
     (tie.spec
-    invariant-loop
-    decreases-loop
+    invariant-loop-i
+    decreases-loop-i
     loop-holds
     (λ c. omega (arith, inside c))
     (λ c. omega (arith, inside c))
     (λ c. omega (arith, inside c))
     (λ c. omega (arith, inside c.before))
     (λ c κs. search rules)
-    (λ c. omega (arith, (read c).before.loop.invariant.demand_rates.fit))
-    (λ c. omega (arith, (read c).before.loop.invariant.demand_rates.fit))
+    (λ c. omega (arith, (read c).before.loop-i.invariant.demand_rates.fit))
+    (λ c. omega (arith, (read c).before.loop-i.invariant.demand_rates.fit))
     (λ c. omega (arith, inside (read c)))
     (λ c. omega (arith, inside (read c)))
     (λ c. omega (arith, inside (read c.before)))
     (λ c κs. search rules)
-    (λ c. omega (arith, (read (first c)).before.loop.inv.cold_rates.fit))
-    (λ c. omega (arith, (read (first c)).before.loop.inv.cold_rates.fit))
-    (λ c. omega (arith, (read (first c.before)).before.loop.inv.told))
+    (λ c. omega (arith, (read (first c)).before.loop-i.inv.cold_rates.fit))
+    (λ c. omega (arith, (read (first c)).before.loop-i.inv.cold_rates.fit))
+    (λ c. omega (arith, (read (first c.before)).before.loop-i.inv.told))
     (λ c κs. search rules)
-    (λ c. omega (arith, (read (first c.before.before)).before.loop.inv.elsewhere_flags.fit))
+    (λ c. omega (arith, (read (first c.before.before)).before.loop-i.inv.elsewhere_flags.fit))
     (λ c. omega arith)
     (λ c. omega arith)
     loop-again
-    (λ c. c.before.loop.invariant.demand_rates.long)
-    (λ c. c.before.loop.invariant.cold_rates.long)
-    (λ c. c.before.loop.invariant.elsewhere_flags.long)
-    (λ c. measure-all _ _ _ _ _ _ _ _ _ _ _ _ _ _ c.before.loop.invariant c.loop-test.false))
+    (λ c. c.before.loop-i.invariant.demand_rates.long)
+    (λ c. c.before.loop-i.invariant.cold_rates.long)
+    (λ c. c.before.loop-i.invariant.elsewhere_flags.long)
+    (λ c. measure-all _ _ _ _ _ _ _ _ _ _ _ _ _ _ c.before.loop-i.invariant c.loop-i-test.false))

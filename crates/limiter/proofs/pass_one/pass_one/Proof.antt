@@ -11,19 +11,19 @@ use Rattle.limiter.proofs.PassOne.PassLaws.{passing-lent, passes}
 use Rattle.limiter.proofs.pass_one.pass_one.Statement.{statement}
 use Rattle.limiter.proofs.pass_one.pass_one.Tie as tie
 
-abbrev given : tie.After-fold-keys → tie.After-parameters-of
+abbrev given : tie.After-fold_keys → tie.After-parameters_of-par
 given c = c.before.before
 
-abbrev start : tie.After-fold-keys → tie.Start
+abbrev start : tie.After-fold_keys → tie.Start
 start c = (given c).before.before.before.before.before
 
-abbrev par : tie.After-fold-keys → Parameters
-par c = (given c).parameters-of.result
+abbrev par : tie.After-fold_keys → Parameters
+par c = (given c).parameters_of-par.result
 
-abbrev folded : tie.After-hots → tie.After-fold-keys
+abbrev folded : tie.After-hots-1 → tie.After-fold_keys
 folded c = c.before.before.before.before.before.before.before
 
-abbrev updated : tie.After-drop-idle-arg2 → tie.After-update-hot
+abbrev updated : tie.After-drop_idle-arg-2-1 → tie.After-update_hot-entries
 updated c = c.before.before.before.before.before.before.before.before
 
 -- the reading is a word
@@ -31,20 +31,20 @@ reads : (s : tie.Start) → is_word s.args.reading ≡ true
 reads s = word_of s.ranges.reading.fits
 
 -- the folded keys stand in the lent table
-held : (c : tie.After-fold-keys) → LentKeys (units_in (start c).args.limiter) (start c).args.limiter.keys c.fold-keys.new.0
+held : (c : tie.After-fold_keys) → LentKeys (units_in (start c).args.limiter) (start c).args.limiter.keys c.fold_keys.new.0
 unfolding units_for
 held c =
     let s = start c in
     passing-lent (par c) s.args.limiter s.args.keys.now s.args.hot.now s.args.elsewhere.now s.args.reading s.args.cluster-size
-    s.pre (reads s) _ c.fold-keys.ensures
+    s.pre (reads s) _ c.fold_keys.ensures
 
-update-hot-requires : tie.Need-update-hot-requires
+update-hot-requires : tie.Need-update_hot-entries-requires
 update-hot-requires c κs =
     let f = folded c in
     let p = (start f).pre in
     ((held f, p.hot_lent, p.few), (p.flags_fit, p.few, p.few))
 
-drop-idle-requires : tie.Need-drop-idle-requires
+drop-idle-requires : tie.Need-drop_idle-left-requires
 unfolding units_for
 drop-idle-requires c κs =
     let f = folded (updated c).before in
@@ -59,12 +59,12 @@ returns c =
     let f = folded u.before in
     let s = start f in
     passes (par f) s.args.limiter s.args.keys.now s.args.hot.now s.args.elsewhere.now s.args.reading
-    s.args.cluster-size s.pre (reads s) _ f.fold-keys.ensures _ (given f).parameters-of.ensures
-    (record { keys = d.drop-idle.result; hot = u.update-hot.result }) _ _ _ _ _ u.update-hot.ensures d.drop-idle.ensures
+    s.args.cluster-size s.pre (reads s) _ f.fold_keys.ensures _ (given f).parameters_of-par.ensures
+    (record { keys = d.drop_idle-left.result; hot = u.update_hot-entries.result }) _ _ _ _ _ u.update_hot-entries.ensures d.drop_idle-left.ensures
 
-pub pass-one-spec : {M : Type 1} → statement M
+pub pass_one_spec : {M : Type 1} → statement M
 unfolding units_for
-pass-one-spec =
+pass_one_spec =
     tie.close
     (tie.spec
     (λ c κs. search rules)

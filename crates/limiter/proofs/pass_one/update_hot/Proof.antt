@@ -6,16 +6,16 @@ use Rattle.limiter.proofs.pass_one.update_hot.Tie as tie
 use mathlib.Core.Path.{refl}
 use Rattle.limiter.specs.State.{units_for, parameters_for}
 
-abbrev measured : tie.After-update-each → tie.After-measure-keys
+abbrev measured : tie.After-update_each → tie.After-measure_keys
 measured c = c.before.before.before.before.before.before.before.before.before.before
 
-abbrev sized : tie.After-measure-keys → tie.After-u64-to-f64
+abbrev sized : tie.After-measure_keys → tie.After-u64_to_f64-size
 sized c = c.before.before.before.before
 
-abbrev start : tie.After-u64-to-f64 → tie.Start
+abbrev start : tie.After-u64_to_f64-size → tie.Start
 start c = c.before.before.before.before.before.before.before
 
-returns : tie.Need-returns
+returns : tie.Need-returns-in-Is
 unfolding parameters_for units_for
 returns c =
     let g = c.before in
@@ -25,10 +25,10 @@ returns c =
     let s = start z in
     let p = s.pre in
     each-done s.args.silent s.args.limiter s.args.reading s.args.cluster-size s.args.keys.now s.args.hot.now s.args.elsewhere.now
-    p.0.0 p.0.1 p.1.0 _ z.u64-to-f64.ensures _ _ _ m.measure-keys.ensures _ p.1.2 _ _ _ u.update-each.ensures _ refl
+    p.0.0 p.0.1 p.1.0 _ z.u64_to_f64-size.ensures _ _ _ m.measure_keys.ensures _ p.1.2 _ _ _ u.update_each.ensures _ refl
     g.left.given.0.0 g.left.given.1
 
-returns-2 : tie.Need-returns-2
+returns-2 : tie.Need-returns-in-No
 unfolding units_for
 returns-2 c =
     let u = c.before.before.before.before.before.before in
@@ -37,11 +37,11 @@ returns-2 c =
     let s = start z in
     let p = s.pre in
     each-never s.args.silent s.args.limiter s.args.reading s.args.cluster-size s.args.keys.now s.args.hot.now s.args.elsewhere.now
-    p.0.0 p.0.1 p.1.0 _ z.u64-to-f64.ensures _ _ _ m.measure-keys.ensures _ p.1.2 _ _ _ u.update-each.ensures _ refl _
+    p.0.0 p.0.1 p.1.0 _ z.u64_to_f64-size.ensures _ _ _ m.measure_keys.ensures _ p.1.2 _ _ _ u.update_each.ensures _ refl _
     c.enum_told.given.1
 
-pub update-hot-spec : {M : Type 1} → statement M
-update-hot-spec =
+pub update_hot_spec : {M : Type 1} → statement M
+update_hot_spec =
     tie.close
     (tie.spec
     (λ c κs. search rules)

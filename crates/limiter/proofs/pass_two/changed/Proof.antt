@@ -8,7 +8,7 @@ returns : tie.Need-returns
 returns c =
     let a = c.before in
     let s = a.before in
-    set-made s.args.meter s.args.quota s.args.reading a.set-quota.result a.set-quota.ensures s.requires.0 s.requires.1
+    set-made s.args.meter s.args.quota s.args.reading a.set_quota-set.result a.set_quota-set.ensures s.requires.0 s.requires.1
 
-pub changed-spec : {M : Type 1} → statement M
-changed-spec = tie.close (tie.spec (λ c κs. search rules) returns)
+pub changed_spec : {M : Type 1} → statement M
+changed_spec = tie.close (tie.spec (λ c κs. search rules) returns)

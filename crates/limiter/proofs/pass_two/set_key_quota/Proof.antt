@@ -12,7 +12,7 @@ returns c =
     let q = c.before.before in
     let k = q.before.before in
     let s = k.before.before.before.before.before in
-    q.set-quota.ensures ∙ ap (λ (x : Float). quota_row units s.args.reading x s.args.r.now) k.key-rate.ensures
+    q.set_quota.ensures ∙ ap (λ (x : Float). quota_row units s.args.reading x s.args.r.now) k.key_rate-rate.ensures
 
-pub set-key-quota-spec : {M : Type 1} → statement M
-set-key-quota-spec = tie.close (tie.spec (λ c κs. search rules) (λ c κs. search rules) (λ c. search rules) returns)
+pub set_key_quota_spec : {M : Type 1} → statement M
+set_key_quota_spec = tie.close (tie.spec (λ c κs. search rules) (λ c κs. search rules) (λ c. search rules) returns)

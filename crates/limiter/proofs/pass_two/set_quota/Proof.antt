@@ -12,29 +12,29 @@ use Rattle.gcra.proofs.Packed.Encoding.{units-accepted}
 long : (s : tie.Start) → length s.args.r.now ≡ 22
 long s = row-long units units-accepted s.args.r.now s.requires
 
-abbrev start : tie.After-quota-for → tie.Start
+abbrev start : tie.After-quota_for-quota → tie.Start
 start c = c.before.before.before
 
-abbrev quota : tie.After-meter-of-words → tie.After-quota-for
+abbrev quota : tie.After-meter_of_words-meter → tie.After-quota_for-quota
 quota c = c.before.before
 
-meter-of-words-requires : tie.Need-meter-of-words-requires
+meter-of-words-requires : tie.Need-meter_of_words-meter-requires
 meter-of-words-requires c κs = let s = start c.before in (omega (arith, long s), word-unpacks units units-accepted s.args.r.now s.pre)
 
 changed-requires : tie.Need-changed-requires
 changed-requires c κs =
     let q = quota c in
     let s = start q in
-    quotas-valid units units-accepted s.args.r.now s.pre s.args.rate s.args.reading q.quota-for.result c.meter-of-words.result
-    q.quota-for.ensures c.meter-of-words.ensures
+    quotas-valid units units-accepted s.args.r.now s.pre s.args.rate s.args.reading q.quota_for-quota.result c.meter_of_words-meter.result
+    q.quota_for-quota.ensures c.meter_of_words-meter.ensures
 
-meter-words-requires : tie.Need-meter-words-requires
+meter-words-requires : tie.Need-meter_words-words-requires
 meter-words-requires c κs =
     let m = c.before in
     let q = quota m in
     let s = start q in
-    next-valid units units-accepted s.args.r.now s.pre s.args.rate s.args.reading q.quota-for.result m.meter-of-words.result
-    q.quota-for.ensures m.meter-of-words.ensures c.changed.result c.changed.ensures
+    next-valid units units-accepted s.args.r.now s.pre s.args.rate s.args.reading q.quota_for-quota.result m.meter_of_words-meter.result
+    q.quota_for-quota.ensures m.meter_of_words-meter.ensures c.changed.result c.changed.ensures
 
 returns : tie.Need-returns
 returns c =
@@ -42,12 +42,12 @@ returns c =
     let m = g.before in
     let q = quota m in
     let s = start q in
-    quota-stored units units-accepted s.args.r.now s.pre s.args.rate s.args.reading q.quota-for.result m.meter-of-words.result
-    q.quota-for.ensures m.meter-of-words.ensures g.changed.result g.changed.ensures
-    c.meter-words.result c.meter-words.ensures
+    quota-stored units units-accepted s.args.r.now s.pre s.args.rate s.args.reading q.quota_for-quota.result m.meter_of_words-meter.result
+    q.quota_for-quota.ensures m.meter_of_words-meter.ensures g.changed.result g.changed.ensures
+    c.meter_words-words.result c.meter_words-words.ensures
 
-pub set-quota-spec : {M : Type 1} → statement M
-set-quota-spec =
+pub set_quota_spec : {M : Type 1} → statement M
+set_quota_spec =
     tie.close
     (tie.spec
     (λ c. omega (arith, long c.before.before))

@@ -17,17 +17,17 @@ use Rattle.limiter.proofs.Walking.RowLaws.{Mapping, map-none, map-long, map-all,
 use Rattle.limiter.proofs.pass_two.set_quotas.Statement.{statement}
 use Rattle.limiter.proofs.pass_two.set_quotas.Tie as tie
 
-abbrev invariant-loop : tie.invariant-loop
-invariant-loop keys₀ n hot h elsewhere totals terms reading i₀ keys i =
+abbrev invariant-loop-i : tie.invariant-loop-i
+invariant-loop-i keys₀ n hot h elsewhere totals terms reading i₀ keys i =
     Mapping 22 n (map (key_words units) (requoted units terms (entries h hot) totals reading elsewhere (key_records units n keys₀))) keys₀ keys i
 
-abbrev decreases-loop : tie.decreases-loop
-decreases-loop keys₀ n hot h elsewhere totals terms reading i₀ keys i = n - i
+abbrev decreases-loop-i : tie.decreases-loop-i
+decreases-loop-i keys₀ n hot h elsewhere totals terms reading i₀ keys i = n - i
 
-abbrev start : tie.At-loop invariant-loop decreases-loop → tie.Start invariant-loop decreases-loop
+abbrev start : tie.At-loop-i invariant-loop-i decreases-loop-i → tie.Start invariant-loop-i decreases-loop-i
 start l = l.before.before.before.before.before
 
-loop-holds : tie.Need-loop-init invariant-loop decreases-loop
+loop-holds : tie.Need-loop-i-init invariant-loop-i decreases-loop-i
 loop-holds c =
     let s = c.before.before.before.before in
     let a = s.args in
@@ -37,39 +37,39 @@ loop-holds c =
 
 -- record i is within the words
 inside :
-    (c : tie.In-loop invariant-loop decreases-loop)
-    → (c.before.loop.i * 22 + 22 ≤ length c.before.loop.keys) × (length c.before.loop.keys ≡ length (start c.before).args.keys.now)
+    (c : tie.In-loop-i invariant-loop-i decreases-loop-i)
+    → (c.before.loop-i.i * 22 + 22 ≤ length c.before.loop-i.keys) × (length c.before.loop-i.keys ≡ length (start c.before).args.keys.now)
 inside c =
-    let k = c.before.loop.invariant in
-    (map-inside _ _ _ _ _ _ k c.loop-test.true, map-long _ _ _ _ _ _ k)
+    let k = c.before.loop-i.invariant in
+    (map-inside _ _ _ _ _ _ k c.loop-i-test.true, map-long _ _ _ _ _ _ k)
 
-set-key-quota-requires : tie.Need-set-key-quota-requires invariant-loop decreases-loop
+set-key-quota-requires : tie.Need-set_key_quota-requires invariant-loop-i decreases-loop-i
 set-key-quota-requires c κs =
     let t = c.before.before in
     let s = start t.before in
-    (lent_key _ _ _ _ _ _ t.before.loop.invariant s.pre.0 t.loop-test.true, s.pre.1, s.pre.3, s.pre.4)
+    (lent_key _ _ _ _ _ _ t.before.loop-i.invariant s.pre.0 t.loop-i-test.true, s.pre.1, s.pre.3, s.pre.4)
 
-loop-again : tie.Need-loop-preserved invariant-loop decreases-loop
+loop-again : tie.Need-loop-i-preserved invariant-loop-i decreases-loop-i
 loop-again c =
     let f = c.before.before in
     let t = f.before.before.before in
     let s = start t.before in
     let a = s.args in
-    let l = t.before.loop in
-    let h = t.loop-test.true in
+    let l = t.before.loop-i in
+    let h = t.loop-i-test.true in
     let es = entries a.h a.hot.now in
     map_next _ _ _ _ _ _ l.invariant h _ _ refl
-    (f.set-key-quota.ensures
+    (f.set_key_quota.ensures
     ∙ ap (λ (r : List ℕ). quota_row units a.reading (rate_by a.terms es a.totals.now (get_or a.elsewhere.now l.i false) (key_of units r)) r)
     (map-here _ _ _ _ _ _ l.invariant h)
     ∙ row_at units a.terms es a.totals.now a.reading a.n a.keys.now a.elsewhere.now s.pre.2 l.i h)
 
-pub set-quotas-spec : {M : Type 1} → statement M
-set-quotas-spec =
+pub set_quotas_spec : {M : Type 1} → statement M
+set_quotas_spec =
     tie.close
     (tie.spec
-    invariant-loop
-    decreases-loop
+    invariant-loop-i
+    decreases-loop-i
     loop-holds
     (λ c. omega (arith, inside c))
     (λ c. omega (arith, inside c))
@@ -82,5 +82,5 @@ set-quotas-spec =
     (λ c. omega arith)
     (λ c. omega arith)
     loop-again
-    (λ c. map-long _ _ _ _ _ _ c.before.loop.invariant)
-    (λ c. map-all _ _ _ _ _ _ c.before.loop.invariant c.loop-test.false))
+    (λ c. map-long _ _ _ _ _ _ c.before.loop-i.invariant)
+    (λ c. map-all _ _ _ _ _ _ c.before.loop-i.invariant c.loop-i-test.false))

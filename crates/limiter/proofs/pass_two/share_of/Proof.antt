@@ -4,22 +4,22 @@ use Rattle.limiter.proofs.PassTwo.RateLaws.{share-given, share-never, share-even
 use Rattle.limiter.proofs.pass_two.share_of.Statement.{statement}
 use Rattle.limiter.proofs.pass_two.share_of.Tie as tie
 
-returns : tie.Need-returns
-returns c = share-even _ _ _ _ c.u64-to-f64.result c.before.if1.true c.u64-to-f64.ensures
+returns : tie.Need-returns-then-terms
+returns c = share-even _ _ _ _ c.u64_to_f64.result c.before.if-terms.true c.u64_to_f64.ensures
 
-returns-2 : tie.Need-returns-2
+returns-2 : tie.Need-returns-in-Is
 returns-2 c =
     let w = c.before in
     let a = w.before.before in
-    share-by _ _ _ _ _ a.before.if1.false (share-given _ a.share.result _ a.share.ensures w.share2.given.1)
+    share-by _ _ _ _ _ a.before.if-terms.false (share-given _ a.share.result _ a.share.ensures w.share.given.1)
 
-returns-3 : tie.Need-returns-3
+returns-3 : tie.Need-returns-in-No
 returns-3 c =
     let a = c.before.before in
     let s = a.before.before in
     absurd (share-never _ a.share.result _ a.share.ensures c.enum_told.given.1 s.requires.0 s.requires.1.floor s.requires.1.size)
 
-pub share-of-spec : {M : Type 1} → statement M
-share-of-spec =
+pub share_of_spec : {M : Type 1} → statement M
+share_of_spec =
     tie.close
     (tie.spec (λ c κs. search rules) returns (λ c κs. search rules) (λ c. search rules) (λ c. search rules) returns-2 returns-3)

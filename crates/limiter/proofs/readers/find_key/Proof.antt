@@ -16,35 +16,35 @@ use Rattle.limiter.proofs.readers.find_key.Tie as tie
 abbrev start : tie.After-find → tie.Start
 start f = f.before.before
 
-found : (c : tie.After-known-told) → let s = start c.before.before.before in At c.before.place.given.0.0 ≡ find_in 22 1 s.args.limiter.keys s.args.key 0 s.args.keys.now
+found : (c : tie.In-At) → let s = start c.before.before.before in At c.before.place.given.0.0 ≡ find_in 22 1 s.args.limiter.keys s.args.key 0 s.args.keys.now
 found c = sym c.before.place.given.1 ∙ c.before.before.before.find.ensures
 
-readable : (c : tie.After-known-told) → Readable (c.before.place.given.0.0 * 22) (start c.before.before.before).args.keys.now
+readable : (c : tie.In-At) → Readable (c.before.place.given.0.0 * 22) (start c.before.before.before).args.keys.now
 readable c =
     let s = start c.before.before.before in
     readable-found s.args.limiter s.args.keys.now s.pre s.args.key c.before.place.given.0.0 (found c)
 
-returns : tie.Need-returns
+returns : tie.Need-returns-in-At
 unfolding units_for
 returns c =
     let k = c.before in
     let s = start k.before.before.before in
     ap some c.of_words.ensures ∙ sym (ap first (those-key s.args.limiter s.args.keys.now s.pre s.args.key _ (found k)))
 
-returns-2 : tie.Need-returns-2
+returns-2 : tie.Need-returns-in-Gap
 returns-2 c =
     let f = c.before.before in
     let s = start f in
     sym (ap first (no_key s.args.limiter s.args.keys.now s.pre s.args.key _ (sym c.enum_told.given.1 ∙ f.find.ensures)))
 
-returns-3 : tie.Need-returns-3
+returns-3 : tie.Need-returns-in-Unfit
 returns-3 c =
     let f = c.before.before in
     let s = start f in
     never-unfit-key s.args.limiter s.args.keys.now s.pre s.args.key (sym c.enum-told2.given.1 ∙ f.find.ensures)
 
-pub find-key-spec : {M : Type 1} → statement M
-find-key-spec =
+pub find_key_spec : {M : Type 1} → statement M
+find_key_spec =
     tie.close
     (tie.spec
     (λ c κs. search rules)

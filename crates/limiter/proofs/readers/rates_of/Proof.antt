@@ -15,13 +15,13 @@ returns c =
     let d = c.before in
     let r = d.before in
     (λ i. record {
-      requests_per_sec = r.unbiased-rate.ensures i;
-      denied_per_sec = d.unbiased-rate2.ensures i;
-      shadow_denied_per_sec = c.unbiased-rate3.ensures i;
+      requests_per_sec = r.unbiased_rate.ensures i;
+      denied_per_sec = d.unbiased_rate-2.ensures i;
+      shadow_denied_per_sec = c.unbiased_rate-3.ensures i;
     })
 
-pub rates-of-spec : {M : Type 1} → statement M
-rates-of-spec =
+pub rates_of_spec : {M : Type 1} → statement M
+rates_of_spec =
     tie.close
     (tie.spec
     (λ c κs. (good c.before.before.before).requests.finite)

@@ -16,17 +16,17 @@ asked s =
       time_constant = s.args.time_constant;
     }
 
-returns : tie.Need-returns
+returns : tie.Need-returns-in-Is
 unfolding unbiased_rate
 returns c =
     let r = c.before in
     let u = r.before.before in
-    rate-given (asked u.before) _ r.rate.given.0.0 u.unbiased-rate.ensures r.rate.given.1
+    rate-given (asked u.before) _ r.rate.given.0.0 u.unbiased_rate.ensures r.rate.given.1
 
-returns-2 : tie.Need-returns-2
+returns-2 : tie.Need-returns-in-No
 returns-2 c =
     let u = c.before.before in
-    absurd (rate-never (asked u.before) _ _ u.unbiased-rate.ensures c.enum_told.given.1 u.before.requires)
+    absurd (rate-never (asked u.before) _ _ u.unbiased_rate.ensures c.enum_told.given.1 u.before.requires)
 
-pub unbiased-rate-spec : {M : Type 1} → statement M
-unbiased-rate-spec = tie.close (tie.spec (λ c κs. search rules) (λ c. search rules) (λ c. search rules) returns returns-2)
+pub unbiased_rate_spec : {M : Type 1} → statement M
+unbiased_rate_spec = tie.close (tie.spec (λ c κs. search rules) (λ c. search rules) (λ c. search rules) returns returns-2)

@@ -13,37 +13,37 @@ use Rattle.limiter.proofs.scan.are_hot.Statement.{statement}
 use Rattle.limiter.proofs.scan.are_hot.Tie as tie
 
 -- what the call tells
-told : (c : tie.After-are-valid) → let s = c.before.before.before.before.args in c.are-valid.result ≡ are_records are_entry_words (records 6 s.n s.t.now)
+told : (c : tie.After-are_valid) → let s = c.before.before.before.before.args in c.are_valid.result ≡ are_records are_entry_words (records 6 s.n s.t.now)
 told c =
     let s = c.before.before.before.before in
-    c.are-valid.ensures
-    ∙ entries-told s.args.n s.args.t.now (omega (arith, c.before.if1.false, s.requires.1))
-    (all_words s.args.t.now (λ i. omega (arith, c.before.before.before.shared-slice-known.given i)))
+    c.are_valid.ensures
+    ∙ entries-told s.args.n s.args.t.now (omega (arith, c.before.if-size-n.false, s.requires.1))
+    (all_words s.args.t.now (λ i. omega (arith, c.before.before.before.shared_slice_known-1.given i)))
 
-returns : tie.Need-returns
+returns : tie.Need-returns-then-size-n
 returns c =
     let s = c.before.before.before.args in
-    too_many are_entry_words 6 s.n s.size s.m s.t.now s.keys.now c.if1.true
+    too_many are_entry_words 6 s.n s.size s.m s.t.now s.keys.now c.if-size-n.true
 
-returns-2 : tie.Need-returns-2
+returns-2 : tie.Need-returns-then-not-are_valid
 returns-2 c =
     let few = c.before.before in
     let s = few.before.before.before.args in
-    not-records are_entry_words 6 s.n s.size s.m s.t.now s.keys.now few.if1.false (told-no (told c.before) c.if2.true)
+    not-records are_entry_words 6 s.n s.size s.m s.t.now s.keys.now few.if-size-n.false (told-no (told c.before) c.if-not-are_valid.true)
 
-are-among-requires : tie.Need-are-among-requires
+are-among-requires : tie.Need-are_among-requires
 are-among-requires c κs =
     let few = c.before.before in
     let s = few.before.before.before in
-    (omega arith, omega (arith, few.if1.false, s.requires.1), s.requires.0.fit)
+    (omega arith, omega (arith, few.if-size-n.false, s.requires.1), s.requires.0.fit)
 
-returns-3 : tie.Need-returns-3
+returns-3 : tie.Need-returns
 returns-3 c =
     let e = c.before in
     let few = e.before.before in
     let s = few.before.before.before in
-    c.are-among.ensures ∙ by-merge are_entry_words 6 s.args.n s.args.size s.args.m s.args.t.now s.args.keys.now few.if1.false (omega arith) (omega (arith, few.if1.false, s.requires.1)) s.requires.0 (told-yes (told e.before) e.if2.false)
+    c.are_among.ensures ∙ by-merge are_entry_words 6 s.args.n s.args.size s.args.m s.args.t.now s.args.keys.now few.if-size-n.false (omega arith) (omega (arith, few.if-size-n.false, s.requires.1)) s.requires.0 (told-yes (told e.before) e.if-not-are_valid.false)
 
-pub are-hot-spec : {M : Type 1} → statement M
-are-hot-spec =
+pub are_hot_spec : {M : Type 1} → statement M
+are_hot_spec =
     tie.close (tie.spec returns (λ c κs. search rules) returns-2 are-among-requires returns-3)

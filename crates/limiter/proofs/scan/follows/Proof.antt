@@ -4,16 +4,16 @@ use borrow.Author.Rules.{rules}
 use Rattle.limiter.proofs.scan.follows.Statement.{statement}
 use Rattle.limiter.proofs.scan.follows.Tie as tie
 
-returns : tie.Need-returns
-returns c = first-follows _ _ _ c.if1.true
+returns : tie.Need-returns-then-at-w
+returns c = first-follows _ _ _ c.if-at-w.true
 
-returns-2 : tie.Need-returns-2
+returns-2 : tie.Need-returns
 returns-2 c =
     let e = c.before.before in
-    next-follows e.before.args.w e.before.args.at e.before.args.t.now e.if1.false
+    next-follows e.before.args.w e.before.args.at e.before.args.t.now e.if-at-w.false
 
-pub follows-spec : {M : Type 1} → statement M
-follows-spec =
+pub follows_spec : {M : Type 1} → statement M
+follows_spec =
     tie.close
     (tie.spec
     returns

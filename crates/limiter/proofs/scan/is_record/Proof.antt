@@ -6,21 +6,21 @@ use Rattle.limiter.proofs.scan.is_record.Statement.{statement}
 use Rattle.limiter.proofs.scan.is_record.Tie as tie
 use Rattle.limiter.specs.Steps.KeySteps.{units}
 
-returns : tie.Need-returns
+returns : tie.Need-returns-then-words-eq-SHADOW_WORDS
 returns c =
     let t = c.before.before.before.before in
-    c.is-meter.ensures ∙ four_are units t.before.before.args.words.now t.if1.true
+    c.is_meter.ensures ∙ four_are units t.before.before.args.words.now t.if-words-eq-SHADOW_WORDS.true
 
-is-key-requires : tie.Need-is-key-requires
-is-key-requires c κs = c.before.before.requires.1 c.if1.false
+is-key-requires : tie.Need-is_key-requires
+is-key-requires c κs = c.before.before.requires.1 c.if-words-eq-SHADOW_WORDS.false
 
-returns-2 : tie.Need-returns-2
+returns-2 : tie.Need-returns
 returns-2 c =
     let e = c.before in
-    c.is_key.ensures ∙ others-are units e.before.before.args.words.now e.if1.false
+    c.is_key.ensures ∙ others-are units e.before.before.args.words.now e.if-words-eq-SHADOW_WORDS.false
 
-pub is-record-spec : {M : Type 1} → statement M
-is-record-spec =
+pub is_record_spec : {M : Type 1} → statement M
+is_record_spec =
     tie.close
     (tie.spec
     (λ c. search rules)

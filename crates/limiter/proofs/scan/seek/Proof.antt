@@ -7,60 +7,60 @@ use Rattle.limiter.proofs.Validity.MergeLaws.{Seeking, seek-stops, seek-next, se
 use Rattle.limiter.proofs.scan.seek.Statement.{statement}
 use Rattle.limiter.proofs.scan.seek.Tie as tie
 
-abbrev invariant-loop : tie.invariant-loop
-invariant-loop keys m from id j₀ j = Seeking m id from keys j
+abbrev invariant-loop-j : tie.invariant-loop-j
+invariant-loop-j keys m from id j₀ j = Seeking m id from keys j
 
-abbrev decreases-loop : tie.decreases-loop
-decreases-loop keys m from id j₀ j = m - j
+abbrev decreases-loop-j : tie.decreases-loop-j
+decreases-loop-j keys m from id j₀ j = m - j
 
-abbrev start : tie.In-loop invariant-loop decreases-loop → tie.Start invariant-loop decreases-loop
+abbrev start : tie.In-loop-j invariant-loop-j decreases-loop-j → tie.Start invariant-loop-j decreases-loop-j
 start l = l.before.before
 
 -- the key of a turn is within the table
-inside : (l : tie.In-loop invariant-loop decreases-loop) → l.before.loop.j * 22 + 22 ≤ length (start l).args.keys.now
-inside l = omega (arith, l.loop-test.true, (start l).requires)
+inside : (l : tie.In-loop-j invariant-loop-j decreases-loop-j) → l.before.loop-j.j * 22 + 22 ≤ length (start l).args.keys.now
+inside l = omega (arith, l.loop-j-test.true, (start l).requires)
 
-loop-holds : tie.Need-loop-init invariant-loop decreases-loop
+loop-holds : tie.Need-loop-j-init invariant-loop-j decreases-loop-j
 loop-holds c = refl
 
-mul-if1 : tie.Need-overflow-mul-if1 invariant-loop decreases-loop
+mul-if1 : tie.Need-overflow_mul-j invariant-loop-j decreases-loop-j
 mul-if1 c = omega (arith, inside c)
 
-mul-if1-2 : tie.Need-overflow-mul-if1-2 invariant-loop decreases-loop
+mul-if1-2 : tie.Need-offset_bounds-keys-j invariant-loop-j decreases-loop-j
 mul-if1-2 c = omega (arith, inside c)
 
-shared-slice-read-if1 : tie.Need-shared-slice-read-if1 invariant-loop decreases-loop
+shared-slice-read-if1 : tie.Need-bounds-keys-j invariant-loop-j decreases-loop-j
 shared-slice-read-if1 c = omega (arith, inside c.before)
 
-returns : tie.Need-returns invariant-loop decreases-loop
+returns : tie.Need-returns-then-id-keys invariant-loop-j decreases-loop-j
 returns c =
     let l = c.before.before in
     let s = (start l).args in
-    seek-stops s.m s.id s.from s.keys.now l.before.loop.j l.before.loop.invariant l.loop-test.true c.if1.true
+    seek-stops s.m s.id s.from s.keys.now l.before.loop-j.j l.before.loop-j.invariant l.loop-j-test.true c.if-id-keys.true
 
-add-j : tie.Need-overflow-add-j invariant-loop decreases-loop
-add-j c = omega (arith, c.before.before.loop-test.true)
+add-j : tie.Need-overflow_add-j invariant-loop-j decreases-loop-j
+add-j c = omega (arith, c.before.before.loop-j-test.true)
 
-loop-less : tie.Need-loop-smaller invariant-loop decreases-loop
-loop-less c = omega (arith, c.before.before.loop-test.true)
+loop-less : tie.Need-loop-j-smaller invariant-loop-j decreases-loop-j
+loop-less c = omega (arith, c.before.before.loop-j-test.true)
 
-loop-again : tie.Need-loop-preserved invariant-loop decreases-loop
+loop-again : tie.Need-loop-j-preserved invariant-loop-j decreases-loop-j
 loop-again c =
     let l = c.before.before in
     let s = (start l).args in
-    seek-next s.m s.id s.from s.keys.now l.before.loop.j l.before.loop.invariant l.loop-test.true c.if1.false
+    seek-next s.m s.id s.from s.keys.now l.before.loop-j.j l.before.loop-j.invariant l.loop-j-test.true c.if-id-keys.false
 
-returns-2 : tie.Need-returns-2 invariant-loop decreases-loop
+returns-2 : tie.Need-returns invariant-loop-j decreases-loop-j
 returns-2 c =
     let s = c.before.before.args in
-    seek-ends s.m s.id s.from s.keys.now c.before.loop.j c.before.loop.invariant c.loop-test.false
+    seek-ends s.m s.id s.from s.keys.now c.before.loop-j.j c.before.loop-j.invariant c.loop-j-test.false
 
-pub seek-spec : {M : Type 1} → statement M
-seek-spec =
+pub seek_spec : {M : Type 1} → statement M
+seek_spec =
     tie.close
     (tie.spec
-    invariant-loop
-    decreases-loop
+    invariant-loop-j
+    decreases-loop-j
     loop-holds
     mul-if1
     mul-if1-2

@@ -7,13 +7,13 @@ use Rattle.limiter.specs.Steps.TickSteps.{alpha_of}
 use Rattle.limiter.proofs.ticks.alpha_at.Statement.{statement}
 use Rattle.limiter.proofs.ticks.alpha_at.Tie as tie
 
-returns : tie.Need-returns
-returns c = let s = c.before.before in s.requires ∙ ap (λ (e : ℕ). alpha_of e s.args.known.time_constant) c.if1.true
+returns : tie.Need-returns-then-known-elapsed
+returns c = let s = c.before.before in s.requires ∙ ap (λ (e : ℕ). alpha_of e s.args.known.time_constant) c.if-known-elapsed.true
 
-returns-2 : tie.Need-returns-2
+returns-2 : tie.Need-returns
 returns-2 c =
     let s = c.before.before.before.args in
     ap (λ (x : Float). record { elapsed = s.elapsed; time_constant = s.known.time_constant; value = x }) c.alpha.ensures
 
-pub alpha-at-spec : {M : Type 1} → statement M
-alpha-at-spec = tie.close (tie.spec returns (λ c κs. search rules) returns-2)
+pub alpha_at_spec : {M : Type 1} → statement M
+alpha_at_spec = tie.close (tie.spec returns (λ c κs. search rules) returns-2)

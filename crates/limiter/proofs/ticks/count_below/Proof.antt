@@ -9,32 +9,32 @@ use Rattle.limiter.proofs.Walking.CutLaws.{count-more, count_same, count-all}
 use Rattle.limiter.proofs.ticks.count_below.Statement.{statement}
 use Rattle.limiter.proofs.ticks.count_below.Tie as tie
 
-abbrev invariant-loop : tie.invariant-loop
-invariant-loop ranks n limit count₀ i₀ count i = (n ≤ length ranks) × (i ≤ n) × (count ≤ i) × (count + below limit (drop i (take n ranks)) ≡ below limit (take n ranks))
+abbrev invariant-loop-i : tie.invariant-loop-i
+invariant-loop-i ranks n limit count₀ i₀ count i = (n ≤ length ranks) × (i ≤ n) × (count ≤ i) × (count + below limit (drop i (take n ranks)) ≡ below limit (take n ranks))
 
-abbrev decreases-loop : tie.decreases-loop
-decreases-loop ranks n limit count₀ i₀ count i = n - i
+abbrev decreases-loop-i : tie.decreases-loop-i
+decreases-loop-i ranks n limit count₀ i₀ count i = n - i
 
-loop-holds : tie.Need-loop-init invariant-loop decreases-loop
+loop-holds : tie.Need-loop-i-init invariant-loop-i decreases-loop-i
 loop-holds c = (c.requires, omega arith, omega arith, omega arith)
 
-loop-again : tie.Need-loop-preserved invariant-loop decreases-loop
+loop-again : tie.Need-loop-i-preserved invariant-loop-i decreases-loop-i
 loop-again c =
-    let l = c.before.before.before.loop in
-    let t = c.before.before.loop-test.true in
+    let l = c.before.before.before.loop-i in
+    let t = c.before.before.loop-i-test.true in
     let k = l.invariant in
     ⊎_elim (λ w. (k.0, omega arith, omega arith, omega (arith, count-more _ _ k.0 _ _ _ t k.3 w.0.taken)))
-    (λ w. (k.0, omega arith, omega arith, omega (arith, count_same _ _ k.0 _ _ _ t k.3 w.0.left))) c.if1.branch
+    (λ w. (k.0, omega arith, omega arith, omega (arith, count_same _ _ k.0 _ _ _ t k.3 w.0.left))) c.if-ranks-i.branch
 
-returns : tie.Need-returns invariant-loop decreases-loop
-returns c = let k = c.before.loop.invariant in count-all _ _ k.0 _ _ _ k.1 c.loop-test.false k.3
+returns : tie.Need-returns invariant-loop-i decreases-loop-i
+returns c = let k = c.before.loop-i.invariant in count-all _ _ k.0 _ _ _ k.1 c.loop-i-test.false k.3
 
-pub count-below-spec : {M : Type 1} → statement M
-count-below-spec =
+pub count_below_spec : {M : Type 1} → statement M
+count_below_spec =
     tie.close
     (tie.spec
-    invariant-loop
-    decreases-loop
+    invariant-loop-i
+    decreases-loop-i
     loop-holds
     (λ c. omega arith)
     (λ c. omega arith)

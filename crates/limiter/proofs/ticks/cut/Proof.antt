@@ -6,33 +6,33 @@ use Rattle.limiter.proofs.Walking.CutLaws.{Cutting, cut-start, cut_up, cut_down,
 use Rattle.limiter.proofs.ticks.cut.Statement.{statement}
 use Rattle.limiter.proofs.ticks.cut.Tie as tie
 
-abbrev invariant-loop : tie.invariant-loop
-invariant-loop ranks n most low₀ high₀ low high = Cutting most (take n ranks) low high
+abbrev invariant-loop-low : tie.invariant-loop-low
+invariant-loop-low ranks n most low₀ high₀ low high = Cutting most (take n ranks) low high
 
-abbrev decreases-loop : tie.decreases-loop
-decreases-loop ranks n most low₀ high₀ low high = high - low
+abbrev decreases-loop-low : tie.decreases-loop-low
+decreases-loop-low ranks n most low₀ high₀ low high = high - low
 
-loop-holds : tie.Need-loop-init invariant-loop decreases-loop
+loop-holds : tie.Need-loop-low-init invariant-loop-low decreases-loop-low
 loop-holds c = cut-start _ _
 
-loop-again : tie.Need-loop-preserved invariant-loop decreases-loop
+loop-again : tie.Need-loop-low-preserved-then-count_below-most invariant-loop-low decreases-loop-low
 loop-again c =
     let b = c.before in
-    let l = b.before.before.loop in
-    cut_up _ _ _ _ _ l.invariant (omega arith) (omega (arith, b.count-below.ensures))
+    let l = b.before.before.loop-low in
+    cut_up _ _ _ _ _ l.invariant (omega arith) (omega (arith, b.count_below.ensures))
 
-loop-again-2 : tie.Need-loop-preserved-2 invariant-loop decreases-loop
+loop-again-2 : tie.Need-loop-low-preserved invariant-loop-low decreases-loop-low
 loop-again-2 c =
     let b = c.before in
-    let l = b.before.before.loop in
-    cut_down _ _ _ _ _ l.invariant (omega arith) (omega arith) (omega (arith, b.count-below.ensures))
+    let l = b.before.before.loop-low in
+    cut_down _ _ _ _ _ l.invariant (omega arith) (omega arith) (omega (arith, b.count_below.ensures))
 
 pub cut_spec : {M : Type 1} → statement M
 cut_spec =
     tie.close
     (tie.spec
-    invariant-loop
-    decreases-loop
+    invariant-loop-low
+    decreases-loop-low
     loop-holds
     (λ c. omega arith)
     (λ c. omega arith)
@@ -42,4 +42,4 @@ cut_spec =
     loop-again
     (λ c. omega arith)
     loop-again-2
-    (λ c. cut-done _ _ _ _ c.before.loop.invariant c.loop-test.false))
+    (λ c. cut-done _ _ _ _ c.before.loop-low.invariant c.loop-low-test.false))

@@ -13,43 +13,43 @@ use Rattle.limiter.proofs.Walking.RowLaws.{Mapping, map-none, map-long, map-all,
 use Rattle.limiter.proofs.ticks.fold_keys.Statement.{statement}
 use Rattle.limiter.proofs.ticks.fold_keys.Tie as tie
 
-abbrev invariant-loop : tie.invariant-loop
-invariant-loop keys₀ n reading time_constant denial-time-constant known₀ i₀ keys known i = Mapping 22 n (map (folded_row units time_constant denial-time-constant reading) (records 22 n keys₀)) keys₀ keys i × AreAlphas time_constant denial-time-constant known
+abbrev invariant-loop-i : tie.invariant-loop-i
+invariant-loop-i keys₀ n reading time_constant denial-time-constant known₀ i₀ keys known i = Mapping 22 n (map (folded_row units time_constant denial-time-constant reading) (records 22 n keys₀)) keys₀ keys i × AreAlphas time_constant denial-time-constant known
 
-abbrev decreases-loop : tie.decreases-loop
-decreases-loop keys₀ n reading time_constant denial-time-constant known₀ i₀ keys known i = n - i
+abbrev decreases-loop-i : tie.decreases-loop-i
+decreases-loop-i keys₀ n reading time_constant denial-time-constant known₀ i₀ keys known i = n - i
 
-abbrev start : tie.At-loop invariant-loop decreases-loop → tie.Start invariant-loop decreases-loop
+abbrev start : tie.At-loop-i invariant-loop-i decreases-loop-i → tie.Start invariant-loop-i decreases-loop-i
 start l = l.before.before.before.before
 
-loop-holds : tie.Need-loop-init invariant-loop decreases-loop
+loop-holds : tie.Need-loop-i-init invariant-loop-i decreases-loop-i
 loop-holds c =
     let s = c.before.before.before in
     let a = s.args in (
       map-none 22 a.n _ a.keys.now (folded-wide units a.time_constant a.denial-time-constant a.reading a.n a.keys.now) (folded-many units a.time_constant a.denial-time-constant a.reading a.n a.keys.now) s.requires.fit,
-      first-alphas s.args.time_constant s.args.denial-time-constant _ _ c.before.first-alpha.ensures c.first-alpha2.ensures,
+      first-alphas s.args.time_constant s.args.denial-time-constant _ _ c.before.first_alpha.ensures c.first_alpha-2.ensures,
     )
 
 -- record i is within the words
-inside : (c : tie.In-loop invariant-loop decreases-loop) → (c.before.loop.i * 22 + 22 ≤ length c.before.loop.keys) × (length c.before.loop.keys ≡ length (start c.before).args.keys.now)
+inside : (c : tie.In-loop-i invariant-loop-i decreases-loop-i) → (c.before.loop-i.i * 22 + 22 ≤ length c.before.loop-i.keys) × (length c.before.loop-i.keys ≡ length (start c.before).args.keys.now)
 inside c =
-    let k = c.before.loop.invariant.0 in
-    (map-inside _ _ _ _ _ _ k c.loop-test.true, map-long _ _ _ _ _ _ k)
+    let k = c.before.loop-i.invariant.0 in
+    (map-inside _ _ _ _ _ _ k c.loop-i-test.true, map-long _ _ _ _ _ _ k)
 
-loop-again : tie.Need-loop-preserved invariant-loop decreases-loop
+loop-again : tie.Need-loop-i-preserved invariant-loop-i decreases-loop-i
 loop-again c =
     let f = c.before.before in
     let t = f.before.before in
     let s = start t.before in
-    let k = t.before.loop.invariant.0 in
-    (map_next _ _ _ _ _ _ k t.loop-test.true _ _ refl (f.fold-key.ensures.1 ∙ ap (folded_row units s.args.time_constant s.args.denial-time-constant s.args.reading) (map-here _ _ _ _ _ _ k t.loop-test.true) ∙ folded-at units s.args.time_constant s.args.denial-time-constant s.args.reading s.args.n s.args.keys.now t.before.loop.i t.loop-test.true), f.fold-key.ensures.0)
+    let k = t.before.loop-i.invariant.0 in
+    (map_next _ _ _ _ _ _ k t.loop-i-test.true _ _ refl (f.fold_key-known.ensures.1 ∙ ap (folded_row units s.args.time_constant s.args.denial-time-constant s.args.reading) (map-here _ _ _ _ _ _ k t.loop-i-test.true) ∙ folded-at units s.args.time_constant s.args.denial-time-constant s.args.reading s.args.n s.args.keys.now t.before.loop-i.i t.loop-i-test.true), f.fold_key-known.ensures.0)
 
-pub fold-keys-spec : {M : Type 1} → statement M
-fold-keys-spec =
+pub fold_keys_spec : {M : Type 1} → statement M
+fold_keys_spec =
     tie.close
     (tie.spec
-    invariant-loop
-    decreases-loop
+    invariant-loop-i
+    decreases-loop-i
     (λ c κs. search rules)
     (λ c κs. search rules)
     loop-holds
@@ -59,9 +59,9 @@ fold-keys-spec =
     (λ c. omega (arith, inside c))
     (λ c. omega (arith, inside c))
     (λ c. omega (arith, inside c))
-    (λ c κs. let l = c.before.before.loop in (lent_key _ _ _ _ _ _ l.invariant.0 (start c.before.before).pre c.before.loop-test.true, l.invariant.1))
+    (λ c κs. let l = c.before.before.loop-i in (lent_key _ _ _ _ _ _ l.invariant.0 (start c.before.before).pre c.before.loop-i-test.true, l.invariant.1))
     (λ c. omega arith)
     (λ c. omega arith)
     loop-again
-    (λ c. map-long _ _ _ _ _ _ c.before.loop.invariant.0)
-    (λ c. map-all _ _ _ _ _ _ c.before.loop.invariant.0 c.loop-test.false))
+    (λ c. map-long _ _ _ _ _ _ c.before.loop-i.invariant.0)
+    (λ c. map-all _ _ _ _ _ _ c.before.loop-i.invariant.0 c.loop-i-test.false))

@@ -5,16 +5,16 @@ use Rattle.limiter.proofs.Walking.CapLaws.{is_at, hot-found}
 use Rattle.limiter.proofs.ticks.is_hot.Statement.{statement}
 use Rattle.limiter.proofs.ticks.is_hot.Tie as tie
 
-returns : tie.Need-returns
-returns c = let f = c.before.before in sym (ap is_at c.enum_told.given.1) ∙ hot-found _ _ _ f.before.before.requires f.find.result f.find.ensures
+returns : tie.Need-returns-in-At
+returns c = let f = c.before.before in sym (ap is_at c.enum_told.given.1) ∙ hot-found _ _ _ f.before.before.requires f.find-found.result f.find-found.ensures
 
-returns-2 : tie.Need-returns-2
-returns-2 c = let f = c.before.before in sym (ap is_at c.enum-told2.given.1) ∙ hot-found _ _ _ f.before.before.requires f.find.result f.find.ensures
+returns-2 : tie.Need-returns-in-Gap
+returns-2 c = let f = c.before.before in sym (ap is_at c.enum-told2.given.1) ∙ hot-found _ _ _ f.before.before.requires f.find-found.result f.find-found.ensures
 
-returns-3 : tie.Need-returns-3
-returns-3 c = let f = c.before.before in sym (ap is_at c.enum-told3.given.1) ∙ hot-found _ _ _ f.before.before.requires f.find.result f.find.ensures
+returns-3 : tie.Need-returns-in-Unfit
+returns-3 c = let f = c.before.before in sym (ap is_at c.enum-told3.given.1) ∙ hot-found _ _ _ f.before.before.requires f.find-found.result f.find-found.ensures
 
-pub is-hot-spec : {M : Type 1} → statement M
-is-hot-spec =
+pub is_hot_spec : {M : Type 1} → statement M
+is_hot_spec =
     tie.close
     (tie.spec (λ c κs. search rules) (λ c. search rules) (λ c. search rules) (λ c. search rules) returns returns-2 returns-3)

@@ -12,7 +12,7 @@ returns c =
     let k = c.before.before in
     let m = k.before.before.before.before in
     let s = m.before.before.before.before.before.args in
-    kept_by 4 s.m (λ x. is_tracked (key_records units s.n s.keys.now) (shadow_key units x)) _ _ _ _ m.mark-tracked.ensures k.keep-flagged.ensures
+    kept_by 4 s.m (λ x. is_tracked (key_records units s.n s.keys.now) (shadow_key units x)) _ _ _ _ m.mark_tracked.ensures k.keep_flagged.ensures
 
-pub keep-tracked-spec : {M : Type 1} → statement M
-keep-tracked-spec = tie.close (tie.spec (λ c. search rules) (λ c κs. search rules) (λ c. search rules) (λ c κs. search rules) (λ c. search rules) returns)
+pub keep_tracked_spec : {M : Type 1} → statement M
+keep_tracked_spec = tie.close (tie.spec (λ c. search rules) (λ c κs. search rules) (λ c. search rules) (λ c κs. search rules) (λ c. search rules) returns)

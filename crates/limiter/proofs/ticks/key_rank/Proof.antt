@@ -13,26 +13,26 @@ use Rattle.limiter.specs.Steps.KeySteps.{units}
 inside : (s : tie.Start) → s.args.i * 22 + 22 ≤ length s.args.keys.now
 inside s = omega (arith, row 22 s.args.n s.args.i s.requires.2, s.requires.0.fit)
 
-abbrev start : tie.After-is-hot → tie.Start
+abbrev start : tie.After-is_hot → tie.Start
 start c = c.before.before.before.before
 
-returns : tie.Need-returns
+returns : tie.Need-returns-then-is_hot
 returns c =
     let b = c.before in
     let s = start b in
-    rank-hot units s.args.n s.args.keys.now s.args.i s.pre.2 s.args.time_constant _ (sym b.is-hot.ensures ∙ c.if1.true)
+    rank-hot units s.args.n s.args.keys.now s.args.i s.pre.2 s.args.time_constant _ (sym b.is_hot.ensures ∙ c.if-is_hot.true)
 
-rate-place-requires : tie.Need-rate-place-requires
+rate-place-requires : tie.Need-rate_place-requires
 rate-place-requires c κs = let s = start c.before.before.before.before in rate-finite units s.args.n s.args.keys.now s.args.i s.pre.2 s.pre.0.valids
 
-returns-2 : tie.Need-returns-2
+returns-2 : tie.Need-returns
 returns-2 c =
     let e = c.before.before.before.before in
     let s = start e.before in
-    c.rate-place.ensures ∙ rank-cold units s.args.n s.args.keys.now s.args.i s.pre.2 s.args.time_constant _ (sym e.before.is-hot.ensures ∙ e.if1.false)
+    c.rate_place.ensures ∙ rank-cold units s.args.n s.args.keys.now s.args.i s.pre.2 s.args.time_constant _ (sym e.before.is_hot.ensures ∙ e.if-is_hot.false)
 
-pub key-rank-spec : {M : Type 1} → statement M
-key-rank-spec =
+pub key_rank_spec : {M : Type 1} → statement M
+key_rank_spec =
     tie.close
     (tie.spec
     (λ c. omega (arith, inside c.before.before))

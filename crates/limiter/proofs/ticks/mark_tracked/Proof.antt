@@ -20,52 +20,52 @@ use Rattle.limiter.proofs.ticks.mark_tracked.Tie as tie
 abbrev test : ℕ → List ℕ → List ℕ → Bool
 test n keys x = is_tracked (key_records units n keys) (shadow_key units x)
 
-abbrev invariant-loop : tie.invariant-loop
-invariant-loop shadows m keys n stays₀ i₀ stays i = Filling m stays₀ stays i (map (test n keys) (drop i (records 4 m shadows))) (map (test n keys) (records 4 m shadows))
+abbrev invariant-loop-i : tie.invariant-loop-i
+invariant-loop-i shadows m keys n stays₀ i₀ stays i = Filling m stays₀ stays i (map (test n keys) (drop i (records 4 m shadows))) (map (test n keys) (records 4 m shadows))
 
-abbrev decreases-loop : tie.decreases-loop
-decreases-loop shadows m keys n stays₀ i₀ stays i = m - i
+abbrev decreases-loop-i : tie.decreases-loop-i
+decreases-loop-i shadows m keys n stays₀ i₀ stays i = m - i
 
-abbrev start : tie.In-loop invariant-loop decreases-loop → tie.Start invariant-loop decreases-loop
+abbrev start : tie.In-loop-i invariant-loop-i decreases-loop-i → tie.Start invariant-loop-i decreases-loop-i
 start c = c.before.before.before.before.before
 
 -- the record is within the words
-inside : (c : tie.In-loop invariant-loop decreases-loop) → c.before.loop.i * 4 + 4 ≤ length (start c).args.shadows.now
-inside c = omega (arith, row 4 (start c).args.m c.before.loop.i c.loop-test.true, (start c).requires.0)
+inside : (c : tie.In-loop-i invariant-loop-i decreases-loop-i) → c.before.loop-i.i * 4 + 4 ≤ length (start c).args.shadows.now
+inside c = omega (arith, row 4 (start c).args.m c.before.loop-i.i c.loop-i-test.true, (start c).requires.0)
 
-loop-holds : tie.Need-loop-init invariant-loop decreases-loop
+loop-holds : tie.Need-loop-i-init invariant-loop-i decreases-loop-i
 loop-holds c = fill_none _ _ _ c.before.before.before.requires.2
 
-loop-again : tie.Need-loop-preserved invariant-loop decreases-loop
+loop-again : tie.Need-loop-i-preserved invariant-loop-i decreases-loop-i
 loop-again c =
     let t = c.before.before in
-    let l = t.before.loop in
+    let l = t.before.loop-i in
     let a = (start t).args in
-    let h = t.loop-test.true in
-    fill_more c.is-tracked.result _ l.invariant h
-    (rows-from 4 (test a.n a.keys.now) a.m a.shadows.now l.i h c.is-tracked.result
-    (c.is-tracked.ensures ∙ ap (is_tracked (key_records units a.n a.keys.now)) (shadow-key-at units a.m a.shadows.now l.i h)))
+    let h = t.loop-i-test.true in
+    fill_more c.is_tracked.result _ l.invariant h
+    (rows-from 4 (test a.n a.keys.now) a.m a.shadows.now l.i h c.is_tracked.result
+    (c.is_tracked.ensures ∙ ap (is_tracked (key_records units a.n a.keys.now)) (shadow-key-at units a.m a.shadows.now l.i h)))
 
-returns : tie.Need-returns invariant-loop decreases-loop
+returns : tie.Need-returns invariant-loop-i decreases-loop-i
 returns c =
-    let l = c.before.loop in
+    let l = c.before.loop-i in
     let a = c.before.before.before.before.before.args in
-    fill-all l.invariant c.loop-test.false (rows-done 4 (test a.n a.keys.now) a.m a.shadows.now l.i l.invariant.within c.loop-test.false)
+    fill-all l.invariant c.loop-i-test.false (rows-done 4 (test a.n a.keys.now) a.m a.shadows.now l.i l.invariant.within c.loop-i-test.false)
 
-pub mark-tracked-spec : {M : Type 1} → statement M
-mark-tracked-spec =
+pub mark_tracked_spec : {M : Type 1} → statement M
+mark_tracked_spec =
     tie.close
     (tie.spec
-    invariant-loop
-    decreases-loop
+    invariant-loop-i
+    decreases-loop-i
     loop-holds
     (λ c. omega (arith, inside c))
     (λ c. omega (arith, inside c))
     (λ c. omega (arith, inside c.before))
     (λ c κs. (start c.before).pre.1)
-    (λ c. omega (arith, c.before.before.before.loop.invariant.fit))
+    (λ c. omega (arith, c.before.before.before.loop-i.invariant.fit))
     (λ c. omega arith)
     (λ c. omega arith)
     loop-again
-    (λ c. c.before.loop.invariant.long)
+    (λ c. c.before.loop-i.invariant.long)
     returns)

@@ -17,41 +17,41 @@ use Rattle.limiter.proofs.ticks.rank_keys.Tie as tie
 abbrev rank : ℕ → List ℕ → ℕ → List ℕ → ℕ
 rank h hot c r = key_rank c (entries h hot) (key_of units r)
 
-abbrev invariant-loop : tie.invariant-loop
-invariant-loop keys n hot h time_constant ranks₀ i₀ ranks i = Filling n ranks₀ ranks i (map (rank h hot time_constant) (drop i (records 22 n keys))) (map (rank h hot time_constant) (records 22 n keys))
+abbrev invariant-loop-i : tie.invariant-loop-i
+invariant-loop-i keys n hot h time_constant ranks₀ i₀ ranks i = Filling n ranks₀ ranks i (map (rank h hot time_constant) (drop i (records 22 n keys))) (map (rank h hot time_constant) (records 22 n keys))
 
-abbrev decreases-loop : tie.decreases-loop
-decreases-loop keys n hot h time_constant ranks₀ i₀ ranks i = n - i
+abbrev decreases-loop-i : tie.decreases-loop-i
+decreases-loop-i keys n hot h time_constant ranks₀ i₀ ranks i = n - i
 
-loop-holds : tie.Need-loop-init invariant-loop decreases-loop
+loop-holds : tie.Need-loop-i-init invariant-loop-i decreases-loop-i
 loop-holds c = fill_none _ _ _ c.before.before.before.requires.2
 
-loop-again : tie.Need-loop-preserved invariant-loop decreases-loop
+loop-again : tie.Need-loop-i-preserved invariant-loop-i decreases-loop-i
 loop-again c =
     let t = c.before in
-    let l = t.before.loop in
+    let l = t.before.loop-i in
     let a = t.before.before.before.before.before.args in
-    fill_more c.key-rank.result _ l.invariant t.loop-test.true
-    (rows-from 22 (rank a.h a.hot.now a.time_constant) a.n a.keys.now l.i t.loop-test.true c.key-rank.result c.key-rank.ensures)
+    fill_more c.key_rank.result _ l.invariant t.loop-i-test.true
+    (rows-from 22 (rank a.h a.hot.now a.time_constant) a.n a.keys.now l.i t.loop-i-test.true c.key_rank.result c.key_rank.ensures)
 
-returns : tie.Need-returns invariant-loop decreases-loop
+returns : tie.Need-returns invariant-loop-i decreases-loop-i
 returns c =
-    let l = c.before.loop in
+    let l = c.before.loop-i in
     let a = c.before.before.before.before.before.args in
-    fill-all l.invariant c.loop-test.false (rows-done 22 (rank a.h a.hot.now a.time_constant) a.n a.keys.now l.i l.invariant.within c.loop-test.false)
+    fill-all l.invariant c.loop-i-test.false (rows-done 22 (rank a.h a.hot.now a.time_constant) a.n a.keys.now l.i l.invariant.within c.loop-i-test.false)
 
-pub rank-keys-spec : {M : Type 1} → statement M
-rank-keys-spec =
+pub rank_keys_spec : {M : Type 1} → statement M
+rank_keys_spec =
     tie.close
     (tie.spec
-    invariant-loop
-    decreases-loop
+    invariant-loop-i
+    decreases-loop-i
     loop-holds
-    (λ c κs. let s = c.before.before.before.before.before in (s.requires.0, s.requires.1, c.loop-test.true))
-    (λ c. omega (arith, c.before.before.loop.invariant.fit))
-    (λ c. omega (arith, c.before.before.loop.invariant.fit))
+    (λ c κs. let s = c.before.before.before.before.before in (s.requires.0, s.requires.1, c.loop-i-test.true))
+    (λ c. omega (arith, c.before.before.loop-i.invariant.fit))
+    (λ c. omega (arith, c.before.before.loop-i.invariant.fit))
     (λ c. omega arith)
     (λ c. omega arith)
     loop-again
-    (λ c. c.before.loop.invariant.long)
+    (λ c. c.before.loop-i.invariant.long)
     returns)

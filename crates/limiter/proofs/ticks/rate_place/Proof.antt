@@ -9,24 +9,24 @@ use Rattle.limiter.proofs.Walking.CapLaws.{rate-given, rate-never, rate-of}
 use Rattle.limiter.proofs.ticks.rate_place.Statement.{statement}
 use Rattle.limiter.proofs.ticks.rate_place.Tie as tie
 
-returns : tie.Need-returns
+returns : tie.Need-returns-in-Is
 returns c =
     let b = c.before in
     let k = b.before in
     let u = k.before in
     let a = u.before.before in
     let s = a.before.before.args in
-    c.total-place.ensures
-    ∙ ap place (b.to-bits.ensures ∙ ap float_word (rate-given _ _ u.unbiased.given.0.0 a.unbiased-rate.ensures u.unbiased.given.1 ∙ rate-of s.time_constant s.rate s.last-tick s.since _ a.before.from-bits.ensures))
+    c.total_place.ensures
+    ∙ ap place (b.to_bits.ensures ∙ ap float_word (rate-given _ _ u.unbiased.given.0.0 a.unbiased_rate.ensures u.unbiased.given.1 ∙ rate-of s.time_constant s.rate s.last-tick s.since _ a.before.from_bits.ensures))
 
-returns-2 : tie.Need-returns-2
+returns-2 : tie.Need-returns-in-No
 returns-2 c =
     let a = c.before.before in
     let s = a.before.before.args in
-    absurd (rate-never (record { current_rate = a.before.from-bits.result; attempts_since_tick = 0; times = At s.last-tick s.since; time_constant = s.time_constant }) _ _ a.unbiased-rate.ensures c.enum_told.given.1 (ap magnitude a.before.from-bits.ensures ∙ a.before.before.requires))
+    absurd (rate-never (record { current_rate = a.before.from_bits.result; attempts_since_tick = 0; times = At s.last-tick s.since; time_constant = s.time_constant }) _ _ a.unbiased_rate.ensures c.enum_told.given.1 (ap magnitude a.before.from_bits.ensures ∙ a.before.before.requires))
 
-pub rate-place-spec : {M : Type 1} → statement M
-rate-place-spec =
+pub rate_place_spec : {M : Type 1} → statement M
+rate_place_spec =
     tie.close
     (tie.spec
     (λ c κs. search rules)

@@ -8,7 +8,7 @@ use Rattle.limiter.proofs.traces.drop_shadow.Tie as tie
 use Rattle.limiter.specs.Steps.KeySteps.{units}
 use Rattle.gcra.proofs.Packed.Encoding.{units-accepted}
 
-sub-result : tie.Need-overflow-sub-result
+sub-result : tie.Need-overflow_sub-result
 sub-result c =
     let i = c.before.before.before.before.before in
     let f = i.before.before in
@@ -19,7 +19,7 @@ sub-result c =
           (sym i.place.given.1 ∙ f.find.ensures)).0,
     )
 
-returns : tie.Need-returns
+returns : tie.Need-returns-in-At
 returns c =
     let o = c.before.before in
     let i = o.before.before.before in
@@ -28,20 +28,20 @@ returns c =
     shadow-out units units-accepted s.args.n s.args.shadows.now s.requires s.args.key i.place.given.0.0 (sym i.place.given.1 ∙ f.find.ensures) _
     o.remove.ensures.1
 
-returns-2 : tie.Need-returns-2
+returns-2 : tie.Need-returns-in-Gap
 returns-2 c =
     let f = c.before.before in
     let s = f.before.before.before in
     shadow-kept units units-accepted s.args.n s.args.shadows.now s.requires s.args.key _ (sym c.enum_told.given.1 ∙ f.find.ensures)
 
-returns-3 : tie.Need-returns-3
+returns-3 : tie.Need-returns-in-Unfit
 returns-3 c =
     let f = c.before.before in
     let s = f.before.before.before in
     never-unfit-shadow units units-accepted s.args.n s.args.shadows.now s.requires s.args.key (sym c.enum-told2.given.1 ∙ f.find.ensures)
 
-pub drop-shadow-spec : {M : Type 1} → statement M
-drop-shadow-spec =
+pub drop_shadow_spec : {M : Type 1} → statement M
+drop_shadow_spec =
     tie.close
     (tie.spec
     (λ c κs. search rules)

@@ -15,49 +15,49 @@ use borrow.Author.Rules.{rules}
 use Rattle.limiter.proofs.traces.shadow_entry.Statement.{statement}
 use Rattle.limiter.proofs.traces.shadow_entry.Tie as tie
 
-abbrev start : tie.After-known-told → tie.Start
+abbrev start : tie.In-At → tie.Start
 start c = c.before.before.before.before.before
 
-found : (c : tie.After-known-told)
+found : (c : tie.In-At)
     → At c.before.place.given.0.0 ≡ find_in 4 1 (start c).args.n (start c).args.key 0 (start c).args.shadows.now
 found c = sym c.before.place.given.1 ∙ c.before.before.before.find.ensures
 
-within : (c : tie.After-known-told) → c.before.place.given.0.0 * 4 + 4 ≤ length (start c).args.shadows.now
+within : (c : tie.In-At) → c.before.place.given.0.0 * 4 + 4 ≤ length (start c).args.shadows.now
 within c = let s = start c in
     (found-shadow units units-accepted s.args.n s.args.shadows.now s.pre.0 s.args.key c.before.place.given.0.0 (found c)).1
 
-mul-meter-of-words : tie.Need-overflow-mul-meter-of-words
+mul-meter-of-words : tie.Need-overflow_mul-place
 mul-meter-of-words c = omega (arith, within c)
 
-add-meter-of-words : tie.Need-overflow-add-meter-of-words
+add-meter-of-words : tie.Need-overflow_add-place
 add-meter-of-words c = omega (arith, within c)
 
-meter-of-words-requires : tie.Need-meter-of-words-requires
+meter-of-words-requires : tie.Need-meter_of_words-known-requires
 meter-of-words-requires c κs =
     let s = start c in
     (omega (arith, within c), found_word units units-accepted s.args.n s.args.shadows.now s.pre.0 s.args.key c.before.place.given.0.0 (found c))
 
-under-quota-requires : tie.Need-under-quota-requires
+under-quota-requires : tie.Need-under_quota-requires
 under-quota-requires c κs =
     let k = c.before in
     let s = start k in (
-      ap (λ (g : Gcra). valid_quota units g.quota) c.meter-of-words.ensures
+      ap (λ (g : Gcra). valid_quota units g.quota) c.meter_of_words-known.ensures
           ∙ found-quota units units-accepted s.args.n s.args.shadows.now s.pre.0 s.args.key k.before.place.given.0.0 (found k),
       s.pre.1,
     )
 
-returns : tie.Need-returns
+returns : tie.Need-returns-in-At
 returns c =
     let k = c.before.before in
     let s = start k in
     record {
-      meter = c.under-quota.ensures ∙ ap (λ (g : Gcra). set_quota g s.args.wanted s.args.reading) c.before.meter-of-words.ensures
+      meter = c.under_quota.ensures ∙ ap (λ (g : Gcra). set_quota g s.args.wanted s.args.reading) c.before.meter_of_words-known.ensures
           ∙ meter-found units units-accepted s.args.n s.args.shadows.now s.pre.0 s.args.key k.before.place.given.0.0 (found k) s.args.wanted
           s.args.reading;
       place = found k;
     }
 
-returns-2 : tie.Need-returns-2
+returns-2 : tie.Need-returns-in-Gap
 returns-2 c =
     let g = c.before in
     let f = g.before.before in
@@ -70,14 +70,14 @@ returns-2 c =
       place = e;
     }
 
-returns-3 : tie.Need-returns-3
+returns-3 : tie.Need-returns-in-Unfit
 returns-3 c =
     let f = c.before.before in
     let s = f.before.before in
     never-unfit-shadow units units-accepted s.args.n s.args.shadows.now s.requires.0 s.args.key (sym c.enum_told.given.1 ∙ f.find.ensures)
 
-pub shadow-entry-spec : {M : Type 1} → statement M
-shadow-entry-spec =
+pub shadow_entry_spec : {M : Type 1} → statement M
+shadow_entry_spec =
     tie.close
     (tie.spec
     (λ c κs. search rules)

@@ -16,39 +16,39 @@ use Rattle.limiter.proofs.traces.trace_with.Tie as tie
 use Rattle.limiter.proofs.States.StateValidLaws.{units-of-accepted}
 
 -- the key's quota is valid
-quota : (o : tie.After-entry) → valid_quota (units_in o.before.before.before.before.args.limiter) o.entry.result.state.gcra.quota ≡ true
+quota : (o : tie.After-entry-found) → valid_quota (units_in o.before.before.before.before.args.limiter) o.entry-found.result.state.gcra.quota ≡ true
 quota o =
     let s = o.before.before.before.before in
     entry-quota s.args.limiter s.args.keys.now s.requires.0 s.args.key s.args.limit s.args.reading s.args.cluster-size
-    s.requires.1.1.0.0 _ o.entry.ensures
+    s.requires.1.1.0.0 _ o.entry-found.ensures
 
 -- so is the shadow's
-wanted : (w : tie.After-shadow-quota) → let o = w.before.before.before.before.before in valid_quota (units_in o.before.before.before.before.args.limiter) w.shadow-quota.result ≡ true
+wanted : (w : tie.After-shadow_quota-wanted) → let o = w.before.before.before.before.before in valid_quota (units_in o.before.before.before.before.args.limiter) w.shadow_quota-wanted.result ≡ true
 unfolding shadow_quota units_for
 wanted w =
     let o = w.before.before.before.before.before in
     let s = o.before.before.before.before in
-    ap (valid_quota (units_in s.args.limiter)) w.shadow-quota.ensures
+    ap (valid_quota (units_in s.args.limiter)) w.shadow_quota-wanted.ensures
     ∙ per-second-valid (units_in s.args.limiter) (units-of-accepted (settings_of s.args.limiter))
-    (div binary64 (mul binary64 (rate_per_sec o.entry.result.state.gcra.quota) s.args.shadow.rate) s.args.limit.rate)
+    (div binary64 (mul binary64 (rate_per_sec o.entry-found.result.state.gcra.quota) s.args.shadow.rate) s.args.limit.rate)
     s.args.shadow.burst s.requires.1.1.0.1
 
-ask-meter-requires : tie.Need-ask-meter-requires
+ask-meter-requires : tie.Need-ask_meter-asked-requires
 unfolding units_for
 ask-meter-requires c κs = quota c.before.before
 
-shadow-quota-requires : tie.Need-shadow-quota-requires
+shadow-quota-requires : tie.Need-shadow_quota-wanted-requires
 unfolding units_for
 shadow-quota-requires c κs = quota c.before.before.before.before
 
-try-shadow-requires : tie.Need-try-shadow-requires
+try-shadow-requires : tie.Need-try_shadow-tried-requires
 unfolding units_for
 try-shadow-requires c κs =
     let w = c.before in
     let s = w.before.before.before.before.before.before.before.before.before in
     (s.requires.1.0, wanted w)
 
-raise-requires : tie.Need-raise-requires
+raise-requires : tie.Need-raise-raised-requires
 raise-requires c κs =
     let m = c.before.before.before.before.before.before in
     let o = m.before.before.before in
@@ -56,13 +56,13 @@ raise-requires c κs =
       s.requires.0,
       (
         entry-placed s.args.limiter s.args.keys.now s.requires.0 s.args.key s.args.limit s.args.reading s.args.cluster-size
-            s.requires.1.1.0.0 _ o.entry.ensures,
-        ap (λ (g : Gcra). valid_quota (units_in s.args.limiter) g.quota) m.ask-meter.ensures.1
-            ∙ ap (valid_quota (units_in s.args.limiter)) (check-quota o.entry.result.state.gcra s.args.reading) ∙ quota o,
+            s.requires.1.1.0.0 _ o.entry-found.ensures,
+        ap (λ (g : Gcra). valid_quota (units_in s.args.limiter) g.quota) m.ask_meter-asked.ensures.1
+            ∙ ap (valid_quota (units_in s.args.limiter)) (check-quota o.entry-found.result.state.gcra s.args.reading) ∙ quota o,
       ),
     )
 
-returns : tie.Need-returns
+returns : tie.Need-returns-then-raised-ne0
 unfolding units_for
 returns c =
     let x = c.before.before.before.before.before in
@@ -74,13 +74,13 @@ returns c =
     let o = m.before.before.before in
     let s = o.before.before.before.before in
     with-no s.args.limiter s.args.keys.now s.args.shadows.now s.args.key s.args.limit s.args.shadow s.args.reading
-    s.args.cluster-size o.entry.result o.entry.ensures
-    m.ask-meter.result.decision m.ask-meter.result.gcra w.shadow-quota.result t.try-shadow.result d₁.denied.result
-    d₂.denied2.result x.raise.result x.raise.new.1.0
-    m.ask-meter.ensures.0 m.ask-meter.ensures.1 w.shadow-quota.ensures t.try-shadow.ensures d₁.denied.ensures
-    d₂.denied2.ensures x.raise.ensures c.if1.true
+    s.args.cluster-size o.entry-found.result o.entry-found.ensures
+    m.ask_meter-asked.result.decision m.ask_meter-asked.result.gcra w.shadow_quota-wanted.result t.try_shadow-tried.result d₁.denied-denials.result
+    d₂.denied-tried_denials.result x.raise-raised.result x.raise-raised.new.1.0
+    m.ask_meter-asked.ensures.0 m.ask_meter-asked.ensures.1 w.shadow_quota-wanted.ensures t.try_shadow-tried.ensures d₁.denied-denials.ensures
+    d₂.denied-tried_denials.ensures x.raise-raised.ensures c.if-raised-ne0.true
 
-put-shadow-requires : tie.Need-put-shadow-requires
+put-shadow-requires : tie.Need-put_shadow-count-requires
 unfolding units_for
 put-shadow-requires c κs =
     let x = c.before.before.before.before.before.before in
@@ -93,20 +93,20 @@ put-shadow-requires c κs =
     let s = o.before.before.before.before in (
       s.requires.1.0,
       (
-        t.try-shadow.ensures.place,
+        t.try_shadow-tried.ensures.place,
         (
-          t.try-shadow.ensures.quota,
+          t.try_shadow-tried.ensures.quota,
           with-room s.args.limiter s.args.keys.now s.args.shadows.now s.args.key s.args.limit s.args.shadow
-              s.args.reading s.args.cluster-size o.entry.result o.entry.ensures
-              m.ask-meter.result.decision m.ask-meter.result.gcra w.shadow-quota.result t.try-shadow.result d₁.denied.result
-              d₂.denied2.result x.raise.result x.raise.new.1.0
-              m.ask-meter.ensures.0 m.ask-meter.ensures.1 w.shadow-quota.ensures t.try-shadow.ensures d₁.denied.ensures
-              d₂.denied2.ensures x.raise.ensures s.requires.1.1.1 c.before.if1.false,
+              s.args.reading s.args.cluster-size o.entry-found.result o.entry-found.ensures
+              m.ask_meter-asked.result.decision m.ask_meter-asked.result.gcra w.shadow_quota-wanted.result t.try_shadow-tried.result d₁.denied-denials.result
+              d₂.denied-tried_denials.result x.raise-raised.result x.raise-raised.new.1.0
+              m.ask_meter-asked.ensures.0 m.ask_meter-asked.ensures.1 w.shadow_quota-wanted.ensures t.try_shadow-tried.ensures d₁.denied-denials.ensures
+              d₂.denied-tried_denials.ensures x.raise-raised.ensures s.requires.1.1.1 c.before.if-raised-ne0.false,
         ),
       ),
     )
 
-returns-2 : tie.Need-returns-2
+returns-2 : tie.Need-returns
 unfolding units_for
 returns-2 c =
     let p = c.before.before.before in
@@ -120,15 +120,15 @@ returns-2 c =
     let o = m.before.before.before in
     let s = o.before.before.before.before in
     with-yes s.args.limiter s.args.keys.now s.args.shadows.now s.args.key s.args.limit s.args.shadow s.args.reading
-    s.args.cluster-size o.entry.result o.entry.ensures
-    m.ask-meter.result.decision m.ask-meter.result.gcra w.shadow-quota.result t.try-shadow.result d₁.denied.result
-    d₂.denied2.result x.raise.result x.raise.new.1.0
-    m.ask-meter.ensures.0 m.ask-meter.ensures.1 w.shadow-quota.ensures t.try-shadow.ensures d₁.denied.ensures
-    d₂.denied2.ensures x.raise.ensures e.if1.false
-    _ _ _ p.put-shadow.ensures c.with-shadows.ensures
+    s.args.cluster-size o.entry-found.result o.entry-found.ensures
+    m.ask_meter-asked.result.decision m.ask_meter-asked.result.gcra w.shadow_quota-wanted.result t.try_shadow-tried.result d₁.denied-denials.result
+    d₂.denied-tried_denials.result x.raise-raised.result x.raise-raised.new.1.0
+    m.ask_meter-asked.ensures.0 m.ask_meter-asked.ensures.1 w.shadow_quota-wanted.ensures t.try_shadow-tried.ensures d₁.denied-denials.ensures
+    d₂.denied-tried_denials.ensures x.raise-raised.ensures e.if-raised-ne0.false
+    _ _ _ p.put_shadow-count.ensures c.with_shadows.ensures
 
-pub trace-with-spec : {M : Type 1} → statement M
-trace-with-spec =
+pub trace_with_spec : {M : Type 1} → statement M
+trace_with_spec =
     tie.close
     (tie.spec
     (λ c κs. search rules)

@@ -7,14 +7,14 @@ use Rattle.nultiway.specs.Calls.{number_of}
 use Rattle.nultiway.proofs.answers.change_number.Statement.{statement}
 use Rattle.nultiway.proofs.answers.change_number.Tie as tie
 
-returns : tie.Need-returns
+returns : tie.Need-returns-in-No
 returns c = sym (ap (λ (x : ChangeAnswer). number_of (change_answer x)) c.before.said.given.1)
 
-returns-2 : tie.Need-returns-2
+returns-2 : tie.Need-returns-in-Done
 returns-2 c = sym (ap (λ (x : ChangeAnswer). number_of (change_answer x)) c.enum_told.given.1)
 
-pub change-number-spec : {M : Type 1} → statement M
-change-number-spec =
+pub change_number_spec : {M : Type 1} → statement M
+change_number_spec =
     tie.close
     (tie.spec
     (λ c. search rules)

@@ -8,10 +8,10 @@ returns : tie.Need-returns
 returns c =
     let g = c.before.before.before.before.before.args.config in
     λ i.
-    c.before.before.before.to-bits.ensures i
+    c.before.before.before.to_bits.ensures i
     ∷ g.limit.burst
-    ∷ c.before.to-bits2.ensures i
-    ∷ c.to-bits3.ensures i
+    ∷ c.before.to_bits-2.ensures i
+    ∷ c.to_bits-3.ensures i
     ∷ g.cooldown
     ∷ g.hot_set_size
     ∷ g.max_tracked_keys
@@ -19,8 +19,8 @@ returns c =
     ∷ g.table_size
     ∷ []
 
-pub config-words-spec : {M : Type 1} → statement M
-config-words-spec =
+pub config_words_spec : {M : Type 1} → statement M
+config_words_spec =
     tie.close
     (tie.spec
     (λ c κs. search rules)

@@ -11,7 +11,7 @@ use Rattle.nultiway.proofs.Calls.CallLaws.{said_put}
 use Rattle.nultiway.proofs.answers.put_config.Statement.{statement}
 use Rattle.nultiway.proofs.answers.put_config.Tie as tie
 
-returns-2 : tie.Need-returns-2
+returns-2 : tie.Need-returns-in-Is
 returns-2 c =
     let p = c.before.before in
     let w = p.before.before.before in
@@ -19,10 +19,10 @@ returns-2 c =
     let s = m.before.before.before in
     said_put (config_answer s.args.said) config_words s.args.to.now _ _
     (ap (λ (x : ConfigAnswer). config_answer x) m.said2.given.1)
-    (p.put.ensures ∙ ap (λ (k : List ℕ). paste 0 k s.args.to.now) w.config-words.ensures)
+    (p.put.ensures ∙ ap (λ (k : List ℕ). paste 0 k s.args.to.now) w.config_words-w.ensures)
 
-pub put-config-spec : {M : Type 1} → statement M
-put-config-spec =
+pub put_config_spec : {M : Type 1} → statement M
+put_config_spec =
     tie.close
     (tie.spec
     (λ c. search rules)

@@ -11,17 +11,17 @@ use Rattle.nultiway.proofs.Calls.CallLaws.{said_put}
 use Rattle.nultiway.proofs.answers.put_decision.Statement.{statement}
 use Rattle.nultiway.proofs.answers.put_decision.Tie as tie
 
-returns-2 : tie.Need-returns-2
+returns-2 : tie.Need-returns-in-Is
 returns-2 c =
     let p = c.before.before in
     let w = p.before.before.before in
     let m = w.before.before in
     let s = m.before.before.before in
     said_put (check_answer s.args.said) decision_words s.args.to.now _ _ (ap (λ (x : CheckAnswer). check_answer x) m.said2.given.1)
-    (p.put.ensures ∙ ap (λ (k : List ℕ). paste 0 k s.args.to.now) w.decision-words.ensures)
+    (p.put.ensures ∙ ap (λ (k : List ℕ). paste 0 k s.args.to.now) w.decision_words-w.ensures)
 
-pub put-decision-spec : {M : Type 1} → statement M
-put-decision-spec =
+pub put_decision_spec : {M : Type 1} → statement M
+put_decision_spec =
     tie.close
     (tie.spec
     (λ c. search rules)

@@ -11,7 +11,7 @@ use Rattle.nultiway.proofs.Calls.CallLaws.{said_put}
 use Rattle.nultiway.proofs.answers.put_flag.Statement.{statement}
 use Rattle.nultiway.proofs.answers.put_flag.Tie as tie
 
-returns-2 : tie.Need-returns-2
+returns-2 : tie.Need-returns-in-Is
 returns-2 c =
     let p = c.before.before in
     let w = p.before.before.before in
@@ -21,8 +21,8 @@ returns-2 c =
     (ap (λ (x : FlagAnswer). flag_answer x) m.said2.given.1)
     (p.put.ensures ∙ ap (λ (b : ℕ). paste 0 (b ∷ []) s.args.to.now) w.flag_word.ensures)
 
-pub put-flag-spec : {M : Type 1} → statement M
-put-flag-spec =
+pub put_flag_spec : {M : Type 1} → statement M
+put_flag_spec =
     tie.close
     (tie.spec
     (λ c. search rules)

@@ -8,7 +8,7 @@ use Rattle.nultiway.proofs.Calls.CallLaws.{said_put}
 use Rattle.nultiway.proofs.answers.put_key_quota.Statement.{statement}
 use Rattle.nultiway.proofs.answers.put_key_quota.Tie as tie
 
-returns-2 : tie.Need-returns-2
+returns-2 : tie.Need-returns-in-Untracked
 returns-2 c =
     let p = c.before.before in
     let m = p.before.before.before in
@@ -17,17 +17,17 @@ returns-2 c =
     (ap (λ (x : KeyQuotaAnswer). key_quota_answer x) m.enum_told.given.1)
     p.put.ensures
 
-returns-3 : tie.Need-returns-3
+returns-3 : tie.Need-returns-in-Is
 returns-3 c =
     let p = c.before.before in
     let m = p.before.before.before.before.before in
     let s = m.before.before.before in
     said_put (key_quota_answer s.args.said) key_quota_words s.args.to.now _ _
     (ap (λ (x : KeyQuotaAnswer). key_quota_answer x) m.said2.given.1)
-    p.put2.ensures
+    p.put-in-Is.ensures
 
-pub put-key-quota-spec : {M : Type 1} → statement M
-put-key-quota-spec =
+pub put_key_quota_spec : {M : Type 1} → statement M
+put_key_quota_spec =
     tie.close
     (tie.spec
     (λ c. search rules)

@@ -8,15 +8,15 @@ use Rattle.nultiway.proofs.Calls.CallLaws.{said_put}
 use Rattle.nultiway.proofs.answers.put_len.Statement.{statement}
 use Rattle.nultiway.proofs.answers.put_len.Tie as tie
 
-returns-2 : tie.Need-returns-2
+returns-2 : tie.Need-returns-in-Is
 returns-2 c =
     let p = c.before.before in
     let m = p.before.before.before.before in
     let s = m.before.before.before in
     said_put (len_answer s.args.said) one_word s.args.to.now _ _ (ap (λ (x : LenAnswer). len_answer x) m.said2.given.1) p.put.ensures
 
-pub put-len-spec : {M : Type 1} → statement M
-put-len-spec =
+pub put_len_spec : {M : Type 1} → statement M
+put_len_spec =
     tie.close
     (tie.spec
     (λ c. search rules)

@@ -11,7 +11,7 @@ use Rattle.nultiway.proofs.Calls.CallLaws.{said_put}
 use Rattle.nultiway.proofs.answers.put_limit.Statement.{statement}
 use Rattle.nultiway.proofs.answers.put_limit.Tie as tie
 
-returns-2 : tie.Need-returns-2
+returns-2 : tie.Need-returns-in-Untracked
 returns-2 c =
     let p = c.before.before in
     let m = p.before.before.before in
@@ -20,7 +20,7 @@ returns-2 c =
     (ap (λ (x : LimitAnswer). limit_answer x) m.enum_told.given.1)
     p.put.ensures
 
-returns-3 : tie.Need-returns-3
+returns-3 : tie.Need-returns-in-Is
 returns-3 c =
     let p = c.before.before in
     let w = p.before.before.before.before in
@@ -28,10 +28,10 @@ returns-3 c =
     let s = m.before.before.before in
     said_put (limit_answer s.args.said) limit_words s.args.to.now _ _
     (ap (λ (x : LimitAnswer). limit_answer x) m.said2.given.1)
-    (p.put2.ensures ∙ ap (λ (b : ℕ). paste 0 (1 ∷ b ∷ m.said2.given.0.0.burst ∷ []) s.args.to.now) w.to-bits.ensures)
+    (p.put-in-Is.ensures ∙ ap (λ (b : ℕ). paste 0 (1 ∷ b ∷ m.said2.given.0.0.burst ∷ []) s.args.to.now) w.to_bits.ensures)
 
-pub put-limit-spec : {M : Type 1} → statement M
-put-limit-spec =
+pub put_limit_spec : {M : Type 1} → statement M
+put_limit_spec =
     tie.close
     (tie.spec
     (λ c. search rules)

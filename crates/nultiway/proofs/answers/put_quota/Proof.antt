@@ -8,7 +8,7 @@ use Rattle.nultiway.proofs.Calls.CallLaws.{said_put}
 use Rattle.nultiway.proofs.answers.put_quota.Statement.{statement}
 use Rattle.nultiway.proofs.answers.put_quota.Tie as tie
 
-returns-2 : tie.Need-returns-2
+returns-2 : tie.Need-returns-in-Is
 returns-2 c =
     let p = c.before.before in
     let m = p.before.before.before.before.before in
@@ -17,8 +17,8 @@ returns-2 c =
     (ap (λ (x : QuotaAnswer). quota_answer x) m.said2.given.1)
     p.put.ensures
 
-pub put-quota-spec : {M : Type 1} → statement M
-put-quota-spec =
+pub put_quota_spec : {M : Type 1} → statement M
+put_quota_spec =
     tie.close
     (tie.spec
     (λ c. search rules)

@@ -11,7 +11,7 @@ use Rattle.nultiway.proofs.Calls.CallLaws.{said_put}
 use Rattle.nultiway.proofs.answers.put_rate.Statement.{statement}
 use Rattle.nultiway.proofs.answers.put_rate.Tie as tie
 
-returns-2 : tie.Need-returns-2
+returns-2 : tie.Need-returns-in-Is
 returns-2 c =
     let p = c.before.before in
     let w = p.before.before.before in
@@ -19,10 +19,10 @@ returns-2 c =
     let s = m.before.before.before in
     said_put (rate_answer s.args.said) float_words s.args.to.now _ _
     (ap (λ (x : RateAnswer). rate_answer x) m.said2.given.1)
-    (p.put.ensures ∙ ap (λ (b : ℕ). paste 0 (b ∷ []) s.args.to.now) w.to-bits.ensures)
+    (p.put.ensures ∙ ap (λ (b : ℕ). paste 0 (b ∷ []) s.args.to.now) w.to_bits.ensures)
 
-pub put-rate-spec : {M : Type 1} → statement M
-put-rate-spec =
+pub put_rate_spec : {M : Type 1} → statement M
+put_rate_spec =
     tie.close
     (tie.spec
     (λ c. search rules)

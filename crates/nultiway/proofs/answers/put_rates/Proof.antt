@@ -11,7 +11,7 @@ use Rattle.nultiway.proofs.Calls.CallLaws.{said_put}
 use Rattle.nultiway.proofs.answers.put_rates.Statement.{statement}
 use Rattle.nultiway.proofs.answers.put_rates.Tie as tie
 
-returns-2 : tie.Need-returns-2
+returns-2 : tie.Need-returns-in-Untracked
 returns-2 c =
     let p = c.before.before in
     let m = p.before.before.before in
@@ -20,7 +20,7 @@ returns-2 c =
     (ap (λ (x : RatesAnswer). rates_answer x) m.enum_told.given.1)
     p.put.ensures
 
-returns-3 : tie.Need-returns-3
+returns-3 : tie.Need-returns-in-Is
 returns-3 c =
     let p = c.before.before in
     let w = p.before.before.before in
@@ -28,10 +28,10 @@ returns-3 c =
     let s = m.before.before.before in
     said_put (rates_answer s.args.said) rates_words s.args.to.now _ _
     (ap (λ (x : RatesAnswer). rates_answer x) m.said2.given.1)
-    (p.put2.ensures ∙ ap (λ (k : List ℕ). paste 0 k s.args.to.now) w.rates-words.ensures)
+    (p.put-in-Is.ensures ∙ ap (λ (k : List ℕ). paste 0 k s.args.to.now) w.rates_words-w.ensures)
 
-pub put-rates-spec : {M : Type 1} → statement M
-put-rates-spec =
+pub put_rates_spec : {M : Type 1} → statement M
+put_rates_spec =
     tie.close
     (tie.spec
     (λ c. search rules)

@@ -8,7 +8,7 @@ use Rattle.nultiway.proofs.Calls.CallLaws.{said_put}
 use Rattle.nultiway.proofs.answers.put_since.Statement.{statement}
 use Rattle.nultiway.proofs.answers.put_since.Tie as tie
 
-returns-2 : tie.Need-returns-2
+returns-2 : tie.Need-returns-in-NotHot
 returns-2 c =
     let p = c.before.before in
     let m = p.before.before.before in
@@ -17,17 +17,17 @@ returns-2 c =
     (ap (λ (x : SinceAnswer). since_answer x) m.enum_told.given.1)
     p.put.ensures
 
-returns-3 : tie.Need-returns-3
+returns-3 : tie.Need-returns-in-Since
 returns-3 c =
     let p = c.before.before in
     let m = p.before.before.before.before in
     let s = m.before.before.before in
     said_put (since_answer s.args.said) time_words s.args.to.now _ _
     (ap (λ (x : SinceAnswer). since_answer x) m.said2.given.1)
-    p.put2.ensures
+    p.put-in-Since.ensures
 
-pub put-since-spec : {M : Type 1} → statement M
-put-since-spec =
+pub put_since_spec : {M : Type 1} → statement M
+put_since_spec =
     tie.close
     (tie.spec
     (λ c. search rules)

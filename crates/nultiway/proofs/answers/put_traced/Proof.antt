@@ -11,7 +11,7 @@ use Rattle.nultiway.proofs.Calls.CallLaws.{said_put}
 use Rattle.nultiway.proofs.answers.put_traced.Statement.{statement}
 use Rattle.nultiway.proofs.answers.put_traced.Tie as tie
 
-returns-2 : tie.Need-returns-2
+returns-2 : tie.Need-returns-in-Is
 returns-2 c =
     let p = c.before.before in
     let w = p.before.before.before in
@@ -19,10 +19,10 @@ returns-2 c =
     let s = m.before.before.before in
     said_put (traced_answer s.args.said) traced_words s.args.to.now _ _
     (ap (λ (x : TracedAnswer). traced_answer x) m.said2.given.1)
-    (p.put.ensures ∙ ap (λ (k : List ℕ). paste 0 k s.args.to.now) w.traced-words.ensures)
+    (p.put.ensures ∙ ap (λ (k : List ℕ). paste 0 k s.args.to.now) w.traced_words-w.ensures)
 
-pub put-traced-spec : {M : Type 1} → statement M
-put-traced-spec =
+pub put_traced_spec : {M : Type 1} → statement M
+put_traced_spec =
     tie.close
     (tie.spec
     (λ c. search rules)

@@ -10,16 +10,16 @@ use Rattle.nultiway.proofs.Calls.CallLaws.{decision-apart}
 use Rattle.nultiway.proofs.answers.shadow_words.Statement.{statement}
 use Rattle.nultiway.proofs.answers.shadow_words.Tie as tie
 
-returns-2 : tie.Need-returns-2
+returns-2 : tie.Need-returns-in-Is
 returns-2 c =
     let m = c.before.before in
-    let e = c.decision-words.ensures in
+    let e = c.decision_words-w.ensures in
     (λ i. 1 ∷ get_or (e i) 0 0 ∷ get_or (e i) 1 0 ∷ [])
     ∙ decision-apart m.shadow.given.0.0
     ∙ sym (ap (λ (x : ShadowDecision). shadow_words (shadows_decision x)) m.shadow.given.1)
 
-pub shadow-words-spec : {M : Type 1} → statement M
-shadow-words-spec =
+pub shadow_words_spec : {M : Type 1} → statement M
+shadow_words_spec =
     tie.close
     (tie.spec
     (λ c. search rules)

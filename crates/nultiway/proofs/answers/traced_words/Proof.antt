@@ -10,14 +10,14 @@ use Rattle.nultiway.proofs.answers.traced_words.Tie as tie
 
 returns : tie.Need-returns
 returns c =
-    let d = c.before.decision-words.ensures in
-    let s = c.shadow-words.ensures in
+    let d = c.before.decision_words-d.ensures in
+    let s = c.shadow_words-s.ensures in
     let x = c.before.before.args.traced in
     (λ i. get_or (d i) 0 0 ∷ get_or (d i) 1 0 ∷ get_or (s i) 0 0 ∷ get_or (s i) 1 0 ∷ get_or (s i) 2 0 ∷ [])
     ∙ traced-apart x.decision (shadows_decision x.shadow)
 
-pub traced-words-spec : {M : Type 1} → statement M
-traced-words-spec =
+pub traced_words_spec : {M : Type 1} → statement M
+traced_words_spec =
     tie.close
     (tie.spec
     (λ c κs. search rules)

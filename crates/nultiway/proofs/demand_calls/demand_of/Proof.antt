@@ -8,10 +8,10 @@ returns : tie.Need-returns
 returns c =
     let f = c.before.before in
     let t = f.before.before in
-    demand-read t.before.before.before.before.before.args.words.now f.from-bits.ensures t.times-of.ensures
+    demand-read t.before.before.before.before.before.args.words.now f.from_bits-current_rate.ensures t.times_of-times.ensures
 
-pub demand-of-spec : {M : Type 1} → statement M
-demand-of-spec =
+pub demand_of_spec : {M : Type 1} → statement M
+demand_of_spec =
     tie.close
     (tie.spec
     (λ c. search rules)

@@ -4,14 +4,14 @@ use Rattle.nultiway.proofs.Words.DemandWordLaws.{words-with}
 use Rattle.nultiway.proofs.demand_calls.demand_words.Statement.{statement}
 use Rattle.nultiway.proofs.demand_calls.demand_words.Tie as tie
 
-returns : tie.Need-returns
-returns c = words-with _ c.before.before.to-bits.ensures c.enum_told.given.1
+returns : tie.Need-returns-in-Unset
+returns c = words-with _ c.before.before.to_bits-rate.ensures c.enum_told.given.1
 
-returns-2 : tie.Need-returns-2
-returns-2 c = words-with _ c.before.before.before.to-bits.ensures c.before.times.given.1
+returns-2 : tie.Need-returns-in-At
+returns-2 c = words-with _ c.before.before.before.to_bits-rate.ensures c.before.times.given.1
 
-pub demand-words-spec : {M : Type 1} → statement M
-demand-words-spec =
+pub demand_words_spec : {M : Type 1} → statement M
+demand_words_spec =
     tie.close
     (tie.spec
     (λ c κs. search rules)

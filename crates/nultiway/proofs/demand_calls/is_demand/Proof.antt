@@ -5,16 +5,16 @@ use Rattle.questions.proofs.Tests.{stop, goes}
 use Rattle.nultiway.proofs.demand_calls.is_demand.Statement.{statement}
 use Rattle.nultiway.proofs.demand_calls.is_demand.Tie as tie
 
-returns : tie.Need-returns
+returns : tie.Need-returns-then-is_time
 returns c =
     let t = c.before.before.before in
-    goes _ _ _ (sym t.before.is-time.ensures ∙ t.if1.true) c.is-time2.ensures
+    goes _ _ _ (sym t.before.is_time.ensures ∙ t.if-is_time.true) c.is_time-then-is_time.ensures
 
-returns-2 : tie.Need-returns-2
-returns-2 c = stop _ _ (sym c.before.is-time.ensures ∙ c.if1.false)
+returns-2 : tie.Need-returns-else-is_time
+returns-2 c = stop _ _ (sym c.before.is_time.ensures ∙ c.if-is_time.false)
 
-pub is-demand-spec : {M : Type 1} → statement M
-is-demand-spec =
+pub is_demand_spec : {M : Type 1} → statement M
+is_demand_spec =
     tie.close
     (tie.spec
     (λ c. search rules)

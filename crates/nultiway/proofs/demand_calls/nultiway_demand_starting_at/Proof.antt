@@ -6,23 +6,23 @@ use Rattle.nultiway.proofs.Calls.RoomLaws.{called-short, called-room}
 use Rattle.nultiway.proofs.demand_calls.nultiway_demand_starting_at.Statement.{statement}
 use Rattle.nultiway.proofs.demand_calls.nultiway_demand_starting_at.Tie as tie
 
-returns-2 : tie.Need-returns-2
+returns-2 : tie.Need-returns
 returns-2 c =
     let p = c.before.before in
     let k = p.before in
-    called-room k.before.before.if1.false
+    called-room k.before.before.if-demand-lt-DEMAND_WORDS.false
     record {
-      result = k.starting-at.result;
-      kept = ap given k.starting-at.ensures;
+      result = k.starting_at.result;
+      kept = ap given k.starting_at.ensures;
       number = refl;
-      answer = p.put-demand.ensures;
+      answer = p.put_demand.ensures;
     }
 
-pub nultiway-demand-starting-at-spec : {M : Type 1} → statement M
-nultiway-demand-starting-at-spec =
+pub nultiway_demand_starting_at_spec : {M : Type 1} → statement M
+nultiway_demand_starting_at_spec =
     tie.close
     (tie.spec
-    (λ c. called-short c.if1.true refl)
+    (λ c. called-short c.if-demand-lt-DEMAND_WORDS.true refl)
     (λ c κs. search rules)
     (λ c κs. search rules)
     (λ c. search rules)

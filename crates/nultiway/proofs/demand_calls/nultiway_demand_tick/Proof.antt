@@ -8,30 +8,30 @@ use Rattle.nultiway.proofs.demand_calls.nultiway_demand_tick.Statement.{statemen
 use Rattle.nultiway.proofs.demand_calls.nultiway_demand_tick.Tie as tie
 
 -- the questions of the lent words are passed
-passed : (e : tie.Else1) → let a = e.before.before.before.before.args in Passed a.demand.now true
+passed : (e : tie.Else-no-ne0) → let a = e.before.before.before.before.args in Passed a.demand.now true
 passed e =
     let a = e.before.before.before.before.args in
-    demand-passed a.demand.now true e.before.ask-demand.ensures e.if1.false
+    demand-passed a.demand.now true e.before.ask_demand-no.ensures e.if-no-ne0.false
 
-returns : tie.Need-returns
-returns c = refused-call _ _ c.before.ask-demand.ensures c.if1.true refl
+returns : tie.Need-returns-then-no-ne0
+returns c = refused-call _ _ c.before.ask_demand-no.ensures c.if-no-ne0.true refl
 
-demand-of-requires : tie.Need-demand-of-requires
+demand-of-requires : tie.Need-demand_of-before-requires
 demand-of-requires c κs = (passed c.before).long
 
-put-changed-requires : tie.Need-put-changed-requires
+put-changed-requires : tie.Need-put_changed-requires
 put-changed-requires c κs = (passed c.before.before.before.before).long
 
-returns-2 : tie.Need-returns-2
+returns-2 : tie.Need-returns
 returns-2 c =
     let p = c.before.before in
     let k = p.before in
     let d = k.before.before in
     passed-call _ _ (passed d.before.before).all
-    (tells d.demand-of.ensures k.tick.result k.tick.ensures p.put-changed.ensures.0 p.put-changed.ensures.1)
+    (tells d.demand_of-before.ensures k.tick.result k.tick.ensures p.put_changed.ensures.0 p.put_changed.ensures.1)
 
-pub nultiway-demand-tick-spec : {M : Type 1} → statement M
-nultiway-demand-tick-spec =
+pub nultiway_demand_tick_spec : {M : Type 1} → statement M
+nultiway_demand_tick_spec =
     tie.close
     (tie.spec
     (λ c κs. search rules)

@@ -6,14 +6,14 @@ use Rattle.nultiway.proofs.Calls.CallLaws.{said_put}
 use Rattle.nultiway.proofs.demand_calls.put_changed.Statement.{statement}
 use Rattle.nultiway.proofs.demand_calls.put_changed.Tie as tie
 
-returns-2 : tie.Need-returns-2
+returns-2 : tie.Need-returns-in-Is
 returns-2 c =
     let said2 = c.before.before.before.before.before.said2 in
-    let put-demand = c.before.before.put-demand in
+    let put-demand = c.before.before.put_demand in
     said_put _ _ _ _ _ (ap demand_answer said2.given.1) put-demand.ensures
 
-pub put-changed-spec : {M : Type 1} → statement M
-put-changed-spec =
+pub put_changed_spec : {M : Type 1} → statement M
+put_changed_spec =
     tie.close
     (tie.spec
     (λ c. search rules)

@@ -10,11 +10,11 @@ use Rattle.nultiway.proofs.demand_calls.put_demand.Tie as tie
 returns : tie.Need-returns
 returns c =
     let a = c.before.before.before.before.before.before.before.args in
-    let demand-words = c.before.before.before.before.before.demand-words in
+    let demand-words = c.before.before.before.before.before.demand_words-w in
     c.before.before.put.ensures ∙ ap (λ (ws : List ℕ). paste 0 ws a.words.now) demand-words.ensures
 
-pub put-demand-spec : {M : Type 1} → statement M
-put-demand-spec =
+pub put_demand_spec : {M : Type 1} → statement M
+put_demand_spec =
     tie.close
     (tie.spec
     (λ c κs. search rules)

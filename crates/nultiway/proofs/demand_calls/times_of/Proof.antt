@@ -4,8 +4,8 @@ use Rattle.nultiway.proofs.Words.DemandWordLaws.{times-set}
 use Rattle.nultiway.proofs.demand_calls.times_of.Statement.{statement}
 use Rattle.nultiway.proofs.demand_calls.times_of.Tie as tie
 
-returns-2 : tie.Need-returns-2
-returns-2 c = times-set _ _ _ c.if1.false
+returns-2 : tie.Need-returns
+returns-2 c = times-set _ _ _ c.if-flag-eq0.false
 
-pub times-of-spec : {M : Type 1} → statement M
-times-of-spec = tie.close (tie.spec (λ c. search rules) returns-2)
+pub times_of_spec : {M : Type 1} → statement M
+times_of_spec = tie.close (tie.spec (λ c. search rules) returns-2)

@@ -5,7 +5,7 @@ use Rattle.nultiway.proofs.Words.GcraWordLaws.{gcra-burst, gcra-read}
 use Rattle.nultiway.proofs.gcra_calls.gcra_of.Statement.{statement}
 use Rattle.nultiway.proofs.gcra_calls.gcra_of.Tie as tie
 
-cast-t8 : tie.Need-overflow-cast-t8
+cast-t8 : tie.Need-overflow_cast-quota
 cast-t8 c =
     let a = c.before.before.before.args in
     omega (arith, gcra-burst a.words.now c.before.before.before.requires.1)
@@ -13,10 +13,10 @@ cast-t8 c =
 returns : tie.Need-returns
 returns c =
     let a = c.before.before.before.before.before.before.args in
-    gcra-read a.words.now c.tat-of.ensures
+    gcra-read a.words.now c.tat_of-tat.ensures
 
-pub gcra-of-spec : {M : Type 1} → statement M
-gcra-of-spec =
+pub gcra_of_spec : {M : Type 1} → statement M
+gcra_of_spec =
     tie.close
     (tie.spec
     (λ c. search rules)

@@ -4,16 +4,16 @@ use Rattle.nultiway.proofs.Words.GcraWordLaws.{is-gcra-yes, is-gcra-no}
 use Rattle.nultiway.proofs.gcra_calls.is_gcra.Statement.{statement}
 use Rattle.nultiway.proofs.gcra_calls.is_gcra.Tie as tie
 
-returns : tie.Need-returns
+returns : tie.Need-returns-then-words-lt-BURSTS
 returns c =
-    let if1 = c.before.before.before.if1 in
-    is-gcra-yes _ _ if1.true c.is-time.ensures
+    let if1 = c.before.before.before.if-words-lt-BURSTS in
+    is-gcra-yes _ _ if1.true c.is_time.ensures
 
-returns-2 : tie.Need-returns-2
-returns-2 c = is-gcra-no _ _ c.if1.false
+returns-2 : tie.Need-returns-else-words-lt-BURSTS
+returns-2 c = is-gcra-no _ _ c.if-words-lt-BURSTS.false
 
-pub is-gcra-spec : {M : Type 1} → statement M
-is-gcra-spec =
+pub is_gcra_spec : {M : Type 1} → statement M
+is_gcra_spec =
     tie.close
     (tie.spec
     (λ c. search rules)

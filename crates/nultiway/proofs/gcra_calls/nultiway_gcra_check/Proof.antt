@@ -9,34 +9,34 @@ use Rattle.nultiway.proofs.gcra_calls.nultiway_gcra_check.Statement.{statement}
 use Rattle.nultiway.proofs.gcra_calls.nultiway_gcra_check.Tie as tie
 
 -- the questions of the lent words are passed
-passed : (e : tie.Else1) → let a = e.before.before.before.before.before.args in Passed a.gcra.now (leb 2 (length a.answer.now))
+passed : (e : tie.Else-no-ne0) → let a = e.before.before.before.before.before.args in Passed a.gcra.now (leb 2 (length a.answer.now))
 passed e =
     let a = e.before.before.before.before.before.args in
-    gcra-passed a.gcra.now (leb 2 (length a.answer.now)) e.before.ask-gcra.ensures e.if1.false
+    gcra-passed a.gcra.now (leb 2 (length a.answer.now)) e.before.ask_gcra-no.ensures e.if-no-ne0.false
 
-returns : tie.Need-returns
-returns c = refused-call _ _ c.before.ask-gcra.ensures c.if1.true (refl, refl)
+returns : tie.Need-returns-then-no-ne0
+returns c = refused-call _ _ c.before.ask_gcra-no.ensures c.if-no-ne0.true (refl, refl)
 
-gcra-of-requires : tie.Need-gcra-of-requires
+gcra-of-requires : tie.Need-gcra_of-meter-requires
 gcra-of-requires c κs = let p = passed c.before in (p.long, p.gcra)
 
-put-gcra-requires : tie.Need-put-gcra-requires
+put-gcra-requires : tie.Need-put_gcra-requires
 put-gcra-requires c κs = (passed c.before.before.before.before.before).long
 
-put-decision-requires : tie.Need-put-decision-requires
+put-decision-requires : tie.Need-put_decision-requires
 put-decision-requires c κs = room_fits _ _ (passed c.before.before.before.before.before.before.before.before.before).fits
 
-returns-2 : tie.Need-returns-2
+returns-2 : tie.Need-returns
 returns-2 c =
-    let gcra-of = c.before.before.before.before.before.before.before.before.before.before.gcra-of in
-    let check = c.before.before.before.before.before.before.before.before.before.check in
-    let put-decision = c.before.before.put-decision in
-    let put-gcra = c.before.before.before.before.before.before.put-gcra in
+    let gcra-of = c.before.before.before.before.before.before.before.before.before.before.gcra_of-meter in
+    let check = c.before.before.before.before.before.before.before.before.before.check-checked in
+    let put-decision = c.before.before.put_decision in
+    let put-gcra = c.before.before.before.before.before.before.put_gcra in
     passed-call _ _ (passed c.before.before.before.before.before.before.before.before.before.before.before.before).all
     (answers gcra-of.ensures check.result check.ensures put-decision.ensures.0 put-gcra.ensures put-decision.ensures.1)
 
-pub nultiway-gcra-check-spec : {M : Type 1} → statement M
-nultiway-gcra-check-spec =
+pub nultiway_gcra_check_spec : {M : Type 1} → statement M
+nultiway_gcra_check_spec =
     tie.close
     (tie.spec
     (λ c κs. search rules)

@@ -9,30 +9,30 @@ use Rattle.nultiway.proofs.gcra_calls.nultiway_gcra_has_debt.Statement.{statemen
 use Rattle.nultiway.proofs.gcra_calls.nultiway_gcra_has_debt.Tie as tie
 
 -- the questions of the lent words are passed
-passed : (e : tie.Else1) → let a = e.before.before.before.before.args in Passed a.gcra.now (leb 1 (length a.answer.now))
+passed : (e : tie.Else-no-ne0) → let a = e.before.before.before.before.args in Passed a.gcra.now (leb 1 (length a.answer.now))
 passed e =
     let a = e.before.before.before.before.args in
-    gcra-passed a.gcra.now (leb 1 (length a.answer.now)) e.before.ask-gcra.ensures e.if1.false
+    gcra-passed a.gcra.now (leb 1 (length a.answer.now)) e.before.ask_gcra-no.ensures e.if-no-ne0.false
 
-returns : tie.Need-returns
-returns c = refused-call _ _ c.before.ask-gcra.ensures c.if1.true refl
+returns : tie.Need-returns-then-no-ne0
+returns c = refused-call _ _ c.before.ask_gcra-no.ensures c.if-no-ne0.true refl
 
-gcra-of-requires : tie.Need-gcra-of-requires
+gcra-of-requires : tie.Need-gcra_of-meter-requires
 gcra-of-requires c κs = let p = passed c in (p.long, p.gcra)
 
-put-debt-requires : tie.Need-put-debt-requires
+put-debt-requires : tie.Need-put_debt-requires
 put-debt-requires c κs = room_fits _ _ (passed c.before.before.before).fits
 
-returns-2 : tie.Need-returns-2
+returns-2 : tie.Need-returns
 returns-2 c =
-    let gcra-of = c.before.before.before.before.before.gcra-of in
-    let has-debt = c.before.before.before.has-debt in
-    let put-debt = c.before.before.put-debt in
+    let gcra-of = c.before.before.before.before.before.gcra_of-meter in
+    let has-debt = c.before.before.before.has_debt in
+    let put-debt = c.before.before.put_debt in
     passed-call _ _ (passed c.before.before.before.before.before.before).all
     (tells gcra-of.ensures has-debt.result has-debt.ensures put-debt.ensures.0 put-debt.ensures.1)
 
-pub nultiway-gcra-has-debt-spec : {M : Type 1} → statement M
-nultiway-gcra-has-debt-spec =
+pub nultiway_gcra_has_debt_spec : {M : Type 1} → statement M
+nultiway_gcra_has_debt_spec =
     tie.close
     (tie.spec
     (λ c κs. search rules)

@@ -5,23 +5,23 @@ use Rattle.nultiway.proofs.Calls.RoomLaws.{called-short, called-room}
 use Rattle.nultiway.proofs.gcra_calls.nultiway_gcra_new.Statement.{statement}
 use Rattle.nultiway.proofs.gcra_calls.nultiway_gcra_new.Tie as tie
 
-returns : tie.Need-returns
-returns c = called-short c.if1.true refl
+returns : tie.Need-returns-then-gcra-lt-GCRA_WORDS
+returns c = called-short c.if-gcra-lt-GCRA_WORDS.true refl
 
-returns-2 : tie.Need-returns-2
+returns-2 : tie.Need-returns
 returns-2 c =
-    let if1 = c.before.before.before.before.before.if1 in
+    let if1 = c.before.before.before.before.before.if-gcra-lt-GCRA_WORDS in
     let new = c.before.before.before.new in
     called-room if1.false
     record {
       result = new.result;
       kept = new.ensures;
-      number = c.before.before.put-new.ensures.0;
-      answer = c.before.before.put-new.ensures.1;
+      number = c.before.before.put_new.ensures.0;
+      answer = c.before.before.put_new.ensures.1;
     }
 
-pub nultiway-gcra-new-spec : {M : Type 1} → statement M
-nultiway-gcra-new-spec =
+pub nultiway_gcra_new_spec : {M : Type 1} → statement M
+nultiway_gcra_new_spec =
     tie.close
     (tie.spec
     returns

@@ -10,11 +10,11 @@ use Rattle.nultiway.proofs.gcra_calls.put_gcra.Tie as tie
 returns : tie.Need-returns
 returns c =
     let a = c.before.before.before.before.before.before.before.args in
-    let gcra-words = c.before.before.before.before.before.gcra-words in
+    let gcra-words = c.before.before.before.before.before.gcra_words-w in
     c.before.before.put.ensures ∙ ap (λ (ws : List ℕ). paste 0 ws a.words.now) gcra-words.ensures
 
-pub put-gcra-spec : {M : Type 1} → statement M
-put-gcra-spec =
+pub put_gcra_spec : {M : Type 1} → statement M
+put_gcra_spec =
     tie.close
     (tie.spec
     (λ c κs. search rules)

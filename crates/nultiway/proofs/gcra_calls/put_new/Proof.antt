@@ -6,14 +6,14 @@ use Rattle.nultiway.proofs.Calls.CallLaws.{said_put}
 use Rattle.nultiway.proofs.gcra_calls.put_new.Statement.{statement}
 use Rattle.nultiway.proofs.gcra_calls.put_new.Tie as tie
 
-returns-2 : tie.Need-returns-2
+returns-2 : tie.Need-returns-in-Is
 returns-2 c =
     let said2 = c.before.before.before.before.before.said2 in
-    let put-gcra = c.before.before.put-gcra in
+    let put-gcra = c.before.before.put_gcra in
     said_put _ _ _ _ _ (ap gcra_answer said2.given.1) put-gcra.ensures
 
-pub put-new-spec : {M : Type 1} → statement M
-put-new-spec =
+pub put_new_spec : {M : Type 1} → statement M
+put_new_spec =
     tie.close
     (tie.spec
     (λ c. search rules)

@@ -3,8 +3,8 @@ use borrow.Author.Rules.{rules}
 use Rattle.nultiway.proofs.gcra_calls.set_number.Statement.{statement}
 use Rattle.nultiway.proofs.gcra_calls.set_number.Tie as tie
 
-pub set-number-spec : {M : Type 1} → statement M
-set-number-spec =
+pub set_number_spec : {M : Type 1} → statement M
+set_number_spec =
     tie.close
     (tie.spec
     (λ c. search rules)

@@ -9,5 +9,5 @@ returns : tie.Need-returns
 unfolding hot_set_of
 returns c = refl
 
-pub hot-set-of-spec : {M : Type 1} → statement M
-hot-set-of-spec = tie.close (tie.spec (λ c. search rules) (λ c. search rules) (λ c. search rules) returns)
+pub hot_set_of_spec : {M : Type 1} → statement M
+hot_set_of_spec = tie.close (tie.spec (λ c. search rules) (λ c. search rules) (λ c. search rules) returns)

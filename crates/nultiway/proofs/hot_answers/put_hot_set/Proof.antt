@@ -8,5 +8,5 @@ returns : tie.Need-returns
 unfolding hot_set_words
 returns c = c.before.before.put.ensures
 
-pub put-hot-set-spec : {M : Type 1} → statement M
-put-hot-set-spec = tie.close (tie.spec (λ c. search rules) (λ c κs. search rules) (λ c. search rules) returns)
+pub put_hot_set_spec : {M : Type 1} → statement M
+put_hot_set_spec = tie.close (tie.spec (λ c. search rules) (λ c κs. search rules) (λ c. search rules) returns)

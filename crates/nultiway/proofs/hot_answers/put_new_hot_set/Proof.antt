@@ -6,14 +6,14 @@ use Rattle.nultiway.proofs.Calls.CallLaws.{said_put}
 use Rattle.nultiway.proofs.hot_answers.put_new_hot_set.Statement.{statement}
 use Rattle.nultiway.proofs.hot_answers.put_new_hot_set.Tie as tie
 
-returns-2 : tie.Need-returns-2
+returns-2 : tie.Need-returns-in-Is
 returns-2 c =
     let said2 = c.before.before.before.before.before.said2 in
-    let put-hot-set = c.before.before.put-hot-set in
+    let put-hot-set = c.before.before.put_hot_set in
     said_put _ _ _ _ _ (ap new_answer said2.given.1) put-hot-set.ensures
 
-pub put-new-hot-set-spec : {M : Type 1} → statement M
-put-new-hot-set-spec =
+pub put_new_hot_set_spec : {M : Type 1} → statement M
+put_new_hot_set_spec =
     tie.close
     (tie.spec
     (λ c. search rules)

@@ -6,14 +6,14 @@ use Rattle.nultiway.proofs.Calls.CallLaws.{said_put}
 use Rattle.nultiway.proofs.hot_answers.put_updated_each.Statement.{statement}
 use Rattle.nultiway.proofs.hot_answers.put_updated_each.Tie as tie
 
-returns-2 : tie.Need-returns-2
+returns-2 : tie.Need-returns-in-Is
 returns-2 c =
     let said2 = c.before.before.before.before.before.said2 in
-    let put-hot-set = c.before.before.put-hot-set in
+    let put-hot-set = c.before.before.put_hot_set in
     said_put _ _ _ _ _ (ap each_answer said2.given.1) put-hot-set.ensures
 
-pub put-updated-each-spec : {M : Type 1} → statement M
-put-updated-each-spec =
+pub put_updated_each_spec : {M : Type 1} → statement M
+put_updated_each_spec =
     tie.close
     (tie.spec
     (λ c. search rules)

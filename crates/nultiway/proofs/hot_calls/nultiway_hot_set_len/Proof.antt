@@ -9,33 +9,33 @@ use Rattle.nultiway.proofs.Calls.RoomLaws.{called-no, called-yes}
 use Rattle.nultiway.proofs.hot_calls.nultiway_hot_set_len.Statement.{statement}
 use Rattle.nultiway.proofs.hot_calls.nultiway_hot_set_len.Tie as tie
 
-returns : tie.Need-returns
-returns c = called-no c.before.are-long.ensures c.if1.true refl
+returns : tie.Need-returns-then-not-are_long
+returns c = called-no c.before.are_long.ensures c.if-not-are_long.true refl
 
-hot-set-of-requires : tie.Need-hot-set-of-requires
+hot-set-of-requires : tie.Need-hot_set_of-set-requires
 hot-set-of-requires c κs =
     let a = c.before.before.before.before.before.args in
-    (both_long 3 (length a.hot-set.now) 1 (length a.answer.now) (told-yes c.before.are-long.ensures c.if1.false)).0
+    (both_long 3 (length a.hot-set.now) 1 (length a.answer.now) (told-yes c.before.are_long.ensures c.if-not-are_long.false)).0
 
-put-len-requires : tie.Need-put-len-requires
+put-len-requires : tie.Need-put_len-requires
 put-len-requires c κs =
     let a = c.before.before.before.before.before.before.before.before.args in
-    let are-long = c.before.before.before.before.are-long in
-    let if1 = c.before.before.before.if1 in
+    let are-long = c.before.before.before.before.are_long in
+    let if1 = c.before.before.before.if-not-are_long in
     (both_long 3 (length a.hot-set.now) 1 (length a.answer.now) (told-yes are-long.ensures if1.false)).1
 
-returns-2 : tie.Need-returns-2
+returns-2 : tie.Need-returns
 returns-2 c =
-    let are-long = c.before.before.before.before.before.before.before.are-long in
-    let if1 = c.before.before.before.before.before.before.if1 in
-    let hot-set-of = c.before.before.before.before.before.hot-set-of in
+    let are-long = c.before.before.before.before.before.before.before.are_long in
+    let if1 = c.before.before.before.before.before.before.if-not-are_long in
+    let hot-set-of = c.before.before.before.before.before.hot_set_of-set in
     let len = c.before.before.before.len in
-    let put-len = c.before.before.put-len in
+    let put-len = c.before.before.put_len in
     called-yes are-long.ensures if1.false
     (tells hot-set-of.ensures len.result len.ensures put-len.ensures.0 put-len.ensures.1)
 
-pub nultiway-hot-set-len-spec : {M : Type 1} → statement M
-nultiway-hot-set-len-spec =
+pub nultiway_hot_set_len_spec : {M : Type 1} → statement M
+nultiway_hot_set_len_spec =
     tie.close
     (tie.spec
     (λ c κs. search rules)

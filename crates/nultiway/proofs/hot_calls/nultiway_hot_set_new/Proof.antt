@@ -5,14 +5,14 @@ use Rattle.nultiway.proofs.Calls.RoomLaws.{called-short, called-room}
 use Rattle.nultiway.proofs.hot_calls.nultiway_hot_set_new.Statement.{statement}
 use Rattle.nultiway.proofs.hot_calls.nultiway_hot_set_new.Tie as tie
 
-returns : tie.Need-returns
-returns c = called-short c.if1.true refl
+returns : tie.Need-returns-then-hot_set-lt-HOT_SET_WORDS
+returns c = called-short c.if-hot_set-lt-HOT_SET_WORDS.true refl
 
-returns-2 : tie.Need-returns-2
+returns-2 : tie.Need-returns
 returns-2 c =
-    let if1 = c.before.before.before.before.before.if1 in
+    let if1 = c.before.before.before.before.before.if-hot_set-lt-HOT_SET_WORDS in
     let new = c.before.before.before.new in
-    let put-new-hot-set = c.before.before.put-new-hot-set in
+    let put-new-hot-set = c.before.before.put_new_hot_set in
     called-room if1.false
     record {
       result = new.result;
@@ -21,8 +21,8 @@ returns-2 c =
       answer = put-new-hot-set.ensures.1;
     }
 
-pub nultiway-hot-set-new-spec : {M : Type 1} → statement M
-nultiway-hot-set-new-spec =
+pub nultiway_hot_set_new_spec : {M : Type 1} → statement M
+nultiway_hot_set_new_spec =
     tie.close
     (tie.spec
     returns

@@ -12,40 +12,40 @@ use Rattle.nultiway.proofs.hot_calls.nultiway_hot_set_update.Statement.{statemen
 use Rattle.nultiway.proofs.hot_calls.nultiway_hot_set_update.Tie as tie
 
 -- both have their words
-long : (e : tie.Else1) → let a = e.before.before.before.before.before.args in (3 ≤ length a.hot-set.now) × (1 ≤ length a.answer.now)
+long : (e : tie.Else-not-are_long) → let a = e.before.before.before.before.before.args in (3 ≤ length a.hot-set.now) × (1 ≤ length a.answer.now)
 long e =
     let a = e.before.before.before.before.before.args in
-    both_long 3 (length a.hot-set.now) 1 (length a.answer.now) (told-yes e.before.are-long.ensures e.if1.false)
+    both_long 3 (length a.hot-set.now) 1 (length a.answer.now) (told-yes e.before.are_long.ensures e.if-not-are_long.false)
 
-returns : tie.Need-returns
-returns c = called-no c.before.are-long.ensures c.if1.true (refl, refl, refl)
+returns : tie.Need-returns-then-not-are_long
+returns c = called-no c.before.are_long.ensures c.if-not-are_long.true (refl, refl, refl)
 
-hot-set-of-requires : tie.Need-hot-set-of-requires
+hot-set-of-requires : tie.Need-hot_set_of-set-requires
 hot-set-of-requires c κs = (long c.before).0
 
-put-hot-set-requires : tie.Need-put-hot-set-requires
+put-hot-set-requires : tie.Need-put_hot_set-requires
 put-hot-set-requires c κs = (long c.before.before.before.before.before.before.before.before).0
 
-put-updated-requires : tie.Need-put-updated-requires
+put-updated-requires : tie.Need-put_updated-requires
 put-updated-requires c κs = (long c.before.before.before.before.before.before.before.before.before.before.before.before).1
 
-returns-2 : tie.Need-returns-2
+returns-2 : tie.Need-returns
 returns-2 c =
     let m₁ = c.before.before.before.before.before.before.before.before.before.before.before in
     let a = m₁.before.before.before.before.before.before.before.before.before.args in
-    let are-long = m₁.before.before.before.before.before.are-long in
-    let if1 = m₁.before.before.before.before.if1 in
-    let hot-set-of = m₁.before.before.hot-set-of in
-    let update = m₁.update in
-    let hot-set-left = c.before.before.before.before.before.before.before.hot-set-left in
-    let put-hot-set = c.before.before.before.before.before.before.put-hot-set in
-    let put-updated = c.before.before.put-updated in
+    let are-long = m₁.before.before.before.before.before.are_long in
+    let if1 = m₁.before.before.before.before.if-not-are_long in
+    let hot-set-of = m₁.before.before.hot_set_of-set in
+    let update = m₁.update-said in
+    let hot-set-left = c.before.before.before.before.before.before.before.hot_set_left in
+    let put-hot-set = c.before.before.before.before.before.before.put_hot_set in
+    let put-updated = c.before.before.put_updated in
     called-yes are-long.ensures if1.false
     (answers hot-set-of.ensures update.result update.ensures put-updated.ensures.0
     (left-put a.hot-set.now update.result hot-set-of.ensures hot-set-left.ensures put-hot-set.ensures) put-updated.ensures.1)
 
-pub nultiway-hot-set-update-spec : {M : Type 1} → statement M
-nultiway-hot-set-update-spec =
+pub nultiway_hot_set_update_spec : {M : Type 1} → statement M
+nultiway_hot_set_update_spec =
     tie.close
     (tie.spec
     (λ c κs. search rules)

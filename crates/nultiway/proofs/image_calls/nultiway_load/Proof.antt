@@ -10,26 +10,26 @@ use Rattle.nultiway.proofs.Calls.RoomLaws.{both_long}
 use Rattle.nultiway.proofs.image_calls.nultiway_load.Statement.{statement}
 use Rattle.nultiway.proofs.image_calls.nultiway_load.Tie as tie
 
-returns : tie.Need-returns
-returns c = refused-call _ 1 (first-no 1 [] (told-no c.before.are-long.ensures c.if1.true)) one (refl, refl, refl, refl)
+returns : tie.Need-returns-then-not-are_long
+returns c = refused-call _ 1 (first-no 1 [] (told-no c.before.are_long.ensures c.if-not-are_long.true)) one (refl, refl, refl, refl)
 
-put-loaded-requires : tie.Need-put-loaded-requires
+put-loaded-requires : tie.Need-put_loaded-requires
 put-loaded-requires c κs =
     let m₁ = c.before.before.before.before.before.before.before.before.before.before.before.before in
     let m₂ = m₁.before.before.before.before.before.before.before.before.before.before.before.before in
     let a = m₂.before.before.before.before.before.before.before.before.args in
-    let are-long = m₁.before.before.before.before.before.before.before.before.before.before.are-long in
-    let if1 = m₁.before.before.before.before.before.before.before.before.before.if1 in
+    let are-long = m₁.before.before.before.before.before.before.before.before.before.before.are_long in
+    let if1 = m₁.before.before.before.before.before.before.before.before.before.if-not-are_long in
     both_long 16 (length a.limiter.now) 3 (length a.peers.now) (told-yes are-long.ensures if1.false)
 
-returns-2 : tie.Need-returns-2
+returns-2 : tie.Need-returns
 returns-2 c =
     let m₁ = c.before.before.before.before.before.before.before.before.before.before.before.before in
     let m₂ = m₁.before.before.before.before.before.before.before.before.before.before.before.before in
-    let are-long = m₂.before.before.before.are-long in
-    let if1 = m₂.before.before.if1 in
-    let load = m₁.before.before.before.before.before.before.before.load in
-    let put-loaded = c.before.before.before.before.put-loaded in
+    let are-long = m₂.before.before.before.are_long in
+    let if1 = m₂.before.before.if-not-are_long in
+    let load = m₁.before.before.before.before.before.before.before.load-said in
+    let put-loaded = c.before.before.before.before.put_loaded in
     passed-call _ _ (room-passed _ (told-yes are-long.ensures if1.false))
     record {
       result = load.result;
@@ -37,8 +37,8 @@ returns-2 c =
       put = put-loaded.ensures;
     }
 
-pub nultiway-load-spec : {M : Type 1} → statement M
-nultiway-load-spec =
+pub nultiway_load_spec : {M : Type 1} → statement M
+nultiway_load_spec =
     tie.close
     (tie.spec
     (λ c κs. search rules)

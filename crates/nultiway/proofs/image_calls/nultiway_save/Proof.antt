@@ -17,7 +17,7 @@ use Rattle.nultiway.proofs.Calls.RoomLaws.{peers-lengths, peers-three}
 use Rattle.nultiway.proofs.image_calls.nultiway_save.Statement.{statement}
 use Rattle.nultiway.proofs.image_calls.nultiway_save.Tie as tie
 
-abbrev start : tie.After-ask-limiter → tie.Start
+abbrev start : tie.After-ask_limiter-no → tie.Start
 start k = k.before.before.before.before.before.before.before.before.before.before.before.before
 
 -- how many words the limiter's tables have, and whether the answer and the peers have room
@@ -33,47 +33,47 @@ room s = peers_room (length s.args.peers.now) (peer-state.lengths (peer_tables s
 abbrev others : tie.Start → Bool
 others s = leb 1 (length s.args.answer.now) && room s
 
-asked : (k : tie.After-ask-limiter) → let s = start k in k.ask-limiter.result ≡ first_no (limiter_asked s.args.limiter.now (long s) (others s))
+asked : (k : tie.After-ask_limiter-no) → let s = start k in k.ask_limiter-no.result ≡ first_no (limiter_asked s.args.limiter.now (long s) (others s))
 asked k =
     let s = start k in
-    asked-with s.args.limiter.now (long s) k.ask-limiter.ensures
-    (k.before.peers-have-room.ensures
+    asked-with s.args.limiter.now (long s) k.ask_limiter-no.ensures
+    (k.before.peers_have_room-room.ensures
     ∙ ap (λ (b : Bool). leb 1 (length s.args.answer.now) && b) (peers-lengths (length s.args.peers.now) (peer_tables s)))
 
 -- the questions of the lent words are passed
-passed : (e : tie.Else1) → let s = start e.before in Open s.args.limiter.now (long s) (others s)
-passed e = opened _ _ _ _ (asked e.before) e.if1.false
+passed : (e : tie.Else-no-ne0) → let s = start e.before in Open s.args.limiter.now (long s) (others s)
+passed e = opened _ _ _ _ (asked e.before) e.if-no-ne0.false
 
 -- and the other buffers have their words
-fits : (e : tie.Else1) → let s = start e.before in (3 ≤ length s.args.peers.now) × (1 ≤ length s.args.answer.now)
+fits : (e : tie.Else-no-ne0) → let s = start e.before in (3 ≤ length s.args.peers.now) × (1 ≤ length s.args.answer.now)
 fits e =
     let s = start e.before in
     let b = both (leb 1 (length s.args.answer.now)) (room s) (passed e).others in
     (peers-three _ _ b.1, leb-true _ _ b.0)
 
-returns : tie.Need-returns
-returns c = refused-call _ _ (asked c.before) c.if1.true (refl, refl)
+returns : tie.Need-returns-then-no-ne0
+returns c = refused-call _ _ (asked c.before) c.if-no-ne0.true (refl, refl)
 
-limiter-of-requires : tie.Need-limiter-of-requires
+limiter-of-requires : tie.Need-limiter_of-l-requires
 limiter-of-requires c κs = (passed c).long
 
-peers-of-requires : tie.Need-peers-of-requires
+peers-of-requires : tie.Need-peers_of-p-requires
 peers-of-requires c κs = (fits c.before).0
 
-put-len-requires : tie.Need-put-len-requires
+put-len-requires : tie.Need-put_len-requires
 put-len-requires c κs = (fits c.before.before.before.before.before.before.before).1
 
-returns-2 : tie.Need-returns-2
+returns-2 : tie.Need-returns
 returns-2 c =
-    let limiter-of = c.before.before.before.before.before.before.before.before.before.limiter-of in
-    let peers-of = c.before.before.before.before.before.before.before.before.peers-of in
-    let save = c.before.before.before.before.before.before.save in
+    let limiter-of = c.before.before.before.before.before.before.before.before.before.limiter_of-l in
+    let peers-of = c.before.before.before.before.before.before.before.before.peers_of-p in
+    let save = c.before.before.before.before.before.before.save-said in
     passed-call _ _ (passed c.before.before.before.before.before.before.before.before.before.before).passed
-    (tells (both_read limiter-of.ensures peers-of.ensures) save.result save.ensures c.before.before.put-len.ensures.0
-    c.before.before.put-len.ensures.1)
+    (tells (both_read limiter-of.ensures peers-of.ensures) save.result save.ensures c.before.before.put_len.ensures.0
+    c.before.before.put_len.ensures.1)
 
-pub nultiway-save-spec : {M : Type 1} → statement M
-nultiway-save-spec =
+pub nultiway_save_spec : {M : Type 1} → statement M
+nultiway_save_spec =
     tie.close
     (tie.spec
     (λ c κs. search rules)

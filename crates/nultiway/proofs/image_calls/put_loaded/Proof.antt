@@ -6,22 +6,22 @@ use Rattle.nultiway.proofs.Calls.ImageCallLaws.{loaded-put, loaded-no}
 use Rattle.nultiway.proofs.image_calls.put_loaded.Statement.{statement}
 use Rattle.nultiway.proofs.image_calls.put_loaded.Tie as tie
 
-returns : tie.Need-returns
+returns : tie.Need-returns-in-No
 returns c =
     let a = c.before.before.before.before.before.args in
     loaded-no a.limiter.now a.peers.now (ap load_answer c.before.said.given.1)
 
-returns-2 : tie.Need-returns-2
+returns-2 : tie.Need-returns-in-Is
 returns-2 c =
     let m₁ = c.before.before.before.before.before.before.before.before.before.before.before.before in
     let a = m₁.before.before.before.args in
     let said2 = c.before.before.before.before.before.before.before.before.before.before.before.said2 in
-    let put-limiter = c.before.before.before.before.before.before.put-limiter in
-    let put-peers = c.before.before.put-peers in
+    let put-limiter = c.before.before.before.before.before.before.put_limiter in
+    let put-peers = c.before.before.put_peers in
     loaded-put a.limiter.now a.peers.now (ap load_answer said2.given.1) put-limiter.ensures put-peers.ensures
 
-pub put-loaded-spec : {M : Type 1} → statement M
-put-loaded-spec =
+pub put_loaded_spec : {M : Type 1} → statement M
+put_loaded_spec =
     tie.close
     (tie.spec
     (λ c. search rules)

@@ -6,14 +6,14 @@ use Rattle.nultiway.proofs.Calls.CallLaws.{cap-set}
 use Rattle.nultiway.proofs.limiter_changes.cap_given.Statement.{statement}
 use Rattle.nultiway.proofs.limiter_changes.cap_given.Tie as tie
 
-returns : tie.Need-returns
-returns c = sym (ap (λ (n : ℕ). cap_given n c.before.args.cap) c.if1.true)
+returns : tie.Need-returns-then-has_cap-eq0
+returns c = sym (ap (λ (n : ℕ). cap_given n c.before.args.cap) c.if-has_cap-eq0.true)
 
-returns-2 : tie.Need-returns-2
-returns-2 c = cap-set _ _ c.if1.false
+returns-2 : tie.Need-returns
+returns-2 c = cap-set _ _ c.if-has_cap-eq0.false
 
-pub cap-given-spec : {M : Type 1} → statement M
-cap-given-spec =
+pub cap_given_spec : {M : Type 1} → statement M
+cap_given_spec =
     tie.close
     (tie.spec
     returns

@@ -12,34 +12,34 @@ use Rattle.nultiway.proofs.Calls.CallLaws.{Open, opened}
 use Rattle.nultiway.proofs.limiter_changes.nultiway_limiter_ask.Statement.{statement}
 use Rattle.nultiway.proofs.limiter_changes.nultiway_limiter_ask.Tie as tie
 
-abbrev start : tie.After-ask-limiter → tie.Start
+abbrev start : tie.After-ask_limiter-no → tie.Start
 start a = a.before.before.before.before.before
 
 abbrev lent : tie.Start → LimiterTables
 lent s = tables s.args.keys.now s.args.hot.now s.args.shadows.now
 
 -- the questions of the lent words are passed
-passed : (e : tie.Else1) → let s = start e.before in Open s.args.limiter.now (lengths (lent s)) true
-passed e = opened _ _ _ _ e.before.ask-limiter.ensures e.if1.false
+passed : (e : tie.Else-no-ne0) → let s = start e.before in Open s.args.limiter.now (lengths (lent s)) true
+passed e = opened _ _ _ _ e.before.ask_limiter-no.ensures e.if-no-ne0.false
 
-returns : tie.Need-returns
+returns : tie.Need-returns-then-no-ne0
 returns c =
     let s = start c.before in
-    first_more (limiter_asked s.args.limiter.now (lengths (lent s)) true) _ _ c.before.ask-limiter.ensures c.if1.true
+    first_more (limiter_asked s.args.limiter.now (lengths (lent s)) true) _ _ c.before.ask_limiter-no.ensures c.if-no-ne0.true
 
-limiter-of-requires : tie.Need-limiter-of-requires
+limiter-of-requires : tie.Need-limiter_of-limiter-requires
 limiter-of-requires c κs = (passed c).long
 
-returns-2 : tie.Need-returns-2
+returns-2 : tie.Need-returns
 returns-2 c =
     let l = c.before in
     let s = start l.before.before in
     c.ask.ensures
-    ∙ ap (λ (x : Limiter). first_no (state_questions x (lent s))) l.limiter-of.ensures
+    ∙ ap (λ (x : Limiter). first_no (state_questions x (lent s))) l.limiter_of-limiter.ensures
     ∙ first_rest (limiter_asked s.args.limiter.now (lengths (lent s)) true) _ (passed l.before).passed
 
-pub nultiway-limiter-ask-spec : {M : Type 1} → statement M
-nultiway-limiter-ask-spec =
+pub nultiway_limiter_ask_spec : {M : Type 1} → statement M
+nultiway_limiter_ask_spec =
     tie.close
     (tie.spec
     (λ c κs. search rules)

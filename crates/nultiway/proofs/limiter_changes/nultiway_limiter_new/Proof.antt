@@ -7,17 +7,17 @@ use Rattle.nultiway.proofs.Calls.CallLaws.{refused-call, passed-call, room-passe
 use Rattle.nultiway.proofs.limiter_changes.nultiway_limiter_new.Statement.{statement}
 use Rattle.nultiway.proofs.limiter_changes.nultiway_limiter_new.Tie as tie
 
-returns : tie.Need-returns
-returns c = refused-call _ 1 (first-no 1 _ (lt-leb _ _ c.if1.true)) one refl
+returns : tie.Need-returns-then-limiter-lt-LIMITER_WORDS
+returns c = refused-call _ 1 (first-no 1 _ (lt-leb _ _ c.if-limiter-lt-LIMITER_WORDS.true)) one refl
 
-returns-2 : tie.Need-returns-2
+returns-2 : tie.Need-returns
 returns-2 c =
     let p = c.before.before in
     let n = p.before in
     let e = n.before.before in
-    passed-call _ _ (room-passed _ (le-leb _ _ e.if1.false))
-    (tells refl n.new.result n.new.ensures p.put-new.ensures.0 p.put-new.ensures.1)
+    passed-call _ _ (room-passed _ (le-leb _ _ e.if-limiter-lt-LIMITER_WORDS.false))
+    (tells refl n.new.result n.new.ensures p.put_new.ensures.0 p.put_new.ensures.1)
 
-pub nultiway-limiter-new-spec : {M : Type 1} → statement M
-nultiway-limiter-new-spec =
+pub nultiway_limiter_new_spec : {M : Type 1} → statement M
+nultiway_limiter_new_spec =
     tie.close (tie.spec returns (λ c κs. search rules) (λ c κs. search rules) (λ c. search rules) returns-2)

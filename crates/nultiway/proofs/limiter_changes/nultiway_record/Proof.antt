@@ -7,43 +7,43 @@ use Rattle.nultiway.proofs.Calls.CallLaws.{refused-call, passed-call, Open, open
 use Rattle.nultiway.proofs.limiter_changes.nultiway_record.Statement.{statement}
 use Rattle.nultiway.proofs.limiter_changes.nultiway_record.Tie as tie
 
-abbrev start : tie.After-ask-limiter → tie.Start
+abbrev start : tie.After-ask_limiter-no → tie.Start
 start a = a.before.before.before.before.before.before
 
 -- the questions of the lent words are passed
 passed :
-    (e : tie.Else1)
+    (e : tie.Else-no-ne0)
     → let a = (start e.before).args in
     Open a.limiter.now (lengths (tables a.keys.now a.hot.now a.shadows.now)) true
-passed e = opened _ _ _ _ e.before.ask-limiter.ensures e.if1.false
+passed e = opened _ _ _ _ e.before.ask_limiter-no.ensures e.if-no-ne0.false
 
-returns : tie.Need-returns
-returns c = refused-call _ _ c.before.ask-limiter.ensures c.if1.true (refl, refl)
+returns : tie.Need-returns-then-no-ne0
+returns c = refused-call _ _ c.before.ask_limiter-no.ensures c.if-no-ne0.true (refl, refl)
 
 -- where the crate is called, and what comes before it
-abbrev entered : tie.After-record → tie.Else1
+abbrev entered : tie.After-record-changed → tie.Else-no-ne0
 entered k = k.before.before.before.before
 
-abbrev called : tie.After-put-limiter-arg → tie.After-record
+abbrev called : tie.After-put_limiter-arg-1 → tie.After-record-changed
 called a = a.before.before.before.before
 
-limiter-of-requires : tie.Need-limiter-of-requires
+limiter-of-requires : tie.Need-limiter_of-before-requires
 limiter-of-requires c κs = (passed c.before).long
 
-put-limiter-requires : tie.Need-put-limiter-requires
+put-limiter-requires : tie.Need-put_limiter-requires
 put-limiter-requires c κs = (passed (entered (called c))).long
 
-returns-2 : tie.Need-returns-2
+returns-2 : tie.Need-returns
 returns-2 c =
     let w = c.before.before.before in
     let k = called w.before in
     let l = k.before.before in
     passed-call _ _ (passed (entered k)).passed
-    (changes l.limiter-of.ensures k.record.result k.record.ensures
-    c.change-number.ensures w.put-limiter.ensures)
+    (changes l.limiter_of-before.ensures k.record-changed.result k.record-changed.ensures
+    c.change_number.ensures w.put_limiter.ensures)
 
-pub nultiway-record-spec : {M : Type 1} → statement M
-nultiway-record-spec =
+pub nultiway_record_spec : {M : Type 1} → statement M
+nultiway_record_spec =
     tie.close
     (tie.spec
     (λ c κs. search rules)

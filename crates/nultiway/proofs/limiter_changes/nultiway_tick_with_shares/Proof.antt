@@ -12,7 +12,7 @@ use Rattle.nultiway.proofs.Calls.RoomLaws.{peers-lengths, peers-three}
 use Rattle.nultiway.proofs.limiter_changes.nultiway_tick_with_shares.Statement.{statement}
 use Rattle.nultiway.proofs.limiter_changes.nultiway_tick_with_shares.Tie as tie
 
-abbrev start : tie.After-ask-limiter → tie.Start
+abbrev start : tie.After-ask_limiter-no → tie.Start
 start a = a.before.before.before.before.before.before.before.before.before.before.before
 
 -- how many words the limiter's tables have, and whether the peers have room
@@ -25,47 +25,47 @@ peer_tables s = peer-state.tables s.args.peer-table.now s.args.snapshot-keys.now
 abbrev room : tie.Start → Bool
 room s = peers_room (length s.args.peers.now) (peer-state.lengths (peer_tables s))
 
-asked : (k : tie.After-ask-limiter) → let s = start k in k.ask-limiter.result ≡ first_no (limiter_asked s.args.limiter.now (long s) (room s))
+asked : (k : tie.After-ask_limiter-no) → let s = start k in k.ask_limiter-no.result ≡ first_no (limiter_asked s.args.limiter.now (long s) (room s))
 asked k =
     let s = start k in
-    asked-with s.args.limiter.now (long s) k.ask-limiter.ensures
-    (k.before.before.peers-have-room.ensures ∙ peers-lengths (length s.args.peers.now) (peer_tables s))
+    asked-with s.args.limiter.now (long s) k.ask_limiter-no.ensures
+    (k.before.before.peers_have_room-room.ensures ∙ peers-lengths (length s.args.peers.now) (peer_tables s))
 
 -- the questions of the lent words are passed
-passed : (e : tie.Else1) → let s = start e.before in Open s.args.limiter.now (long s) (room s)
-passed e = opened _ _ _ _ (asked e.before) e.if1.false
+passed : (e : tie.Else-no-ne0) → let s = start e.before in Open s.args.limiter.now (long s) (room s)
+passed e = opened _ _ _ _ (asked e.before) e.if-no-ne0.false
 
-returns : tie.Need-returns
-returns c = refused-call _ _ (asked c.before) c.if1.true (refl, refl)
+returns : tie.Need-returns-then-no-ne0
+returns c = refused-call _ _ (asked c.before) c.if-no-ne0.true (refl, refl)
 
 -- where the crate is called, and what comes before it
-abbrev entered : tie.After-tick-with-shares → tie.Else1
+abbrev entered : tie.After-tick_with_shares-changed → tie.Else-no-ne0
 entered k = k.before.before.before.before.before.before.before
 
-abbrev called : tie.After-put-limiter-arg → tie.After-tick-with-shares
+abbrev called : tie.After-put_limiter-arg-1 → tie.After-tick_with_shares-changed
 called a = a.before.before.before.before.before.before.before.before
 
-limiter-of-requires : tie.Need-limiter-of-requires
+limiter-of-requires : tie.Need-limiter_of-before-requires
 limiter-of-requires c κs = (passed c.before).long
 
-peers-of-requires : tie.Need-peers-of-requires
+peers-of-requires : tie.Need-peers_of-demand-requires
 peers-of-requires c κs = peers-three _ _ (passed c.before.before).others
 
-put-limiter-requires : tie.Need-put-limiter-requires
+put-limiter-requires : tie.Need-put_limiter-requires
 put-limiter-requires c κs = (passed (entered (called c))).long
 
-returns-2 : tie.Need-returns-2
+returns-2 : tie.Need-returns
 returns-2 c =
     let w = c.before.before.before in
     let k = called w.before in
     let g = k.before.before.before.before in
     let l = g.before in
     passed-call _ _ (passed (entered k)).passed
-    (changes (λ i. (l.limiter-of.ensures i, g.peers-of.ensures i)) k.tick-with-shares.result k.tick-with-shares.ensures
-    c.change-number.ensures w.put-limiter.ensures)
+    (changes (λ i. (l.limiter_of-before.ensures i, g.peers_of-demand.ensures i)) k.tick_with_shares-changed.result k.tick_with_shares-changed.ensures
+    c.change_number.ensures w.put_limiter.ensures)
 
-pub nultiway-tick-with-shares-spec : {M : Type 1} → statement M
-nultiway-tick-with-shares-spec =
+pub nultiway_tick_with_shares_spec : {M : Type 1} → statement M
+nultiway_tick_with_shares_spec =
     tie.close
     (tie.spec
     (λ c κs. search rules)

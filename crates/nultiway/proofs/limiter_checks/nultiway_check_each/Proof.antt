@@ -11,7 +11,7 @@ use Rattle.nultiway.proofs.Calls.CallLaws.{refused-call, passed-call, Open, open
 use Rattle.nultiway.proofs.limiter_checks.nultiway_check_each.Statement.{statement}
 use Rattle.nultiway.proofs.limiter_checks.nultiway_check_each.Tie as tie
 
-abbrev start : tie.After-ask-limiter → tie.Start
+abbrev start : tie.After-ask_limiter-no → tie.Start
 start a = a.before.before.before.before.before.before.before.before.before
 
 -- how many words the limiter's tables have, and whether the list has its words
@@ -21,40 +21,40 @@ long s = lengths (tables s.args.keys.now s.args.hot.now s.args.shadows.now)
 abbrev room : tie.Start → Bool
 room s = fits (length s.args.list.now) 2 s.args.count
 
-asked : (k : tie.After-ask-limiter) → let s = start k in k.ask-limiter.result ≡ first_no (limiter_asked s.args.limiter.now (long s) (room s))
-asked k = let s = start k in asked-with s.args.limiter.now (long s) k.ask-limiter.ensures k.before.before.fits2.ensures
+asked : (k : tie.After-ask_limiter-no) → let s = start k in k.ask_limiter-no.result ≡ first_no (limiter_asked s.args.limiter.now (long s) (room s))
+asked k = let s = start k in asked-with s.args.limiter.now (long s) k.ask_limiter-no.ensures k.before.before.fits-room.ensures
 
 -- the questions of the lent words are passed
-passed : (e : tie.Else1) → let s = start e.before in Open s.args.limiter.now (long s) (room s)
-passed e = opened _ _ _ _ (asked e.before) e.if1.false
+passed : (e : tie.Else-no-ne0) → let s = start e.before in Open s.args.limiter.now (long s) (room s)
+passed e = opened _ _ _ _ (asked e.before) e.if-no-ne0.false
 
-returns : tie.Need-returns
-returns c = refused-call _ _ (asked c.before) c.if1.true (refl, refl, refl)
+returns : tie.Need-returns-then-no-ne0
+returns c = refused-call _ _ (asked c.before) c.if-no-ne0.true (refl, refl, refl)
 
 -- where the crate is called, and what comes before it
-abbrev entered : tie.After-check-each → tie.Else1
+abbrev entered : tie.After-check_each-changed → tie.Else-no-ne0
 entered k = k.before.before.before.before.before
 
-abbrev called : tie.After-put-limiter-arg → tie.After-check-each
+abbrev called : tie.After-put_limiter-arg-1 → tie.After-check_each-changed
 called a = a.before.before.before.before.before.before
 
-limiter-of-requires : tie.Need-limiter-of-requires
+limiter-of-requires : tie.Need-limiter_of-before-requires
 limiter-of-requires c κs = (passed c.before).long
 
-put-limiter-requires : tie.Need-put-limiter-requires
+put-limiter-requires : tie.Need-put_limiter-requires
 put-limiter-requires c κs = (passed (entered (called c))).long
 
-returns-2 : tie.Need-returns-2
+returns-2 : tie.Need-returns
 returns-2 c =
     let w = c.before.before.before in
     let k = called w.before in
     let l = k.before.before.before in
     passed-call _ _ (passed (entered k)).passed
-    (changes l.limiter-of.ensures k.check-each.result k.check-each.ensures
-    c.change-number.ensures w.put-limiter.ensures)
+    (changes l.limiter_of-before.ensures k.check_each-changed.result k.check_each-changed.ensures
+    c.change_number.ensures w.put_limiter.ensures)
 
-pub nultiway-check-each-spec : {M : Type 1} → statement M
-nultiway-check-each-spec =
+pub nultiway_check_each_spec : {M : Type 1} → statement M
+nultiway_check_each_spec =
     tie.close
     (tie.spec
     (λ c κs. search rules)

@@ -9,47 +9,47 @@ use Rattle.nultiway.proofs.Calls.CallLaws.{refused-call, passed-call, Open, open
 use Rattle.nultiway.proofs.limiter_checks.nultiway_check_in.Statement.{statement}
 use Rattle.nultiway.proofs.limiter_checks.nultiway_check_in.Tie as tie
 
-abbrev start : tie.After-ask-limiter → tie.Start
+abbrev start : tie.After-ask_limiter-no → tie.Start
 start a = a.before.before.before.before.before.before.before
 
 -- the questions of the lent words are passed
 passed :
-    (e : tie.Else1)
+    (e : tie.Else-no-ne0)
     → let a = (start e.before).args in
     Open a.limiter.now (lengths (tables a.keys.now a.hot.now a.shadows.now)) (leb 2 (length a.answer.now))
-passed e = opened _ _ _ _ e.before.ask-limiter.ensures e.if1.false
+passed e = opened _ _ _ _ e.before.ask_limiter-no.ensures e.if-no-ne0.false
 
-returns : tie.Need-returns
-returns c = refused-call _ _ c.before.ask-limiter.ensures c.if1.true (refl, refl, refl)
+returns : tie.Need-returns-then-no-ne0
+returns c = refused-call _ _ c.before.ask_limiter-no.ensures c.if-no-ne0.true (refl, refl, refl)
 
 -- where the crate is called, and what comes before it
-abbrev entered : tie.After-check-in → tie.Else1
+abbrev entered : tie.After-check_in-checked → tie.Else-no-ne0
 entered k = k.before.before.before.before
 
-abbrev called : tie.After-put-limiter-arg → tie.After-check-in
+abbrev called : tie.After-put_limiter-arg-1 → tie.After-check_in-checked
 called a = a.before.before.before.before
 
-limiter-of-requires : tie.Need-limiter-of-requires
+limiter-of-requires : tie.Need-limiter_of-before-requires
 limiter-of-requires c κs = (passed c.before).long
 
-put-limiter-requires : tie.Need-put-limiter-requires
+put-limiter-requires : tie.Need-put_limiter-requires
 put-limiter-requires c κs = (passed (entered (called c))).long
 
-put-decision-requires : tie.Need-put-decision-requires
+put-decision-requires : tie.Need-put_decision-requires
 put-decision-requires c κs = leb-true _ _ (passed (entered (called c.before.before.before.before))).others
 
-returns-2 : tie.Need-returns-2
+returns-2 : tie.Need-returns
 returns-2 c =
     let n = c.before.before in
     let w = n.before.before.before.before in
     let k = called w.before in
     let l = k.before.before in
     passed-call _ _ (passed (entered k)).passed
-    (answers l.limiter-of.ensures k.check-in.result k.check-in.ensures
-    n.put-decision.ensures.0 w.put-limiter.ensures n.put-decision.ensures.1)
+    (answers l.limiter_of-before.ensures k.check_in-checked.result k.check_in-checked.ensures
+    n.put_decision.ensures.0 w.put_limiter.ensures n.put_decision.ensures.1)
 
-pub nultiway-check-in-spec : {M : Type 1} → statement M
-nultiway-check-in-spec =
+pub nultiway_check_in_spec : {M : Type 1} → statement M
+nultiway_check_in_spec =
     tie.close
     (tie.spec
     (λ c κs. search rules)

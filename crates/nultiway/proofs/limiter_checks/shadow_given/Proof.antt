@@ -6,14 +6,14 @@ use Rattle.nultiway.proofs.Calls.CallLaws.{shadow-set}
 use Rattle.nultiway.proofs.limiter_checks.shadow_given.Statement.{statement}
 use Rattle.nultiway.proofs.limiter_checks.shadow_given.Tie as tie
 
-returns : tie.Need-returns
-returns c = sym (ap (λ (n : ℕ). shadow_given n (limit c.before.args.rate c.before.args.burst)) c.if1.true)
+returns : tie.Need-returns-then-has_shadow-eq0
+returns c = sym (ap (λ (n : ℕ). shadow_given n (limit c.before.args.rate c.before.args.burst)) c.if-has_shadow-eq0.true)
 
-returns-2 : tie.Need-returns-2
-returns-2 c = shadow-set _ _ c.if1.false
+returns-2 : tie.Need-returns
+returns-2 c = shadow-set _ _ c.if-has_shadow-eq0.false
 
-pub shadow-given-spec : {M : Type 1} → statement M
-shadow-given-spec =
+pub shadow_given_spec : {M : Type 1} → statement M
+shadow_given_spec =
     tie.close
     (tie.spec
     returns

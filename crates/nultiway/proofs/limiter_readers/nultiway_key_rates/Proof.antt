@@ -9,31 +9,31 @@ use Rattle.nultiway.proofs.Calls.CallLaws.{refused-call, passed-call, Open, open
 use Rattle.nultiway.proofs.limiter_readers.nultiway_key_rates.Statement.{statement}
 use Rattle.nultiway.proofs.limiter_readers.nultiway_key_rates.Tie as tie
 
-abbrev start : tie.After-ask-limiter → tie.Start
+abbrev start : tie.After-ask_limiter-no → tie.Start
 start a = a.before.before.before.before.before.before
 
 -- the questions of the lent words are passed
 passed :
-    (e : tie.Else1)
+    (e : tie.Else-no-ne0)
     → let a = (start e.before).args in
     Open a.limiter.now (lengths (tables a.keys.now a.hot.now a.shadows.now)) (leb 4 (length a.answer.now))
-passed e = opened _ _ _ _ e.before.ask-limiter.ensures e.if1.false
+passed e = opened _ _ _ _ e.before.ask_limiter-no.ensures e.if-no-ne0.false
 
-returns-2 : tie.Need-returns-2
+returns-2 : tie.Need-returns
 returns-2 c =
     let n = c.before.before in
     let k = n.before in
     let l = k.before.before in
     passed-call _ _ (passed l.before).passed
-    (tells l.limiter-of.ensures k.key_rates.result k.key_rates.ensures
-    n.put-rates.ensures.0 n.put-rates.ensures.1)
+    (tells l.limiter_of-limiter.ensures k.key_rates.result k.key_rates.ensures
+    n.put_rates.ensures.0 n.put_rates.ensures.1)
 
-pub nultiway-key-rates-spec : {M : Type 1} → statement M
-nultiway-key-rates-spec =
+pub nultiway_key_rates_spec : {M : Type 1} → statement M
+nultiway_key_rates_spec =
     tie.close
     (tie.spec
     (λ c κs. search rules)
-    (λ c. refused-call _ _ c.before.ask-limiter.ensures c.if1.true refl)
+    (λ c. refused-call _ _ c.before.ask_limiter-no.ensures c.if-no-ne0.true refl)
     (λ c κs. (passed c).long)
     (λ c κs. search rules)
     (λ c κs. leb-true _ _ (passed c.before.before.before).others)

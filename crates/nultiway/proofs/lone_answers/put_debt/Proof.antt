@@ -9,7 +9,7 @@ use Rattle.nultiway.proofs.Calls.CallLaws.{said_put}
 use Rattle.nultiway.proofs.lone_answers.put_debt.Statement.{statement}
 use Rattle.nultiway.proofs.lone_answers.put_debt.Tie as tie
 
-returns-2 : tie.Need-returns-2
+returns-2 : tie.Need-returns-in-Is
 returns-2 c =
     let a = c.before.before.before.before.before.before.before.before.before.before.args in
     let said2 = c.before.before.before.before.before.before.before.said2 in
@@ -17,8 +17,8 @@ returns-2 c =
     said_put _ _ _ _ _ (ap debt_answer said2.given.1)
     (c.before.before.put.ensures ∙ ap (λ (x : ℕ). paste 0 (x ∷ []) a.to.now) flag_word.ensures)
 
-pub put-debt-spec : {M : Type 1} → statement M
-put-debt-spec =
+pub put_debt_spec : {M : Type 1} → statement M
+put_debt_spec =
     tie.close
     (tie.spec
     (λ c. search rules)

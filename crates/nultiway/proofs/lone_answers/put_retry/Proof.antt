@@ -6,18 +6,18 @@ use Rattle.nultiway.proofs.Calls.CallLaws.{said_put}
 use Rattle.nultiway.proofs.lone_answers.put_retry.Statement.{statement}
 use Rattle.nultiway.proofs.lone_answers.put_retry.Tie as tie
 
-returns-2 : tie.Need-returns-2
+returns-2 : tie.Need-returns-in-Now
 returns-2 c =
     let enum_told = c.before.before.before.before.before.enum_told in
     said_put _ _ _ _ _ (ap retry_answer enum_told.given.1) c.before.before.put.ensures
 
-returns-3 : tie.Need-returns-3
+returns-3 : tie.Need-returns-in-After
 returns-3 c =
     let said2 = c.before.before.before.before.before.before.said2 in
-    said_put _ _ _ _ _ (ap retry_answer said2.given.1) c.before.before.put2.ensures
+    said_put _ _ _ _ _ (ap retry_answer said2.given.1) c.before.before.put-in-After.ensures
 
-pub put-retry-spec : {M : Type 1} → statement M
-put-retry-spec =
+pub put_retry_spec : {M : Type 1} → statement M
+put_retry_spec =
     tie.close
     (tie.spec
     (λ c. search rules)

@@ -6,18 +6,18 @@ use Rattle.nultiway.proofs.Calls.RoomLaws.{called-short, called-room}
 use Rattle.nultiway.proofs.lone_calls.nultiway_quota_per_second.Statement.{statement}
 use Rattle.nultiway.proofs.lone_calls.nultiway_quota_per_second.Tie as tie
 
-returns-2 : tie.Need-returns-2
+returns-2 : tie.Need-returns
 returns-2 c =
     let n = c.before.before in
     let k = n.before in
-    called-room k.before.before.if1.false
-    (tells refl k.per-second.result k.per-second.ensures n.put-quota.ensures.0 n.put-quota.ensures.1)
+    called-room k.before.before.if-answer-lt-QUOTA_WORDS.false
+    (tells refl k.per_second.result k.per_second.ensures n.put_quota.ensures.0 n.put_quota.ensures.1)
 
-pub nultiway-quota-per-second-spec : {M : Type 1} → statement M
-nultiway-quota-per-second-spec =
+pub nultiway_quota_per_second_spec : {M : Type 1} → statement M
+nultiway_quota_per_second_spec =
     tie.close
     (tie.spec
-    (λ c. called-short c.if1.true refl)
+    (λ c. called-short c.if-answer-lt-QUOTA_WORDS.true refl)
     (λ c κs. search rules)
     (λ c κs. search rules)
     (λ c. search rules)

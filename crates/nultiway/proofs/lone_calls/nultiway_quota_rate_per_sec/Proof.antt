@@ -6,18 +6,18 @@ use Rattle.nultiway.proofs.Calls.RoomLaws.{called-short, called-room}
 use Rattle.nultiway.proofs.lone_calls.nultiway_quota_rate_per_sec.Statement.{statement}
 use Rattle.nultiway.proofs.lone_calls.nultiway_quota_rate_per_sec.Tie as tie
 
-returns-2 : tie.Need-returns-2
+returns-2 : tie.Need-returns
 returns-2 c =
     let n = c.before.before in
     let k = n.before in
-    called-room k.before.before.if1.false
-    (tells refl k.rate-per-sec.result k.rate-per-sec.ensures n.put-rate.ensures.0 n.put-rate.ensures.1)
+    called-room k.before.before.if-answer-lt1.false
+    (tells refl k.rate_per_sec.result k.rate_per_sec.ensures n.put_rate.ensures.0 n.put_rate.ensures.1)
 
-pub nultiway-quota-rate-per-sec-spec : {M : Type 1} → statement M
-nultiway-quota-rate-per-sec-spec =
+pub nultiway_quota_rate_per_sec_spec : {M : Type 1} → statement M
+nultiway_quota_rate_per_sec_spec =
     tie.close
     (tie.spec
-    (λ c. called-short c.if1.true refl)
+    (λ c. called-short c.if-answer-lt1.true refl)
     (λ c κs. search rules)
     (λ c κs. search rules)
     (λ c. search rules)

@@ -10,15 +10,15 @@ use Rattle.nultiway.proofs.Words.GcraWordLaws.{step_words}
 use Rattle.nultiway.proofs.lone_calls.nultiway_step.Statement.{statement}
 use Rattle.nultiway.proofs.lone_calls.nultiway_step.Tie as tie
 
-returns : tie.Need-returns
-returns c = called-short c.if1.true refl
+returns : tie.Need-returns-then-answer-lt-STEP_WORDS
+returns c = called-short c.if-answer-lt-STEP_WORDS.true refl
 
-returns-2 : tie.Need-returns-2
+returns-2 : tie.Need-returns
 returns-2 c =
     let a = c.before.before.before.before.before.before.before.before.before.args in
-    let if1 = c.before.before.before.before.before.before.before.if1 in
-    let step = c.before.before.before.before.before.before.step in
-    let decision-words = c.before.before.before.before.before.decision-words in
+    let if1 = c.before.before.before.before.before.before.before.if-answer-lt-STEP_WORDS in
+    let step = c.before.before.before.before.before.before.step-stepped in
+    let decision-words = c.before.before.before.before.before.decision_words-d in
     called-room if1.false
     record {
       result = step.result;
@@ -28,8 +28,8 @@ returns-2 c =
           (step_words step.result decision-words.ensures);
     }
 
-pub nultiway-step-spec : {M : Type 1} → statement M
-nultiway-step-spec =
+pub nultiway_step_spec : {M : Type 1} → statement M
+nultiway_step_spec =
     tie.close
     (tie.spec
     returns

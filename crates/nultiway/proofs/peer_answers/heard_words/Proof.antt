@@ -7,11 +7,11 @@ use Rattle.nultiway.proofs.peer_answers.heard_words.Tie as tie
 returns : tie.Need-returns
 returns c =
     let a = c.before.before.before.args in
-    let f32-to-bits = c.before.before.f32-to-bits in
-    λ i. 1 ∷ f32-to-bits.ensures i ∷ c.before.flag_word.ensures i ∷ a.heard.round ∷ a.heard.heard_at ∷ []
+    let f32-to-bits = c.before.before.f32_to_bits-demand in
+    λ i. 1 ∷ f32-to-bits.ensures i ∷ c.before.flag_word-primary.ensures i ∷ a.heard.round ∷ a.heard.heard_at ∷ []
 
-pub heard-words-spec : {M : Type 1} → statement M
-heard-words-spec =
+pub heard_words_spec : {M : Type 1} → statement M
+heard_words_spec =
     tie.close
     (tie.spec
     (λ c κs. search rules)

@@ -9,21 +9,21 @@ use Rattle.nultiway.proofs.Calls.CallLaws.{said_put}
 use Rattle.nultiway.proofs.peer_answers.put_heard.Statement.{statement}
 use Rattle.nultiway.proofs.peer_answers.put_heard.Tie as tie
 
-returns-2 : tie.Need-returns-2
+returns-2 : tie.Need-returns-in-Nothing
 returns-2 c =
     let enum_told = c.before.before.before.before.before.enum_told in
     said_put _ _ _ _ _ (ap heard_answer enum_told.given.1) c.before.before.put.ensures
 
-returns-3 : tie.Need-returns-3
+returns-3 : tie.Need-returns-in-Is
 returns-3 c =
     let a = c.before.before.before.before.before.before.before.before.before.before.args in
     let said2 = c.before.before.before.before.before.before.before.said2 in
-    let heard-words = c.before.before.before.before.before.heard-words in
+    let heard-words = c.before.before.before.before.before.heard_words-w in
     said_put _ _ _ _ _ (ap heard_answer said2.given.1)
-    (c.before.before.put2.ensures ∙ ap (λ (ws : List ℕ). paste 0 ws a.to.now) heard-words.ensures)
+    (c.before.before.put-in-Is.ensures ∙ ap (λ (ws : List ℕ). paste 0 ws a.to.now) heard-words.ensures)
 
-pub put-heard-spec : {M : Type 1} → statement M
-put-heard-spec =
+pub put_heard_spec : {M : Type 1} → statement M
+put_heard_spec =
     tie.close
     (tie.spec
     (λ c. search rules)

@@ -6,14 +6,14 @@ use Rattle.nultiway.proofs.Calls.CallLaws.{said_put}
 use Rattle.nultiway.proofs.peer_answers.put_new_peers.Statement.{statement}
 use Rattle.nultiway.proofs.peer_answers.put_new_peers.Tie as tie
 
-returns-2 : tie.Need-returns-2
+returns-2 : tie.Need-returns-in-Is
 returns-2 c =
     let said2 = c.before.before.before.before.before.said2 in
-    let put-peers = c.before.before.put-peers in
+    let put-peers = c.before.before.put_peers in
     said_put _ _ _ _ _ (ap peers_answer said2.given.1) put-peers.ensures
 
-pub put-new-peers-spec : {M : Type 1} → statement M
-put-new-peers-spec =
+pub put_new_peers_spec : {M : Type 1} → statement M
+put_new_peers_spec =
     tie.close
     (tie.spec
     (λ c. search rules)

@@ -5,14 +5,14 @@ use Rattle.nultiway.proofs.Calls.PeerCallLaws.{asks_of}
 use Rattle.nultiway.proofs.peer_calls.nultiway_peers_ask.Statement.{statement}
 use Rattle.nultiway.proofs.peer_calls.nultiway_peers_ask.Tie as tie
 
-returns : tie.Need-returns
-returns c = called-short c.if1.true tt
+returns : tie.Need-returns-then-peers-lt-PEERS_WORDS
+returns c = called-short c.if-peers-lt-PEERS_WORDS.true tt
 
-peers-of-requires : tie.Need-peers-of-requires
-peers-of-requires c κs = c.if1.false
+peers-of-requires : tie.Need-peers_of-p-requires
+peers-of-requires c κs = c.if-peers-lt-PEERS_WORDS.false
 
-returns-2 : tie.Need-returns-2
-returns-2 c = called-room c.before.before.if1.false (asks_of _ c.before.peers-of.ensures c.ask.ensures)
+returns-2 : tie.Need-returns
+returns-2 c = called-room c.before.before.if-peers-lt-PEERS_WORDS.false (asks_of _ c.before.peers_of-p.ensures c.ask.ensures)
 
-pub nultiway-peers-ask-spec : {M : Type 1} → statement M
-nultiway-peers-ask-spec = tie.close (tie.spec returns peers-of-requires (λ c κs. search rules) returns-2)
+pub nultiway_peers_ask_spec : {M : Type 1} → statement M
+nultiway_peers_ask_spec = tie.close (tie.spec returns peers-of-requires (λ c κs. search rules) returns-2)

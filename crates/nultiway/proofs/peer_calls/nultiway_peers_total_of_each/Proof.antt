@@ -6,21 +6,21 @@ use Rattle.nultiway.proofs.Calls.PeerCallLaws.{says}
 use Rattle.nultiway.proofs.peer_calls.nultiway_peers_total_of_each.Statement.{statement}
 use Rattle.nultiway.proofs.peer_calls.nultiway_peers_total_of_each.Tie as tie
 
-returns : tie.Need-returns
-returns c = called-short c.if1.true refl
+returns : tie.Need-returns-then-peers-lt-PEERS_WORDS
+returns c = called-short c.if-peers-lt-PEERS_WORDS.true refl
 
-peers-of-requires : tie.Need-peers-of-requires
-peers-of-requires c κs = c.if1.false
+peers-of-requires : tie.Need-peers_of-p-requires
+peers-of-requires c κs = c.if-peers-lt-PEERS_WORDS.false
 
-returns-2 : tie.Need-returns-2
+returns-2 : tie.Need-returns
 returns-2 c =
-    let if1 = c.before.before.before.before.before.before.if1 in
-    let peers-of = c.before.before.before.before.before.peers-of in
-    let total-of-each = c.before.before.before.total-of-each in
-    called-room if1.false (says peers-of.ensures total-of-each.result total-of-each.ensures c.change-number.ensures)
+    let if1 = c.before.before.before.before.before.before.if-peers-lt-PEERS_WORDS in
+    let peers-of = c.before.before.before.before.before.peers_of-p in
+    let total-of-each = c.before.before.before.total_of_each in
+    called-room if1.false (says peers-of.ensures total-of-each.result total-of-each.ensures c.change_number.ensures)
 
-pub nultiway-peers-total-of-each-spec : {M : Type 1} → statement M
-nultiway-peers-total-of-each-spec =
+pub nultiway_peers_total_of_each_spec : {M : Type 1} → statement M
+nultiway_peers_total_of_each_spec =
     tie.close
     (tie.spec
     returns

@@ -15,7 +15,7 @@ use Rattle.nultiway.proofs.Calls.RoomLaws.{peers-lengths, peers-three}
 use Rattle.nultiway.proofs.peer_changes.nultiway_peers_apply.Statement.{statement}
 use Rattle.nultiway.proofs.peer_changes.nultiway_peers_apply.Tie as tie
 
-abbrev start : tie.After-ask-report → tie.Start
+abbrev start : tie.After-ask_report-no → tie.Start
 start k = k.before.before.before.before.before.before.before
 
 -- whether the peers have room
@@ -25,48 +25,48 @@ peer_tables s = tables s.args.peer-table.now s.args.snapshot-keys.now s.args.con
 abbrev room : tie.Start → Bool
 room s = peers_room (length s.args.peers.now) (lengths (peer_tables s))
 
-asked : (k : tie.After-ask-report) → let s = start k in k.ask-report.result ≡ first_no (report_asked (room s) s.args.report.now s.args.count)
+asked : (k : tie.After-ask_report-no) → let s = start k in k.ask_report-no.result ≡ first_no (report_asked (room s) s.args.report.now s.args.count)
 asked k =
     let s = start k in
-    report-with (room s) s.args.report.now s.args.count k.ask-report.ensures
-    (k.before.peers-have-room.ensures ∙ peers-lengths (length s.args.peers.now) (peer_tables s))
+    report-with (room s) s.args.report.now s.args.count k.ask_report-no.ensures
+    (k.before.peers_have_room-room.ensures ∙ peers-lengths (length s.args.peers.now) (peer_tables s))
 
 -- the questions of the lent words are passed
-passed : (e : tie.Else1) → let s = start e.before in Taken (room s) s.args.report.now s.args.count
-passed e = let s = start e.before in report-passed (room s) s.args.report.now s.args.count (asked e.before) e.if1.false
+passed : (e : tie.Else-no-ne0) → let s = start e.before in Taken (room s) s.args.report.now s.args.count
+passed e = let s = start e.before in report-passed (room s) s.args.report.now s.args.count (asked e.before) e.if-no-ne0.false
 
 -- and the peers' words are there
-three : (e : tie.Else1) → 3 ≤ length (start e.before).args.peers.now
+three : (e : tie.Else-no-ne0) → 3 ≤ length (start e.before).args.peers.now
 three e = peers-three _ _ (passed e).others
 
-returns : tie.Need-returns
-returns c = refused-call _ _ (asked c.before) c.if1.true (refl, refl)
+returns : tie.Need-returns-then-no-ne0
+returns c = refused-call _ _ (asked c.before) c.if-no-ne0.true (refl, refl)
 
-peers-of-requires : tie.Need-peers-of-requires
+peers-of-requires : tie.Need-peers_of-p-requires
 peers-of-requires c κs = three c.before
 
-report-of-requires : tie.Need-report-of-requires
+report-of-requires : tie.Need-report_of-sent-requires
 report-of-requires c κs = omega (arith, (passed c.before.before.before).long)
 
-put-peers-requires : tie.Need-put-peers-requires
+put-peers-requires : tie.Need-put_peers-requires
 put-peers-requires c κs =
     three c.before.before.before.before.before.before.before.before.before.before.before.before.before.before.before.before
 
-returns-2 : tie.Need-returns-2
+returns-2 : tie.Need-returns
 returns-2 c =
     let m₁ = c.before.before.before.before.before.before.before.before.before.before.before.before in
-    let peers-of = m₁.before.before.before.before.before.before.peers-of in
-    let new = m₁.before.before.before.before.before.new in
-    let report-of = m₁.before.before.before.before.report-of in
-    let apply = c.before.before.before.before.before.before.before.before.before.before.before.before.apply in
-    let put-peers = c.before.before.before.put-peers in
+    let peers-of = m₁.before.before.before.before.before.before.peers_of-p in
+    let new = m₁.before.before.before.before.before.new-id in
+    let report-of = m₁.before.before.before.before.report_of-sent in
+    let apply = c.before.before.before.before.before.before.before.before.before.before.before.before.apply-changed in
+    let put-peers = c.before.before.before.put_peers in
     passed-call _ _ (passed
     c.before.before.before.before.before.before.before.before.before.before.before.before.before.before.before.before.before.before.before.before).all_passed
-    (changes (sent peers-of.ensures new.ensures report-of.ensures) apply.result apply.ensures c.change-number.ensures
+    (changes (sent peers-of.ensures new.ensures report-of.ensures) apply.result apply.ensures c.change_number.ensures
     put-peers.ensures)
 
-pub nultiway-peers-apply-spec : {M : Type 1} → statement M
-nultiway-peers-apply-spec =
+pub nultiway_peers_apply_spec : {M : Type 1} → statement M
+nultiway_peers_apply_spec =
     tie.close
     (tie.spec
     (λ c κs. search rules)

@@ -7,31 +7,31 @@ use Rattle.nultiway.proofs.Calls.PeerCallLaws.{named}
 use Rattle.nultiway.proofs.peer_changes.nultiway_peers_leave.Statement.{statement}
 use Rattle.nultiway.proofs.peer_changes.nultiway_peers_leave.Tie as tie
 
-returns : tie.Need-returns
-returns c = called-short c.if1.true (refl, refl)
+returns : tie.Need-returns-then-peers-lt-PEERS_WORDS
+returns c = called-short c.if-peers-lt-PEERS_WORDS.true (refl, refl)
 
-peers-of-requires : tie.Need-peers-of-requires
-peers-of-requires c κs = c.before.if1.false
+peers-of-requires : tie.Need-peers_of-p-requires
+peers-of-requires c κs = c.before.if-peers-lt-PEERS_WORDS.false
 
-put-peers-requires : tie.Need-put-peers-requires
+put-peers-requires : tie.Need-put_peers-requires
 put-peers-requires c κs =
     let m₁ = c.before.before.before.before.before.before.before.before.before.before.before.before in
-    let if1 = m₁.before.before.before.if1 in
+    let if1 = m₁.before.before.before.if-peers-lt-PEERS_WORDS in
     if1.false
 
-returns-2 : tie.Need-returns-2
+returns-2 : tie.Need-returns
 returns-2 c =
     let m₁ = c.before.before.before.before.before.before.before.before.before.before.before.before in
-    let if1 = m₁.before.before.before.before.before.before.before.if1 in
-    let peers-of = m₁.before.before.before.before.before.peers-of in
-    let new = m₁.before.before.before.before.new in
-    let leave = c.before.before.before.before.before.before.before.before.before.before.before.before.leave in
-    let put-peers = c.before.before.before.put-peers in
+    let if1 = m₁.before.before.before.before.before.before.before.if-peers-lt-PEERS_WORDS in
+    let peers-of = m₁.before.before.before.before.before.peers_of-p in
+    let new = m₁.before.before.before.before.new-id in
+    let leave = c.before.before.before.before.before.before.before.before.before.before.before.before.leave-changed in
+    let put-peers = c.before.before.before.put_peers in
     called-room if1.false
-    (changes (named peers-of.ensures new.ensures) leave.result leave.ensures c.change-number.ensures put-peers.ensures)
+    (changes (named peers-of.ensures new.ensures) leave.result leave.ensures c.change_number.ensures put-peers.ensures)
 
-pub nultiway-peers-leave-spec : {M : Type 1} → statement M
-nultiway-peers-leave-spec =
+pub nultiway_peers_leave_spec : {M : Type 1} → statement M
+nultiway_peers_leave_spec =
     tie.close
     (tie.spec
     returns

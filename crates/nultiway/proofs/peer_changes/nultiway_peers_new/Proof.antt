@@ -5,14 +5,14 @@ use Rattle.nultiway.proofs.Calls.RoomLaws.{called-short, called-room}
 use Rattle.nultiway.proofs.peer_changes.nultiway_peers_new.Statement.{statement}
 use Rattle.nultiway.proofs.peer_changes.nultiway_peers_new.Tie as tie
 
-returns : tie.Need-returns
-returns c = called-short c.if1.true refl
+returns : tie.Need-returns-then-peers-lt-PEERS_WORDS
+returns c = called-short c.if-peers-lt-PEERS_WORDS.true refl
 
-returns-2 : tie.Need-returns-2
+returns-2 : tie.Need-returns
 returns-2 c =
-    let if1 = c.before.before.before.before.before.if1 in
+    let if1 = c.before.before.before.before.before.if-peers-lt-PEERS_WORDS in
     let new = c.before.before.before.new in
-    let put-new-peers = c.before.before.put-new-peers in
+    let put-new-peers = c.before.before.put_new_peers in
     called-room if1.false
     record {
       result = new.result;
@@ -21,8 +21,8 @@ returns-2 c =
       answer = put-new-peers.ensures.1;
     }
 
-pub nultiway-peers-new-spec : {M : Type 1} → statement M
-nultiway-peers-new-spec =
+pub nultiway_peers_new_spec : {M : Type 1} → statement M
+nultiway_peers_new_spec =
     tie.close
     (tie.spec
     returns

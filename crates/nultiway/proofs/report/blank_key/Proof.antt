@@ -5,7 +5,7 @@ use Rattle.nultiway.proofs.report.blank_key.Statement.{statement}
 use Rattle.nultiway.proofs.report.blank_key.Tie as tie
 
 returns : tie.Need-returns
-returns c = blank-read c.f32-from-bits.ensures
+returns c = blank-read c.f32_from_bits.ensures
 
-pub blank-key-spec : {M : Type 1} → statement M
-blank-key-spec = tie.close (tie.spec (λ c κs. search rules) returns)
+pub blank_key_spec : {M : Type 1} → statement M
+blank_key_spec = tie.close (tie.spec (λ c κs. search rules) returns)

@@ -4,13 +4,13 @@ use Rattle.nultiway.proofs.Words.ReportLaws.{is-listed-yes, is-listed-no}
 use Rattle.nultiway.proofs.report.is_listed.Statement.{statement}
 use Rattle.nultiway.proofs.report.is_listed.Tie as tie
 
-returns : tie.Need-returns
+returns : tie.Need-returns-then-words-lt-HALVES
 returns c =
     let a = c.before.before.before.args in
-    is-listed-yes a.words.now c.before.if1.true
+    is-listed-yes a.words.now c.before.if-words-lt-HALVES.true
 
-returns-2 : tie.Need-returns-2
-returns-2 c = is-listed-no c.before.before.args.words.now c.if1.false
+returns-2 : tie.Need-returns-else-words-lt-HALVES
+returns-2 c = is-listed-no c.before.before.args.words.now c.if-words-lt-HALVES.false
 
-pub is-listed-spec : {M : Type 1} → statement M
-is-listed-spec = tie.close (tie.spec (λ c. search rules) (λ c. search rules) returns returns-2)
+pub is_listed_spec : {M : Type 1} → statement M
+is_listed_spec = tie.close (tie.spec (λ c. search rules) (λ c. search rules) returns returns-2)

@@ -12,51 +12,51 @@ use Rattle.nultiway.proofs.Words.ReportLaws.{keys-start, keys_step}
 use Rattle.nultiway.proofs.report.listed_keys.Statement.{statement}
 use Rattle.nultiway.proofs.report.listed_keys.Tie as tie
 
-abbrev invariant-loop : tie.invariant-loop
-invariant-loop words n keys₀ i₀ keys i = (i ≤ n) × (keys ≡ keys_of i words)
+abbrev invariant-loop-i : tie.invariant-loop-i
+invariant-loop-i words n keys₀ i₀ keys i = (i ≤ n) × (keys ≡ keys_of i words)
 
-abbrev decreases-loop : tie.decreases-loop
-decreases-loop words n keys₀ i₀ keys i = n - i
+abbrev decreases-loop-i : tie.decreases-loop-i
+decreases-loop-i words n keys₀ i₀ keys i = n - i
 
-abbrev start : tie.In-loop invariant-loop decreases-loop → tie.Start invariant-loop decreases-loop
+abbrev start : tie.In-loop-i invariant-loop-i decreases-loop-i → tie.Start invariant-loop-i decreases-loop-i
 start c = c.before.before.before.before
 
 -- the words of a turn are within the report
-inside : (c : tie.In-loop invariant-loop decreases-loop) → c.before.loop.i * 3 + 3 ≤ length (start c).args.words.now
-inside c = omega (arith, row 3 (start c).args.n c.before.loop.i (omega arith), (start c).requires.1)
+inside : (c : tie.In-loop-i invariant-loop-i decreases-loop-i) → c.before.loop-i.i * 3 + 3 ≤ length (start c).args.words.now
+inside c = omega (arith, row 3 (start c).args.n c.before.loop-i.i (omega arith), (start c).requires.1)
 
-loop-holds : tie.Need-loop-init invariant-loop decreases-loop
-loop-holds c = (omega arith, keys-start _ c.blank-key.ensures)
+loop-holds : tie.Need-loop-i-init invariant-loop-i decreases-loop-i
+loop-holds c = (omega arith, keys-start _ c.blank_key-blank.ensures)
 
-mul_at : tie.Need-overflow-mul-at invariant-loop decreases-loop
+mul_at : tie.Need-overflow_mul-at invariant-loop-i decreases-loop-i
 mul_at c = omega (arith, inside c)
 
-add-listed-of : tie.Need-overflow-add-listed-of invariant-loop decreases-loop
+add-listed-of : tie.Need-overflow_add-at invariant-loop-i decreases-loop-i
 add-listed-of c = omega (arith, inside c)
 
-mul-listed-of : tie.Need-overflow-mul-listed-of invariant-loop decreases-loop
+mul-listed-of : tie.Need-offset_bounds-words-at invariant-loop-i decreases-loop-i
 mul-listed-of c = omega (arith, inside c)
 
-part-listed-of-start : tie.Need-slice-bounds-listed-of-start invariant-loop decreases-loop
+part-listed-of-start : tie.Need-slice_bounds-listed_of-start invariant-loop-i decreases-loop-i
 part-listed-of-start c = omega (arith, inside c)
 
-part-listed-of-end : tie.Need-slice-bounds-listed-of-end invariant-loop decreases-loop
+part-listed-of-end : tie.Need-slice_bounds-listed_of-end invariant-loop-i decreases-loop-i
 part-listed-of-end c = omega (arith, inside c)
 
-listed-of-requires : tie.Need-listed-of-requires invariant-loop decreases-loop
+listed-of-requires : tie.Need-listed_of-key-requires invariant-loop-i decreases-loop-i
 listed-of-requires c κs =
     let ws = (start c.before).args.words.now in
-    let at = c.before.before.loop.i * 3 in
+    let at = c.before.before.loop-i.i * 3 in
     length-take (at + 3 - at) (drop at ws) ∙ omega (arith, length-drop at ws, inside c.before)
 
-array-set-from-keys : tie.Need-array-set-from-keys invariant-loop decreases-loop
+array-set-from-keys : tie.Need-bounds-keys-i invariant-loop-i decreases-loop-i
 array-set-from-keys c = omega (arith, (start c.before.before).pre.0)
 
-loop-again : tie.Need-loop-preserved invariant-loop decreases-loop
+loop-again : tie.Need-loop-i-preserved invariant-loop-i decreases-loop-i
 loop-again c =
     let s = start c.before.before in
     let ws = s.args.words.now in
-    let l = c.before.before.before.loop in
+    let l = c.before.before.before.loop-i in
     let three : l.i * 3 + 3 - l.i * 3 ≡ 3 = omega arith in
     let key : c.Listed-of.result ≡ listed_of (take 3 (drop (l.i * 3) ws)) =
     c.Listed-of.ensures ∙ ap (λ (k : ℕ). listed_of (take k (drop (l.i * 3) ws))) three in (
@@ -66,19 +66,19 @@ loop-again c =
           ∙ keys_step ws l.i (omega (arith, s.pre.0)),
     )
 
-returns : tie.Need-returns invariant-loop decreases-loop
+returns : tie.Need-returns invariant-loop-i decreases-loop-i
 returns c =
     let s = c.before.before.before.before in
-    let l = c.before.loop in
+    let l = c.before.loop-i in
     let e : l.i ≡ s.args.n = omega arith in
     l.invariant.1 ∙ ap (λ (k : ℕ). keys_of k s.args.words.now) e
 
-pub listed-keys-spec : {M : Type 1} → statement M
-listed-keys-spec =
+pub listed_keys_spec : {M : Type 1} → statement M
+listed_keys_spec =
     tie.close
     (tie.spec
-    invariant-loop
-    decreases-loop
+    invariant-loop-i
+    decreases-loop-i
     (λ c κs. search rules)
     loop-holds
     mul_at

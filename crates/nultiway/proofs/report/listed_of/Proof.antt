@@ -5,16 +5,16 @@ use Rattle.nultiway.proofs.Words.ReportLaws.{listed-read}
 use Rattle.nultiway.proofs.report.listed_of.Statement.{statement}
 use Rattle.nultiway.proofs.report.listed_of.Tie as tie
 
-cast-f32-from-bits : tie.Need-overflow-cast-f32-from-bits
+cast-f32-from-bits : tie.Need-overflow_cast-demand
 cast-f32-from-bits c = omega arith
 
 returns : tie.Need-returns
 returns c =
     let a = c.before.before.before.before.before.args in
-    listed-read a.words.now c.before.f32-from-bits.ensures
+    listed-read a.words.now c.before.f32_from_bits.ensures
 
-pub listed-of-spec : {M : Type 1} → statement M
-listed-of-spec =
+pub listed_of_spec : {M : Type 1} → statement M
+listed_of_spec =
     tie.close
     (tie.spec
     (λ c. search rules)

@@ -5,13 +5,13 @@ use Rattle.nultiway.proofs.Words.ReportLaws.{report-read}
 use Rattle.nultiway.proofs.report.report_of.Statement.{statement}
 use Rattle.nultiway.proofs.report.report_of.Tie as tie
 
-listed-keys-requires : tie.Need-listed-keys-requires
+listed-keys-requires : tie.Need-listed_keys-keys-requires
 listed-keys-requires c κs = (omega (arith, c.min.ensures), omega (arith, c.min.ensures, c.before.before.requires))
 
 returns : tie.Need-returns
 returns c =
     let a = c.before.before.before.args in
-    report-read _ _ _ a.words.now _ c.before.min.ensures c.listed-keys.ensures
+    report-read _ _ _ a.words.now _ c.before.min.ensures c.listed_keys-keys.ensures
 
-pub report-of-spec : {M : Type 1} → statement M
-report-of-spec = tie.close (tie.spec (λ c κs. search rules) listed-keys-requires returns)
+pub report_of_spec : {M : Type 1} → statement M
+report_of_spec = tie.close (tie.spec (λ c κs. search rules) listed-keys-requires returns)

@@ -6,18 +6,18 @@ use Rattle.nultiway.proofs.Calls.RoomLaws.{called-short, called-room}
 use Rattle.nultiway.proofs.share_calls.nultiway_share.Statement.{statement}
 use Rattle.nultiway.proofs.share_calls.nultiway_share.Tie as tie
 
-returns-2 : tie.Need-returns-2
+returns-2 : tie.Need-returns
 returns-2 c =
     let n = c.before.before in
     let k = n.before in
-    called-room k.before.before.if1.false
-    (tells refl k.share.result k.share.ensures n.put-share.ensures.0 n.put-share.ensures.1)
+    called-room k.before.before.if-answer-lt1.false
+    (tells refl k.share.result k.share.ensures n.put_share.ensures.0 n.put_share.ensures.1)
 
-pub nultiway-share-spec : {M : Type 1} → statement M
-nultiway-share-spec =
+pub nultiway_share_spec : {M : Type 1} → statement M
+nultiway_share_spec =
     tie.close
     (tie.spec
-    (λ c. called-short c.if1.true refl)
+    (λ c. called-short c.if-answer-lt1.true refl)
     (λ c κs. search rules)
     (λ c κs. search rules)
     (λ c. search rules)

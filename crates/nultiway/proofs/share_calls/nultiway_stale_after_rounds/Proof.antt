@@ -6,18 +6,18 @@ use Rattle.nultiway.proofs.Calls.RoomLaws.{called-short, called-room}
 use Rattle.nultiway.proofs.share_calls.nultiway_stale_after_rounds.Statement.{statement}
 use Rattle.nultiway.proofs.share_calls.nultiway_stale_after_rounds.Tie as tie
 
-returns-2 : tie.Need-returns-2
+returns-2 : tie.Need-returns
 returns-2 c =
     let n = c.before.before in
     let k = n.before in
-    called-room k.before.before.if1.false
-    (tells refl k.stale-after-rounds.result k.stale-after-rounds.ensures n.put-rounds.ensures.0 n.put-rounds.ensures.1)
+    called-room k.before.before.if-answer-lt1.false
+    (tells refl k.stale_after_rounds.result k.stale_after_rounds.ensures n.put_rounds.ensures.0 n.put_rounds.ensures.1)
 
-pub nultiway-stale-after-rounds-spec : {M : Type 1} → statement M
-nultiway-stale-after-rounds-spec =
+pub nultiway_stale_after_rounds_spec : {M : Type 1} → statement M
+nultiway_stale_after_rounds_spec =
     tie.close
     (tie.spec
-    (λ c. called-short c.if1.true refl)
+    (λ c. called-short c.if-answer-lt1.true refl)
     (λ c κs. search rules)
     (λ c κs. search rules)
     (λ c. search rules)

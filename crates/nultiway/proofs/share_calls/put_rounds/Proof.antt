@@ -6,13 +6,13 @@ use Rattle.nultiway.proofs.Calls.CallLaws.{said_put}
 use Rattle.nultiway.proofs.share_calls.put_rounds.Statement.{statement}
 use Rattle.nultiway.proofs.share_calls.put_rounds.Tie as tie
 
-returns-2 : tie.Need-returns-2
+returns-2 : tie.Need-returns-in-Is
 returns-2 c =
     let said2 = c.before.before.before.before.before.before.said2 in
     said_put _ _ _ _ _ (ap rounds_answer said2.given.1) c.before.before.put.ensures
 
-pub put-rounds-spec : {M : Type 1} → statement M
-put-rounds-spec =
+pub put_rounds_spec : {M : Type 1} → statement M
+put_rounds_spec =
     tie.close
     (tie.spec
     (λ c. search rules)

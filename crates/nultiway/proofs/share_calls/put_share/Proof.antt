@@ -9,16 +9,16 @@ use Rattle.nultiway.proofs.Calls.CallLaws.{said_put}
 use Rattle.nultiway.proofs.share_calls.put_share.Statement.{statement}
 use Rattle.nultiway.proofs.share_calls.put_share.Tie as tie
 
-returns-2 : tie.Need-returns-2
+returns-2 : tie.Need-returns-in-Is
 returns-2 c =
     let a = c.before.before.before.before.before.before.before.before.before.before.args in
     let said2 = c.before.before.before.before.before.before.before.said2 in
-    let to-bits = c.before.before.before.before.before.to-bits in
+    let to-bits = c.before.before.before.before.before.to_bits in
     said_put _ _ _ _ _ (ap share_answer said2.given.1)
     (c.before.before.put.ensures ∙ ap (λ (x : ℕ). paste 0 (x ∷ []) a.to.now) to-bits.ensures)
 
-pub put-share-spec : {M : Type 1} → statement M
-put-share-spec =
+pub put_share_spec : {M : Type 1} → statement M
+put_share_spec =
     tie.close
     (tie.spec
     (λ c. search rules)

@@ -23,47 +23,47 @@ room_of s l = have_room l.config (record { keys = s.args.keys; hot = s.args.hot;
 abbrev tables_long : tie.Start → Bool
 tables_long s = room_of s (limiter_of s.args.words.now)
 
-abbrev start : tie.After-have-room → tie.Start
+abbrev start : tie.After-have_room → tie.Start
 start h = h.before.before.before.before.before.before
 
 -- the sizes are those of the words
-told : (h : tie.After-have-room) → h.have-room.result ≡ tables_long (start h)
-told h = h.have-room.ensures ∙ ap (room_of (start h)) h.before.before.limiter-of.ensures
+told : (h : tie.After-have_room) → h.have_room.result ≡ tables_long (start h)
+told h = h.have_room.ensures ∙ ap (room_of (start h)) h.before.before.limiter_of-limiter.ensures
 
-returns : tie.Need-returns
-returns c = first-no 1 _ (and_first _ _ (lt-leb _ _ c.if1.true))
+returns : tie.Need-returns-then-words-lt-LIMITER_WORDS
+returns c = first-no 1 _ (and_first _ _ (lt-leb _ _ c.if-words-lt-LIMITER_WORDS.true))
 
-returns-2 : tie.Need-returns-2
+returns-2 : tie.Need-returns-then-not-room
 returns-2 c =
     let s = c.before.before.before in
-    first-no 1 _ (and_second (long s) _ (and_second (tables_long s) _ (told-no refl c.if2.true)))
+    first-no 1 _ (and_second (long s) _ (and_second (tables_long s) _ (told-no refl c.if-not-room.true)))
 
-returns-3 : tie.Need-returns-3
+returns-3 : tie.Need-returns-then-not-have_room
 returns-3 c =
     let s = start c.before in
-    first-no 1 _ (and_second (long s) _ (and_first (tables_long s) _ (told-no (told c.before) c.if3.true)))
+    first-no 1 _ (and_second (long s) _ (and_first (tables_long s) _ (told-no (told c.before) c.if-not-have_room.true)))
 
 -- question 1 is passed
-room : (e : tie.Else3) → let s = start e.before in (long s && (tables_long s && s.args.room)) ≡ true
+room : (e : tie.Else-not-have_room) → let s = start e.before in (long s && (tables_long s && s.args.room)) ≡ true
 room e =
     let s = start e.before in
     let r = e.before.before.before.before in
-    and_intro (long s) _ (le-leb _ _ r.before.if1.false)
-    (and_intro (tables_long s) _ (told-yes (told e.before) e.if3.false) (told-yes refl r.if2.false))
+    and_intro (long s) _ (le-leb _ _ r.before.if-words-lt-LIMITER_WORDS.false)
+    (and_intro (tables_long s) _ (told-yes (told e.before) e.if-not-have_room.false) (told-yes refl r.if-not-room.false))
 
-is-limiter-requires : tie.Need-is-limiter-requires
+is-limiter-requires : tie.Need-is_limiter-requires
 is-limiter-requires c κs =
     let l = c.before.before.before in
-    (l.before.before.if1.false, l.limiter-of.ensures)
+    (l.before.before.if-words-lt-LIMITER_WORDS.false, l.limiter_of-limiter.ensures)
 
-returns-4 : tie.Need-returns-4
-returns-4 c = first-yes 1 _ (room c.before.before) (first-no 2 _ (told-no c.before.is-limiter.ensures c.if4.true))
+returns-4 : tie.Need-returns-then-not-is_limiter
+returns-4 c = first-yes 1 _ (room c.before.before) (first-no 2 _ (told-no c.before.is_limiter.ensures c.if-not-is_limiter.true))
 
-returns-5 : tie.Need-returns-5
-returns-5 c = first-yes 1 _ (room c.before.before) (first-yes 2 _ (told-yes c.before.is-limiter.ensures c.if4.false) first-none)
+returns-5 : tie.Need-returns
+returns-5 c = first-yes 1 _ (room c.before.before) (first-yes 2 _ (told-yes c.before.is_limiter.ensures c.if-not-is_limiter.false) first-none)
 
-pub ask-limiter-spec : {M : Type 1} → statement M
-ask-limiter-spec =
+pub ask_limiter_spec : {M : Type 1} → statement M
+ask_limiter_spec =
     tie.close
     (tie.spec
     returns

@@ -12,7 +12,7 @@ use Rattle.nultiway.specs.Values.{limiter_words, is_limiter}
 use Rattle.nultiway.proofs.values.is_limiter.Statement.{statement}
 use Rattle.nultiway.proofs.values.is_limiter.Tie as tie
 
-slice-aggregate-are-same-2 : tie.Need-slice-aggregate-are-same-2
+slice-aggregate-are-same-2 : tie.Need-slice_bounds-are_same-end-2
 slice-aggregate-are-same-2 c = sym (length-take-le 16 c.before.before.before.before.args.words.now (omega arith))
 
 returns : tie.Need-returns
@@ -20,12 +20,12 @@ unfolding is_limiter
 returns c =
     let w = c.before.before.before in
     let s = w.before.before in
-    c.are-same.ensures
+    c.are_same.ensures
     ∙ ap (λ (k : List ℕ). same k (take 16 s.args.words.now))
-    (w.limiter-words.ensures ∙ ap (λ (x : Limiter). limiter_words x) s.requires.1)
+    (w.limiter_words-again.ensures ∙ ap (λ (x : Limiter). limiter_words x) s.requires.1)
 
-pub is-limiter-spec : {M : Type 1} → statement M
-is-limiter-spec =
+pub is_limiter_spec : {M : Type 1} → statement M
+is_limiter_spec =
     tie.close
     (tie.spec
     (λ c κs. search rules)

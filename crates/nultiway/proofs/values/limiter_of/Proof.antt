@@ -10,11 +10,11 @@ returns c =
     let x = t.before in
     let g = x.before in
     let w = g.before in
-    limiter-read w.before.before.args.words.now _ _ _ _ w.settings-in.ensures g.config-of.ensures x.cap-of.ensures
-    t.last-tick-of.ensures
+    limiter-read w.before.before.args.words.now _ _ _ _ w.settings_in-w.ensures g.config_of-config.ensures x.cap_of-cap.ensures
+    t.last_tick_of-last_tick.ensures
 
-pub limiter-of-spec : {M : Type 1} → statement M
-limiter-of-spec =
+pub limiter_of_spec : {M : Type 1} → statement M
+limiter_of_spec =
     tie.close
     (tie.spec
     (λ c κs. search rules)

@@ -8,10 +8,10 @@ returns : tie.Need-returns
 returns c =
     let x = c.before in
     let g = x.before in
-    limiter-written g.before.before.args.limiter g.config-words.ensures x.cap-words.ensures c.last-tick-words.ensures
+    limiter-written g.before.before.args.limiter g.config_words-w.ensures x.cap_words-c.ensures c.last_tick_words-t.ensures
 
-pub limiter-words-spec : {M : Type 1} → statement M
-limiter-words-spec =
+pub limiter_words_spec : {M : Type 1} → statement M
+limiter_words_spec =
     tie.close
     (tie.spec
     (λ c κs. search rules)

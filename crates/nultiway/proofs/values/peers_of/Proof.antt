@@ -9,5 +9,5 @@ returns : tie.Need-returns
 unfolding peers_of
 returns c = refl
 
-pub peers-of-spec : {M : Type 1} → statement M
-peers-of-spec = tie.close (tie.spec (λ c. search rules) (λ c. search rules) (λ c. search rules) returns)
+pub peers_of_spec : {M : Type 1} → statement M
+peers_of_spec = tie.close (tie.spec (λ c. search rules) (λ c. search rules) (λ c. search rules) returns)

@@ -8,5 +8,5 @@ returns : tie.Need-returns
 unfolding peers_words
 returns c = c.before.before.put.ensures
 
-pub put-peers-spec : {M : Type 1} → statement M
-put-peers-spec = tie.close (tie.spec (λ c. search rules) (λ c κs. search rules) (λ c. search rules) returns)
+pub put_peers_spec : {M : Type 1} → statement M
+put_peers_spec = tie.close (tie.spec (λ c. search rules) (λ c κs. search rules) (λ c. search rules) returns)

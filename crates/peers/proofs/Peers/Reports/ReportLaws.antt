@@ -12,7 +12,7 @@ use Rattle.peers.specs.declared.peer_report.Verdict.{Verdict}
 use Rattle.peers.specs.declared.peer_report.Verdict.TheVariants as verdict
 use Rattle.questions.specs.Lists.{all, any, first, those}
 use Rattle.records.specs.Fields.{time_words}
-use Rattle.peers.specs.Peers.Records.{Snapshot, PeerRecord, snapshot_of, snapshot_words, past_words_lem, peer_words, peer_of}
+use Rattle.peers.specs.Peers.Records.{Snapshot, PeerRecord, snapshot_of, snapshot_words, past_words, peer_words, peer_of}
 use Rattle.records.specs.Typed.{is_word, word, Replaceable, Front, first_word}
 use Rattle.peers.specs.Peers.State.{is_known, peer_with, valid_snapshot, valid_past, valid_peer}
 use Rattle.peers.specs.Peers.Changes as changes
@@ -97,15 +97,15 @@ pub past-count : (p : PeerRecord) → word 7 (peer_words p) ≡ length p.past_ep
 unfolding peer_words
 past-count p = by p.snapshot
   where
-    by : (s : Option Snapshot) → word 7 (p.id ∷ (time_words p.held_until ++ (snapshot_words s ++ past_words_lem p.past_epochs))) ≡ length p.past_epochs
+    by : (s : Option Snapshot) → word 7 (p.id ∷ (time_words p.held_until ++ (snapshot_words s ++ past_words p.past_epochs))) ≡ length p.past_epochs
     by none = refl
     by (some s) = refl
 
-pub past_words_lem : (p : PeerRecord) → drop 7 (peer_words p) ≡ past_words_lem p.past_epochs
+pub past_words_lem : (p : PeerRecord) → drop 7 (peer_words p) ≡ past_words p.past_epochs
 unfolding peer_words
 past_words_lem p = by p.snapshot
   where
-    by : (s : Option Snapshot) → drop 7 (p.id ∷ (time_words p.held_until ++ (snapshot_words s ++ past_words_lem p.past_epochs))) ≡ past_words_lem p.past_epochs
+    by : (s : Option Snapshot) → drop 7 (p.id ∷ (time_words p.held_until ++ (snapshot_words s ++ past_words p.past_epochs))) ≡ past_words p.past_epochs
     by none = refl
     by (some s) = refl
 
@@ -223,14 +223,14 @@ seven-shift e l = (λ i. min (at-seven l 0 i + 1) 4 ∷ e ∷ at-seven l 1 i ∷
 too_many : {P : Type 0} (a b c d e : ℕ) (es : List ℕ) → length (a ∷ b ∷ c ∷ d ∷ e ∷ es) ≤ 4 → P
 too_many a b c d e es h = absurd (not-suc-le-zero (le_of_suc-le-suc (le_of_suc-le-suc (le_of_suc-le-suc (le_of_suc-le-suc h)))))
 
-five-words : (past : List ℕ) → word 0 (past_words_lem past) ∷ word 1 (past_words_lem past) ∷ word 2 (past_words_lem past) ∷ word 3 (past_words_lem past) ∷ word 4 (past_words_lem past) ∷ [] ≡ past_words_lem past
+five-words : (past : List ℕ) → word 0 (past_words past) ∷ word 1 (past_words past) ∷ word 2 (past_words past) ∷ word 3 (past_words past) ∷ word 4 (past_words past) ∷ [] ≡ past_words past
 five-words [] = refl
 five-words (a ∷ []) = refl
 five-words (a ∷ b ∷ []) = refl
 five-words (a ∷ b ∷ c ∷ []) = refl
 five-words (a ∷ b ∷ c ∷ d ∷ es) = refl
 
-one-more-past : (x : ℕ) (past : List ℕ) → length past ≤ 4 → min (word 0 (past_words_lem past) + 1) 4 ∷ x ∷ word 1 (past_words_lem past) ∷ word 2 (past_words_lem past) ∷ word 3 (past_words_lem past) ∷ [] ≡ past_words_lem (x ∷ take 3 past)
+one-more-past : (x : ℕ) (past : List ℕ) → length past ≤ 4 → min (word 0 (past_words past) + 1) 4 ∷ x ∷ word 1 (past_words past) ∷ word 2 (past_words past) ∷ word 3 (past_words past) ∷ [] ≡ past_words (x ∷ take 3 past)
 one-more-past x [] h = refl
 one-more-past x (a ∷ []) h = refl
 one-more-past x (a ∷ b ∷ []) h = refl
@@ -242,31 +242,31 @@ module _ (epoch : ℕ) (old : List ℕ) (f : PeerFacts old) where
   after-some : (word 3 old ≡ 0 → ⊥) → past_after epoch old ≡ cond (eqb (word 4 old) epoch) (peer_of old).past_epochs (word 4 old ∷ take 3 (peer_of old).past_epochs)
   after-some h = ap (λ (s : Option Snapshot). next_past epoch s (peer_of old).past_epochs) (snapshot-some old f h)
 
-  five : drop 7 old ≡ past_words_lem (peer_of old).past_epochs
+  five : drop 7 old ≡ past_words (peer_of old).past_epochs
   five = ap (drop 7) f.exact ∙ past_words_lem (peer_of old)
 
-  pub past_first : word 3 old ≡ 0 → 0 ∷ 0 ∷ 0 ∷ 0 ∷ 0 ∷ [] ≡ past_words_lem (past_after epoch old)
-  past_first e = sym (ap (λ (s : Option Snapshot). past_words_lem (next_past epoch s (peer_of old).past_epochs)) (snapshot-none old f e))
+  pub past_first : word 3 old ≡ 0 → 0 ∷ 0 ∷ 0 ∷ 0 ∷ 0 ∷ [] ≡ past_words (past_after epoch old)
+  past_first e = sym (ap (λ (s : Option Snapshot). past_words (next_past epoch s (peer_of old).past_epochs)) (snapshot-none old f e))
 
-  pub past-again : (word 3 old ≡ 0 → ⊥) → word 4 old ≡ epoch → word 7 old ∷ word 8 old ∷ word 9 old ∷ word 10 old ∷ word 11 old ∷ [] ≡ past_words_lem (past_after epoch old)
+  pub past-again : (word 3 old ≡ 0 → ⊥) → word 4 old ≡ epoch → word 7 old ∷ word 8 old ∷ word 9 old ∷ word 10 old ∷ word 11 old ∷ [] ≡ past_words (past_after epoch old)
   past-again h e =
       let q : past_after epoch old ≡ (peer_of old).past_epochs = after-some h ∙ ap (λ (b : Bool). cond b (peer_of old).past_epochs (word 4 old ∷ take 3 (peer_of old).past_epochs)) (eq-eqb (word 4 old) epoch e) in
       seven-more old
       ∙ ap (λ (z : List ℕ). word 0 z ∷ word 1 z ∷ word 2 z ∷ word 3 z ∷ word 4 z ∷ []) five
       ∙ five-words (peer_of old).past_epochs
-      ∙ sym (ap past_words_lem q)
+      ∙ sym (ap past_words q)
 
-  pub past-anew : (word 3 old ≡ 0 → ⊥) → (word 4 old ≡ epoch → ⊥) → (count : ℕ) → count ≡ min (word 7 old + 1) 4 → count ∷ word 4 old ∷ word 8 old ∷ word 9 old ∷ word 10 old ∷ [] ≡ past_words_lem (past_after epoch old)
+  pub past-anew : (word 3 old ≡ 0 → ⊥) → (word 4 old ≡ epoch → ⊥) → (count : ℕ) → count ≡ min (word 7 old + 1) 4 → count ∷ word 4 old ∷ word 8 old ∷ word 9 old ∷ word 10 old ∷ [] ≡ past_words (past_after epoch old)
   past-anew h e count ec =
       let q : past_after epoch old ≡ word 4 old ∷ take 3 (peer_of old).past_epochs = after-some h ∙ ap (λ (b : Bool). cond b (peer_of old).past_epochs (word 4 old ∷ take 3 (peer_of old).past_epochs)) (ne_eqb (word 4 old) epoch e) in
       ap (λ (z : ℕ). z ∷ word 4 old ∷ word 8 old ∷ word 9 old ∷ word 10 old ∷ []) ec
       ∙ seven-shift (word 4 old) old
       ∙ ap (λ (z : List ℕ). min (word 0 z + 1) 4 ∷ word 4 old ∷ word 1 z ∷ word 2 z ∷ word 3 z ∷ []) five
       ∙ one-more-past (word 4 old) (peer_of old).past_epochs (few_past old f)
-      ∙ sym (ap past_words_lem q)
+      ∙ sym (ap past_words q)
 
 -- the words of the peer with these past epochs
-pub taken-with : (id epoch round at : ℕ) (past ws : List ℕ) → ws ≡ past_words_lem past → id ∷ 0 ∷ 0 ∷ 1 ∷ epoch ∷ round ∷ at ∷ word 0 ws ∷ word 1 ws ∷ word 2 ws ∷ word 3 ws ∷ word 4 ws ∷ [] ≡ peer_words (changes.taken_peer id epoch round at past)
+pub taken-with : (id epoch round at : ℕ) (past ws : List ℕ) → ws ≡ past_words past → id ∷ 0 ∷ 0 ∷ 1 ∷ epoch ∷ round ∷ at ∷ word 0 ws ∷ word 1 ws ∷ word 2 ws ∷ word 3 ws ∷ word 4 ws ∷ [] ≡ peer_words (changes.taken_peer id epoch round at past)
 unfolding peer_words
 taken-with id epoch round at past ws e =
     ap (λ (z : List ℕ). id ∷ 0 ∷ 0 ∷ 1 ∷ epoch ∷ round ∷ at ∷ word 0 z ∷ word 1 z ∷ word 2 z ∷ word 3 z ∷ word 4 z ∷ []) e

@@ -9,7 +9,7 @@ use Rattle.records.proofs.Order.OrderLaws.{same-append}
 use Rattle.questions.specs.Lists.{all, present}
 use Rattle.records.specs.Fields.{time_words, time_of}
 use Rattle.records.proofs.Words.FieldLaws.{flag_word_lem, time-words}
-use Rattle.peers.specs.Peers.Records.{snapshot_words, snapshot_of, past_words_lem, peer_words, snapshot_key_words, contested_words, peer_of, snapshot_key_of, contested_of}
+use Rattle.peers.specs.Peers.Records.{snapshot_words, snapshot_of, past_words, peer_words, snapshot_key_words, contested_words, peer_of, snapshot_key_of, contested_of}
 use Rattle.records.specs.Typed.{is_word, word}
 use Rattle.peers.specs.Peers.State.{is_demand, valid_snapshot, valid_past, past_has_snapshot, valid_peer, valid_snapshot_key, valid_contested}
 use Rattle.peers.specs.Peers.Steps.Scan.{is_snapshot, is_past_epoch, is_past, is_peer, are_peer_words, are_key_words}
@@ -50,7 +50,7 @@ counted-3 a b c d = simp ands
 counted-4 : (a b c d : Bool) → (a && (b && (c && (d && true)))) ≡ (a && (b && (c && d)))
 counted-4 a b c d = simp ands
 
-past_words_lem : (count a b c d : ℕ) → (same (past_words_lem (take count (a ∷ b ∷ c ∷ d ∷ []))) (count ∷ a ∷ b ∷ c ∷ d ∷ []) && valid_past (take count (a ∷ b ∷ c ∷ d ∷ []))) ≡ is_past count a b c d
+past_words_lem : (count a b c d : ℕ) → (same (past_words (take count (a ∷ b ∷ c ∷ d ∷ []))) (count ∷ a ∷ b ∷ c ∷ d ∷ []) && valid_past (take count (a ∷ b ∷ c ∷ d ∷ []))) ≡ is_past count a b c d
 unfolding same all is_past is_past_epoch
 past_words_lem zero a b c d = rw (eqb-turn 0 a, eqb-turn 0 b, eqb-turn 0 c, eqb-turn 0 d) (simp ands)
 past_words_lem (suc zero) a b c d = rw (eqb-self a, eqb-turn 0 b, eqb-turn 0 c, eqb-turn 0 d) (counted-1 (ltb a (2 ^ 32)) (eqb b 0) (eqb c 0) (eqb d 0))
@@ -88,10 +88,10 @@ KeyIs = PassIs snapshot_key_words snapshot_key_of valid_snapshot_key (are_key_wo
 abbrev pub ContestedIs : List ℕ → Type 0
 ContestedIs = PassIs contested_words contested_of valid_contested (are_key_words 6)
 
-same-peer : (a b c d e f g h i j k l : ℕ) → same (peer_words (peer_of (a ∷ b ∷ c ∷ d ∷ e ∷ f ∷ g ∷ h ∷ i ∷ j ∷ k ∷ l ∷ []))) (a ∷ b ∷ c ∷ d ∷ e ∷ f ∷ g ∷ h ∷ i ∷ j ∷ k ∷ l ∷ []) ≡ (same (time_words (time_of b c)) (b ∷ c ∷ []) && (same (snapshot_words (snapshot_of d e f g)) (d ∷ e ∷ f ∷ g ∷ []) && same (past_words_lem (take h (i ∷ j ∷ k ∷ l ∷ []))) (h ∷ i ∷ j ∷ k ∷ l ∷ [])))
+same-peer : (a b c d e f g h i j k l : ℕ) → same (peer_words (peer_of (a ∷ b ∷ c ∷ d ∷ e ∷ f ∷ g ∷ h ∷ i ∷ j ∷ k ∷ l ∷ []))) (a ∷ b ∷ c ∷ d ∷ e ∷ f ∷ g ∷ h ∷ i ∷ j ∷ k ∷ l ∷ []) ≡ (same (time_words (time_of b c)) (b ∷ c ∷ []) && (same (snapshot_words (snapshot_of d e f g)) (d ∷ e ∷ f ∷ g ∷ []) && same (past_words (take h (i ∷ j ∷ k ∷ l ∷ []))) (h ∷ i ∷ j ∷ k ∷ l ∷ [])))
 unfolding same peer_words peer_of
 same-peer a b c d e f g h i j k l =
-    let past : List ℕ = past_words_lem (take h (i ∷ j ∷ k ∷ l ∷ [])) in
+    let past : List ℕ = past_words (take h (i ∷ j ∷ k ∷ l ∷ [])) in
     let rest : List ℕ = snapshot_words (snapshot_of d e f g) ++ past in
     ap (λ (z : Bool). z && same (time_words (time_of b c) ++ rest) (b ∷ c ∷ d ∷ e ∷ f ∷ g ∷ h ∷ i ∷ j ∷ k ∷ l ∷ [])) (eqb-self a)
     ∙ same-append (time_words (time_of b c)) (b ∷ c ∷ []) rest (d ∷ e ∷ f ∷ g ∷ h ∷ i ∷ j ∷ k ∷ l ∷ []) refl
@@ -109,7 +109,7 @@ peer-words a b c d e f g h i j k l word =
     let es : List ℕ = take h (i ∷ j ∷ k ∷ l ∷ []) in
     let time : Bool = same (time_words (time_of b c)) (b ∷ c ∷ []) in
     let taken : Bool = same (snapshot_words (snapshot_of d e f g)) (d ∷ e ∷ f ∷ g ∷ []) in
-    let past : Bool = same (past_words_lem es) (h ∷ i ∷ j ∷ k ∷ l ∷ []) in
+    let past : Bool = same (past_words es) (h ∷ i ∷ j ∷ k ∷ l ∷ []) in
     let words : Bool = all is_word (peer_words (peer_of r)) in
     ap (λ (z : Bool). z && valid_peer (peer_of r)) (same-peer a b c d e f g h i j k l)
     ∙ regroup time taken past words (valid_snapshot (snapshot_of d e f g)) (valid_past es) (past_has_snapshot (peer_of r))

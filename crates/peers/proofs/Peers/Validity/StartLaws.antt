@@ -14,7 +14,7 @@ use Rattle.peers.specs.Peers.State.{PeerTables, tables, state_of}
 use Rattle.peers.specs.Peers.Readers.{heard_taken, heard_contested, snapshot_key_at, contested_at, join, heard}
 use Rattle.records.specs.Typed.{first_word, second_word}
 use Rattle.peers.specs.Peers.Steps.Scan.{are_key_words, is_key_of, PeersReady, Starts}
-use Rattle.peers.specs.Peers.Steps.Heard.{KeyTable, StateReady, Readable, OwnRun, Own, own_keys_lem}
+use Rattle.peers.specs.Peers.Steps.Heard.{KeyTable, StateReady, Readable, OwnRun, Own, own_keys}
 use Rattle.questions.proofs.ListLaws.{all-index, mapped}
 use Rattle.records.proofs.Words.RowLaws.{first-at}
 use Rattle.records.proofs.Order.RangeLaws.{those-is}
@@ -181,7 +181,7 @@ module _ (w n : ℕ) (xs : List ℕ) (id from to : ℕ) (own : OwnRun w n xs id 
 pub starts-room : (p : PeerDemand) (t : PeerTables) (s : KeyStarts) → Readable p t s → (i : ℕ) → i < p.peers → (i + 1 < length s.snapshot_keys) × (i + 1 < length s.contested)
 starts-room p t s r i h = (omega (arith, r.started.snapshot_keys.room), omega (arith, r.started.contested.room))
 
-pub own-told : (p : PeerDemand) (t : PeerTables) (s : KeyStarts) → Readable p t s → (i : ℕ) → i < p.peers → (o : OwnKeys) → o ≡ own_keys_lem s.snapshot_keys s.contested i → Own p t i o
+pub own-told : (p : PeerDemand) (t : PeerTables) (s : KeyStarts) → Readable p t s → (i : ℕ) → i < p.peers → (o : OwnKeys) → o ≡ own_keys s.snapshot_keys s.contested i → Own p t i o
 own-told p t s r i h o e = subst (Own p t i) (sym e) (record {
   snapshot_keys = own-run 4 p.snapshot_keys p.peers t.snapshot_keys t.peers s.snapshot_keys r.ready.peers r.started.snapshot_keys i h;
   contested = own-run 6 p.contested p.peers t.contested t.peers s.contested r.ready.peers r.started.contested i h;

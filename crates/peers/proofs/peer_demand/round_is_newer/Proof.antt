@@ -4,14 +4,14 @@ use Rattle.peers.proofs.Peers.Reports.RoundLaws.{wraps-ahead, some-ahead, newer-
 use Rattle.peers.proofs.peer_demand.round_is_newer.Statement.{statement}
 use Rattle.peers.proofs.peer_demand.round_is_newer.Tie as tie
 
-returns : tie.Need-returns
+returns : tie.Need-returns-then-a-b
 returns c =
     newer-if _ _ _
-    (some-ahead _ _ _ (omega arith) c.before.if1.true c.wrapping-sub-u16.ensures)
-    (wraps-ahead _ _ _ (omega arith) (omega arith) (omega arith) c.wrapping-sub-u16.ensures)
+    (some-ahead _ _ _ (omega arith) c.before.if-a-b.true c.wrapping_sub_u16.ensures)
+    (wraps-ahead _ _ _ (omega arith) (omega arith) (omega arith) c.wrapping_sub_u16.ensures)
 
-returns-2 : tie.Need-returns-2
-returns-2 c = not-newer-self _ _ (omega arith) c.if1.false
+returns-2 : tie.Need-returns-else-a-b
+returns-2 c = not-newer-self _ _ (omega arith) c.if-a-b.false
 
-pub round-is-newer-spec : {M : Type 1} → statement M
-round-is-newer-spec = tie.close (tie.spec (λ c κs. search rules) returns returns-2)
+pub round_is_newer_spec : {M : Type 1} → statement M
+round_is_newer_spec = tie.close (tie.spec (λ c κs. search rules) returns returns-2)

@@ -8,17 +8,17 @@ use Rattle.peers.proofs.Peers.Reports.RoundLaws.{cluster-small}
 use Rattle.peers.proofs.peer_demand.stale_after_rounds.Statement.{statement}
 use Rattle.peers.proofs.peer_demand.stale_after_rounds.Tie as tie
 
-passed : (c : tie.Else1) → is_cluster_size c.before.before.args.cluster-size ≡ true
-passed c = sym c.before.is-cluster-size.ensures ∙ not-false _ c.if1.false
+passed : (c : tie.Else-not-is_cluster_size) → is_cluster_size c.before.before.args.cluster-size ≡ true
+passed c = sym c.before.is_cluster_size.ensures ∙ c.if-not-is_cluster_size.false
 
-returns : tie.Need-returns
-returns c = alone-no 7 _ (sym c.before.is-cluster-size.ensures ∙ not-true _ c.if1.true)
+returns : tie.Need-returns-then-not-is_cluster_size
+returns c = alone-no 7 _ (sym c.before.is_cluster_size.ensures ∙ c.if-not-is_cluster_size.true)
 
-mul-max : tie.Need-overflow-mul-max
+mul-max : tie.Need-overflow_mul-cluster_size
 mul-max c = omega (arith, cluster-small c.before.before.args.cluster-size (passed c))
 
-returns-2 : tie.Need-returns-2
+returns-2 : tie.Need-returns
 returns-2 c = ap given c.max.ensures ∙ alone-yes 7 _ (passed c.before)
 
-pub stale-after-rounds-spec : {M : Type 1} → statement M
-stale-after-rounds-spec = tie.close (tie.spec (λ c κs. search rules) returns mul-max (λ c κs. search rules) returns-2)
+pub stale_after_rounds_spec : {M : Type 1} → statement M
+stale_after_rounds_spec = tie.close (tie.spec (λ c κs. search rules) returns mul-max (λ c κs. search rules) returns-2)

@@ -4,48 +4,48 @@ use Rattle.peers.proofs.Peers.Readers.MarkLaws.{cleared_to, cleared-none, cleare
 use Rattle.peers.proofs.peer_each.clear.Statement.{statement}
 use Rattle.peers.proofs.peer_each.clear.Tie as tie
 
-abbrev invariant-loop : tie.invariant-loop
-invariant-loop out₀ n i₀ out i = (i ≤ n) × (length out ≡ length out₀) × (out ≡ cleared_to n out₀ i)
+abbrev invariant-loop-i : tie.invariant-loop-i
+invariant-loop-i out₀ n i₀ out i = (i ≤ n) × (length out ≡ length out₀) × (out ≡ cleared_to n out₀ i)
 
-abbrev decreases-loop : tie.decreases-loop
-decreases-loop out₀ n i₀ out i = n - i
+abbrev decreases-loop-i : tie.decreases-loop-i
+decreases-loop-i out₀ n i₀ out i = n - i
 
-loop-holds : tie.Need-loop-init invariant-loop decreases-loop
+loop-holds : tie.Need-loop-i-init invariant-loop-i decreases-loop-i
 loop-holds c = (omega arith, refl, cleared-none c.args.n c.args.out.now)
 
-slice-write-out : tie.Need-slice-write-out invariant-loop decreases-loop
-slice-write-out c = omega (arith, c.loop-test.true, c.before.before.requires, c.before.loop.invariant.1)
+slice-write-out : tie.Need-bounds-out-i invariant-loop-i decreases-loop-i
+slice-write-out c = omega (arith, c.loop-i-test.true, c.before.before.requires, c.before.loop-i.invariant.1)
 
-add-i : tie.Need-overflow-add-i invariant-loop decreases-loop
-add-i c = omega (arith, c.loop-test.true, c.before.before.requires, c.before.loop.invariant.1)
+add-i : tie.Need-overflow_add-i invariant-loop-i decreases-loop-i
+add-i c = omega (arith, c.loop-i-test.true, c.before.before.requires, c.before.loop-i.invariant.1)
 
-loop-less : tie.Need-loop-smaller invariant-loop decreases-loop
-loop-less c = omega (arith, c.loop-test.true)
+loop-less : tie.Need-loop-i-smaller invariant-loop-i decreases-loop-i
+loop-less c = omega (arith, c.loop-i-test.true)
 
-loop-again : tie.Need-loop-preserved invariant-loop decreases-loop
+loop-again : tie.Need-loop-i-preserved invariant-loop-i decreases-loop-i
 loop-again c =
     let s = c.before.before in
-    let l = c.before.loop in (
-      omega (arith, c.loop-test.true),
+    let l = c.before.loop-i in (
+      omega (arith, c.loop-i-test.true),
       length-set l.out l.i false ∙ l.invariant.1,
-      ap (λ (xs : List Bool). set xs l.i false) l.invariant.2 ∙ cleared-next s.args.n s.args.out.now s.requires l.i c.loop-test.true,
+      ap (λ (xs : List Bool). set xs l.i false) l.invariant.2 ∙ cleared-next s.args.n s.args.out.now s.requires l.i c.loop-i-test.true,
     )
 
-same_length : tie.Need-same-length invariant-loop decreases-loop
-same_length c = c.before.loop.invariant.1
+same_length : tie.Need-shape_of-out invariant-loop-i decreases-loop-i
+same_length c = c.before.loop-i.invariant.1
 
-returns : tie.Need-returns invariant-loop decreases-loop
+returns : tie.Need-returns invariant-loop-i decreases-loop-i
 returns c =
     let s = c.before.before in
-    let l = c.before.loop in
-    l.invariant.2 ∙ cleared-all s.args.n s.args.out.now l.i l.invariant.0 c.loop-test.false
+    let l = c.before.loop-i in
+    l.invariant.2 ∙ cleared-all s.args.n s.args.out.now l.i l.invariant.0 c.loop-i-test.false
 
 pub clear_spec : {M : Type 1} → statement M
 clear_spec =
     tie.close
     (tie.spec
-    invariant-loop
-    decreases-loop
+    invariant-loop-i
+    decreases-loop-i
     loop-holds
     slice-write-out
     add-i

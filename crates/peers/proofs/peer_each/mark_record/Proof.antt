@@ -4,16 +4,16 @@ use Rattle.peers.proofs.Peers.Readers.MarkLaws.{mark-primary, mark-other}
 use Rattle.peers.proofs.peer_each.mark_record.Statement.{statement}
 use Rattle.peers.proofs.peer_each.mark_record.Tie as tie
 
-returns : tie.Need-returns
+returns : tie.Need-returns-then-t-at-ne0
 returns c =
     let k = c.before.before in
-    k.mark-key.ensures ∙ mark-primary _ _ _ _ k.before.before.before.if1.true
+    k.mark_key.ensures ∙ mark-primary _ _ _ _ k.before.before.before.if-t-at-ne0.true
 
-returns-2 : tie.Need-returns-2
-returns-2 c = mark-other _ _ _ _ c.if1.false
+returns-2 : tie.Need-returns-else-t-at-ne0
+returns-2 c = mark-other _ _ _ _ c.if-t-at-ne0.false
 
-pub mark-record-spec : {M : Type 1} → statement M
-mark-record-spec =
+pub mark_record_spec : {M : Type 1} → statement M
+mark_record_spec =
     tie.close
     (tie.spec
     (λ c. search rules)

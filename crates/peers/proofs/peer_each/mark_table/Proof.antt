@@ -8,69 +8,69 @@ use Rattle.peers.proofs.peer_each.mark_table.Statement.{statement}
 use Rattle.peers.proofs.peer_each.mark_table.Tie as tie
 
 -- what is left to mark gives what all marks give
-abbrev invariant-loop : tie.invariant-loop
-invariant-loop t v m keys w n out₀ i₀ out i = (i ≤ m) × (length out ≡ length out₀) × (left (records w n keys) v m t i out ≡ left (records w n keys) v m t 0 out₀)
+abbrev invariant-loop-i : tie.invariant-loop-i
+invariant-loop-i t v m keys w n out₀ i₀ out i = (i ≤ m) × (length out ≡ length out₀) × (left (records w n keys) v m t i out ≡ left (records w n keys) v m t 0 out₀)
 
-abbrev decreases-loop : tie.decreases-loop
-decreases-loop t v m keys w n out₀ i₀ out i = m - i
+abbrev decreases-loop-i : tie.decreases-loop-i
+decreases-loop-i t v m keys w n out₀ i₀ out i = m - i
 
-abbrev start : tie.In-loop invariant-loop decreases-loop → tie.Start invariant-loop decreases-loop
+abbrev start : tie.In-loop-i invariant-loop-i decreases-loop-i → tie.Start invariant-loop-i decreases-loop-i
 start c = c.before.before.before.before.before
 
 -- the record of a turn is within its table
-inside : (c : tie.In-loop invariant-loop decreases-loop) → c.before.loop.i * (start c).args.v + 4 ≤ length (start c).args.t.now
+inside : (c : tie.In-loop-i invariant-loop-i decreases-loop-i) → c.before.loop-i.i * (start c).args.v + 4 ≤ length (start c).args.t.now
 inside c =
     let s = start c in
-    omega (arith, row s.args.v s.args.m c.before.loop.i c.loop-test.true, s.pre.1.wide, s.pre.1.fit)
+    omega (arith, row s.args.v s.args.m c.before.loop-i.i c.loop-i-test.true, s.pre.1.wide, s.pre.1.fit)
 
-markable : (c : tie.In-loop invariant-loop decreases-loop) → Markable (start c).args.w (start c).args.n (start c).args.keys.now c.before.loop.out
+markable : (c : tie.In-loop-i invariant-loop-i decreases-loop-i) → Markable (start c).args.w (start c).args.n (start c).args.keys.now c.before.loop-i.out
 markable c =
     let m = (start c).requires.0 in
-    record { fit = m.fit; ascends = m.ascends; room = omega (arith, m.room, c.before.loop.invariant.1) }
+    record { fit = m.fit; ascends = m.ascends; room = omega (arith, m.room, c.before.loop-i.invariant.1) }
 
-loop-holds : tie.Need-loop-init invariant-loop decreases-loop
+loop-holds : tie.Need-loop-i-init invariant-loop-i decreases-loop-i
 loop-holds c = (omega arith, refl, refl)
 
-mul-mark-record : tie.Need-overflow-mul-mark-record invariant-loop decreases-loop
+mul-mark-record : tie.Need-overflow_mul-i invariant-loop-i decreases-loop-i
 mul-mark-record c = omega (arith, inside c)
 
-mark-record-requires : tie.Need-mark-record-requires invariant-loop decreases-loop
+mark-record-requires : tie.Need-mark_record-requires invariant-loop-i decreases-loop-i
 mark-record-requires c κs = (markable c.before, inside c.before)
 
-add-i : tie.Need-overflow-add-i invariant-loop decreases-loop
+add-i : tie.Need-overflow_add-i invariant-loop-i decreases-loop-i
 add-i c =
     let e = c.before.before.before.before in
-    omega (arith, e.loop-test.true, (start e).ranges.m.fits)
+    omega (arith, e.loop-i-test.true, (start e).ranges.m.fits)
 
-loop-less : tie.Need-loop-smaller invariant-loop decreases-loop
-loop-less c = omega (arith, c.before.before.before.before.loop-test.true)
+loop-less : tie.Need-loop-i-smaller invariant-loop-i decreases-loop-i
+loop-less c = omega (arith, c.before.before.before.before.loop-i-test.true)
 
-loop-again : tie.Need-loop-preserved invariant-loop decreases-loop
+loop-again : tie.Need-loop-i-preserved invariant-loop-i decreases-loop-i
 loop-again c =
     let r = c.before.before in
     let e = r.before.before in
     let s = start e in
-    let l = e.before.loop in (
-      omega (arith, e.loop-test.true),
-      ap length r.mark-record.ensures ∙ length_marked _ _ _ ∙ l.invariant.1,
-      mark-goes (records s.args.w s.args.n s.args.keys.now) s.args.v s.args.m s.args.t.now l.out _ l.i e.loop-test.true s.pre.1.wide r.mark-record.ensures ∙ l.invariant.2,
+    let l = e.before.loop-i in (
+      omega (arith, e.loop-i-test.true),
+      ap length r.mark_record.ensures ∙ length_marked _ _ _ ∙ l.invariant.1,
+      mark-goes (records s.args.w s.args.n s.args.keys.now) s.args.v s.args.m s.args.t.now l.out _ l.i e.loop-i-test.true s.pre.1.wide r.mark_record.ensures ∙ l.invariant.2,
     )
 
-same_length : tie.Need-same-length invariant-loop decreases-loop
-same_length c = c.before.loop.invariant.1
+same_length : tie.Need-shape_of-out invariant-loop-i decreases-loop-i
+same_length c = c.before.loop-i.invariant.1
 
-returns : tie.Need-returns invariant-loop decreases-loop
+returns : tie.Need-returns invariant-loop-i decreases-loop-i
 returns c =
     let s = c.before.before.before.before.before in
-    let l = c.before.loop in
-    sym (mark-ends (records s.args.w s.args.n s.args.keys.now) s.args.v s.args.m s.args.t.now l.out l.i c.loop-test.false) ∙ l.invariant.2
+    let l = c.before.loop-i in
+    sym (mark-ends (records s.args.w s.args.n s.args.keys.now) s.args.v s.args.m s.args.t.now l.out l.i c.loop-i-test.false) ∙ l.invariant.2
 
-pub mark-table-spec : {M : Type 1} → statement M
-mark-table-spec =
+pub mark_table_spec : {M : Type 1} → statement M
+mark_table_spec =
     tie.close
     (tie.spec
-    invariant-loop
-    decreases-loop
+    invariant-loop-i
+    decreases-loop-i
     loop-holds
     mul-mark-record
     mark-record-requires

@@ -6,12 +6,12 @@ use Rattle.peers.proofs.Peers.Readers.MarkLaws.{length_marked, marked-twice}
 use Rattle.peers.proofs.peer_each.primary_of_ascending.Statement.{statement}
 use Rattle.peers.proofs.peer_each.primary_of_ascending.Tie as tie
 
-mark-table-requires-2 : tie.Need-mark-table-requires-2
+mark-table-requires-2 : tie.Need-mark_table-requires-2
 mark-table-requires-2 c κs =
     let m = c.before.before.before in
     let k = m.before.before.before.before in
     let s = k.before.before.before.before.before.before in (
-      record { fit = s.requires.0.fit; ascends = s.requires.0.ascends; room = omega (arith, s.requires.0.room, ap length m.mark-table.ensures ∙ length_marked _ _ _, k.clear.auto.0) },
+      record { fit = s.requires.0.fit; ascends = s.requires.0.ascends; room = omega (arith, s.requires.0.room, ap length m.mark_table.ensures ∙ length_marked _ _ _, k.clear.auto.0) },
       s.requires.2,
     )
 
@@ -24,10 +24,10 @@ returns c =
     let rs = records s.args.w s.args.n s.args.keys.now in
     let taken = is_primary_in (records 4 s.args.k s.args.snapshot-keys.now) in
     let contested = is_primary_in (records 6 s.args.c s.args.contested.now) in
-    b.mark-table2.ensures
-    ∙ ap (marked contested rs) (a.mark-table.ensures ∙ ap (marked taken rs) k.clear.ensures)
+    b.mark_table-2.ensures
+    ∙ ap (marked contested rs) (a.mark_table.ensures ∙ ap (marked taken rs) k.clear.ensures)
     ∙ marked-twice contested taken rs _
 
-pub primary-of-ascending-spec : {M : Type 1} → statement M
-primary-of-ascending-spec =
+pub primary_of_ascending_spec : {M : Type 1} → statement M
+primary_of_ascending_spec =
     tie.close (tie.spec (λ c κs. search rules) (λ c κs. search rules) mark-table-requires-2 (λ c. search rules) returns)

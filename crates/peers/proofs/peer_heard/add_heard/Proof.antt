@@ -6,11 +6,11 @@ use Rattle.peers.specs.Peers.Steps.Heard.{said_of}
 use Rattle.peers.proofs.peer_heard.add_heard.Statement.{statement}
 use Rattle.peers.proofs.peer_heard.add_heard.Tie as tie
 
-returns-2 : tie.Need-returns-2
+returns-2 : tie.Need-returns-in-Of
 returns-2 c =
     let s = c.before.before.before.before.args in
-    ap (add binary64 s.sum) c.f32-to-f64.ensures ∙ sym (λ k. add_heard s.sum (said_of (c.before.before.said.given.1 k)))
+    ap (add binary64 s.sum) c.f32_to_f64.ensures ∙ sym (λ k. add_heard s.sum (said_of (c.before.before.said.given.1 k)))
 
-pub add-heard-spec : {M : Type 1} → statement M
-add-heard-spec =
+pub add_heard_spec : {M : Type 1} → statement M
+add_heard_spec =
     tie.close (tie.spec (λ c. search rules) (λ c. search rules) (λ c κs. search rules) (λ c. search rules) returns-2)

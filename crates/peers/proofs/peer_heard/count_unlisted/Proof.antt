@@ -3,14 +3,14 @@ use Rattle.std.proofs.Common.{Bool, cond, sym, ap, ◌∙◌, rules}
 use Rattle.peers.proofs.peer_heard.count_unlisted.Statement.{statement}
 use Rattle.peers.proofs.peer_heard.count_unlisted.Tie as tie
 
-returns : tie.Need-returns
-returns c = sym (ap (λ (b : Bool). cond b 0 1) (sym c.before.is-listed.ensures ∙ c.if1.true))
+returns : tie.Need-returns-then-is_listed
+returns c = sym (ap (λ (b : Bool). cond b 0 1) (sym c.before.is_listed.ensures ∙ c.if-is_listed.true))
 
-returns-2 : tie.Need-returns-2
-returns-2 c = sym (ap (λ (b : Bool). cond b 0 1) (sym c.before.is-listed.ensures ∙ c.if1.false))
+returns-2 : tie.Need-returns
+returns-2 c = sym (ap (λ (b : Bool). cond b 0 1) (sym c.before.is_listed.ensures ∙ c.if-is_listed.false))
 
-pub count-unlisted-spec : {M : Type 1} → statement M
-count-unlisted-spec =
+pub count_unlisted_spec : {M : Type 1} → statement M
+count_unlisted_spec =
     tie.close
     (tie.spec
     (λ c. search rules)

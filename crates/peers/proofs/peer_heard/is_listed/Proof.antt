@@ -5,7 +5,7 @@ use Rattle.peers.proofs.Peers.Readers.ReaderLaws.{listed_found, listed-missing}
 use Rattle.peers.proofs.peer_heard.is_listed.Statement.{statement}
 use Rattle.peers.proofs.peer_heard.is_listed.Tie as tie
 
-returns : tie.Need-returns
+returns : tie.Need-returns-in-At
 returns c =
     let a = c.before in
     let b = a.before.before in
@@ -13,7 +13,7 @@ returns c =
     let s = st.args in
     listed_found s.n s.id s.key s.t.now st.requires a.i.given.0.0 (find-says 4 2 s.n s.id s.key s.t.now (omega arith) (omega arith) (omega arith) st.requires.ready.fit b.find.result b.find.ensures ∙ a.i.given.1)
 
-returns-2 : tie.Need-returns-2
+returns-2 : tie.Need-returns-in-Gap
 returns-2 c =
     let a = c.before in
     let b = a.before.before in
@@ -21,14 +21,14 @@ returns-2 c =
     let s = st.args in
     listed-missing s.n s.id s.key s.t.now st.requires a.i2.given.0.0 (find-says 4 2 s.n s.id s.key s.t.now (omega arith) (omega arith) (omega arith) st.requires.ready.fit b.find.result b.find.ensures ∙ a.i2.given.1)
 
-returns-3 : tie.Need-returns-3
+returns-3 : tie.Need-returns-in-Unfit
 returns-3 c =
     let b = c.before.before in
     let st = b.before.before in
     let s = st.args in
     absurd (never-unfit 4 2 s.n s.id s.key s.t.now (omega arith) (omega arith) (omega arith) st.requires.ready.fit b.find.result b.find.ensures c.enum_told.given.1)
 
-pub is-listed-spec : {M : Type 1} → statement M
-is-listed-spec =
+pub is_listed_spec : {M : Type 1} → statement M
+is_listed_spec =
     tie.close
     (tie.spec (λ c κs. search rules) (λ c. search rules) (λ c. search rules) (λ c. search rules) returns returns-2 returns-3)

@@ -6,14 +6,14 @@ use Rattle.peers.specs.Peers.Steps.Heard.{said_of}
 use Rattle.peers.proofs.peer_heard.join.Statement.{statement}
 use Rattle.peers.proofs.peer_heard.join.Tie as tie
 
-returns-2 : tie.Need-returns-2
+returns-2 : tie.Need-returns-in-Silence-contested
 returns-2 c = sym (λ k. readers.join (said_of (c.before.before.before.taken.given.1 k)) (said_of (c.enum-told2.given.1 k)))
 
-returns-3 : tie.Need-returns-3
+returns-3 : tie.Need-returns-in-Of-contested
 returns-3 c = ap some c.joined.ensures ∙ sym (λ k. readers.join (said_of (c.before.before.before.before.before.taken.given.1 k)) (said_of (c.before.before.contested.given.1 k)))
 
-pub join-spec : {M : Type 1} → statement M
-join-spec =
+pub join_spec : {M : Type 1} → statement M
+join_spec =
     tie.close
     (tie.spec
     (λ c. search rules)

@@ -4,15 +4,15 @@ use Rattle.std.proofs.Common.{rules}
 use Rattle.peers.proofs.peer_heard.joined.Statement.{statement}
 use Rattle.peers.proofs.peer_heard.joined.Tie as tie
 
-returns : tie.Need-returns
+returns : tie.Need-returns-then-taken-contested
 returns c =
     let s = c.before.before.before.before.args in
-    joined-second s.taken s.contested c.before.before.before.is-either.result c.before.before.before.is-either.ensures c.if1.true
+    joined-second s.taken s.contested c.before.before.before.is_either-primary.result c.before.before.before.is_either-primary.ensures c.if-taken-contested.true
 
-returns-2 : tie.Need-returns-2
+returns-2 : tie.Need-returns
 returns-2 c =
     let s = c.before.before.before.before.args in
-    joined-first s.taken s.contested c.before.before.before.is-either.result c.before.before.before.is-either.ensures c.if1.false
+    joined-first s.taken s.contested c.before.before.before.is_either-primary.result c.before.before.before.is_either-primary.ensures c.if-taken-contested.false
 
-pub joined-spec : {M : Type 1} → statement M
-joined-spec = tie.close (tie.spec (λ c κs. search rules) returns returns-2)
+pub joined_spec : {M : Type 1} → statement M
+joined_spec = tie.close (tie.spec (λ c κs. search rules) returns returns-2)

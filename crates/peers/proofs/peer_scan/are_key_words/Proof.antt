@@ -6,28 +6,28 @@ use Rattle.questions.proofs.Tests.{stop, goes}
 use Rattle.peers.proofs.peer_scan.are_key_words.Statement.{statement}
 use Rattle.peers.proofs.peer_scan.are_key_words.Tie as tie
 
-returns : tie.Need-returns
+returns : tie.Need-returns-then-t-at-ge2139095040
 returns c =
     let s = c.before.before.args in
-    stop _ _ (le-ltb _ 0x7f800000 c.if1.true) ∙ key-words-at s.t.now s.at s.w
+    stop _ _ (le-ltb _ 0x7f800000 c.if-t-at-ge2139095040.true) ∙ key-words-at s.t.now s.at s.w
 
-returns-2 : tie.Need-returns-2
+returns-2 : tie.Need-returns-then-t-at-gt1
 returns-2 c =
     let s = c.before.before.before.before.args in
-    goes _ _ false (lt-ltb _ 0x7f800000 c.before.before.if1.false) (stop _ _ (lt-leb _ 1 c.if2.true)) ∙ key-words-at s.t.now s.at s.w
+    goes _ _ false (lt-ltb _ 0x7f800000 c.before.before.if-t-at-ge2139095040.false) (stop _ _ (lt-leb _ 1 c.if-t-at-gt1.true)) ∙ key-words-at s.t.now s.at s.w
 
-returns-3 : tie.Need-returns-3
+returns-3 : tie.Need-returns-then-w-le4
 returns-3 c =
     let s = c.before.before.before.before.before.args in
-    goes _ _ true (lt-ltb _ 0x7f800000 c.before.before.before.if1.false) (goes _ _ true (le-leb _ 1 c.before.if2.false) (ap (λ (b : Bool). b || ltb (get_or s.t.now (s.at + 4) 0) (2 ^ 16)) (sym (le-leb s.w 4 c.if3.true)))) ∙ key-words-at s.t.now s.at s.w
+    goes _ _ true (lt-ltb _ 0x7f800000 c.before.before.before.if-t-at-ge2139095040.false) (goes _ _ true (le-leb _ 1 c.before.if-t-at-gt1.false) (ap (λ (b : Bool). b || ltb (get_or s.t.now (s.at + 4) 0) (2 ^ 16)) (sym (le-leb s.w 4 c.if-w-le4.true)))) ∙ key-words-at s.t.now s.at s.w
 
-returns-4 : tie.Need-returns-4
+returns-4 : tie.Need-returns
 returns-4 c =
     let s = c.before.before.before.before.before.before.args in
-    goes _ _ _ (lt-ltb _ 0x7f800000 c.before.before.before.before.if1.false) (goes _ _ _ (le-leb _ 1 c.before.before.if2.false) (ap (λ (b : Bool). b || ltb (get_or s.t.now (s.at + 4) 0) (2 ^ 16)) (sym (lt-leb s.w 4 c.before.if3.false)))) ∙ key-words-at s.t.now s.at s.w
+    goes _ _ _ (lt-ltb _ 0x7f800000 c.before.before.before.before.if-t-at-ge2139095040.false) (goes _ _ _ (le-leb _ 1 c.before.before.if-t-at-gt1.false) (ap (λ (b : Bool). b || ltb (get_or s.t.now (s.at + 4) 0) (2 ^ 16)) (sym (lt-leb s.w 4 c.before.if-w-le4.false)))) ∙ key-words-at s.t.now s.at s.w
 
-pub are-key-words-spec : {M : Type 1} → statement M
-are-key-words-spec =
+pub are_key_words_spec : {M : Type 1} → statement M
+are_key_words_spec =
     tie.close
     (tie.spec
     (λ c. search rules)

@@ -11,23 +11,23 @@ use Rattle.peers.proofs.Peers.Validity.ValidLaws.{keys-ready}
 use Rattle.peers.proofs.peer_scan.are_keys.Statement.{statement}
 use Rattle.peers.proofs.peer_scan.are_keys.Tie as tie
 
-ready : (c : tie.Else1) → let s = c.before.before.before.before.args in KeysReady s.w s.n s.t.now
+ready : (c : tie.Else-bound-n) → let s = c.before.before.before.before.args in KeysReady s.w s.n s.t.now
 ready c =
     let st = c.before.before.before.before in
-    keys-ready st.args.w st.args.n (32 * st.args.bound) st.args.t.now st.requires.1.0.0 st.requires.1.0.2 c.if1.false
+    keys-ready st.args.w st.args.n (32 * st.args.bound) st.args.t.now st.requires.1.0.0 st.requires.1.0.2 c.if-bound-n.false
 
-returns : tie.Need-returns
+returns : tie.Need-returns-then-bound-n
 unfolding are_keys
 returns c =
     let s = c.before.before.before.before.args in
-    (stop _ _ (ap (λ (m : ℕ). leb m (32 * s.bound)) (length-records s.w s.n s.t.now) ∙ lt-leb s.n (32 * s.bound) c.if1.true), λ e. contradiction (sym e))
+    (stop _ _ (ap (λ (m : ℕ). leb m (32 * s.bound)) (length-records s.w s.n s.t.now) ∙ lt-leb s.n (32 * s.bound) c.if-bound-n.true), λ e. contradiction (sym e))
 
-are-runs-requires : tie.Need-are-runs-requires
+are-runs-requires : tie.Need-are_runs-requires
 are-runs-requires c κs =
     let st = c.before.before.before.before.before in
     (st.requires.0.fit, (ready c.before, omega (arith, st.requires.0.few, st.requires.1.1)))
 
-returns-2 : tie.Need-returns-2
+returns-2 : tie.Need-returns
 unfolding are_keys
 returns-2 c =
     let a = c.before.before in
@@ -36,10 +36,10 @@ returns-2 c =
     let s = st.args in
     let k = ready e in (
       goes (leb (length (records s.w s.n s.t.now)) (32 * s.bound)) _ _
-          (ap (λ (m : ℕ). leb m (32 * s.bound)) (length-records s.w s.n s.t.now) ∙ le-leb s.n (32 * s.bound) e.if1.false)
-          (a.are-runs.ensures.0 ∙ runs-are-valid s.w s.least s.bound (omega (arith, k.wide)) (records 12 s.p s.peers.now) (wide-records 12 s.p s.peers.now st.requires.0.fit) st.requires.0.ascend (records s.w s.n s.t.now) (wide-records s.w s.n s.t.now k.fit)),
-      a.are-runs.ensures.1,
+          (ap (λ (m : ℕ). leb m (32 * s.bound)) (length-records s.w s.n s.t.now) ∙ le-leb s.n (32 * s.bound) e.if-bound-n.false)
+          (a.are_runs.ensures.0 ∙ runs-are-valid s.w s.least s.bound (omega (arith, k.wide)) (records 12 s.p s.peers.now) (wide-records 12 s.p s.peers.now st.requires.0.fit) st.requires.0.ascend (records s.w s.n s.t.now) (wide-records s.w s.n s.t.now k.fit)),
+      a.are_runs.ensures.1,
     )
 
-pub are-keys-spec : {M : Type 1} → statement M
-are-keys-spec = tie.close (tie.spec (λ c. search rules) returns are-runs-requires (λ c. search rules) returns-2)
+pub are_keys_spec : {M : Type 1} → statement M
+are_keys_spec = tie.close (tie.spec (λ c. search rules) returns are-runs-requires (λ c. search rules) returns-2)

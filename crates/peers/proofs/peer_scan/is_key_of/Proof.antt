@@ -4,16 +4,16 @@ use Rattle.peers.proofs.Peers.Validity.ScanRunLaws.{other-peer, same-peer}
 use Rattle.peers.proofs.peer_scan.is_key_of.Statement.{statement}
 use Rattle.peers.proofs.peer_scan.is_key_of.Tie as tie
 
-returns : tie.Need-returns
+returns : tie.Need-returns-then-t-at
 returns c =
     let s = c.before.before.before.args in
-    other-peer s.w s.id s.t.now s.at c.if1.true
+    other-peer s.w s.id s.t.now s.at c.if-t-at.true
 
-returns-2 : tie.Need-returns-2
+returns-2 : tie.Need-returns
 returns-2 c =
     let s = c.before.before.before.before.args in
-    c.are-key-words.ensures ∙ same-peer s.w s.id s.t.now s.at c.before.if1.false
+    c.are_key_words.ensures ∙ same-peer s.w s.id s.t.now s.at c.before.if-t-at.false
 
-pub is-key-of-spec : {M : Type 1} → statement M
-is-key-of-spec =
+pub is_key_of_spec : {M : Type 1} → statement M
+is_key_of_spec =
     tie.close (tie.spec (λ c. search rules) (λ c. search rules) returns (λ c κs. search rules) returns-2)

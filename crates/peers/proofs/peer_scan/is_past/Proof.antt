@@ -6,37 +6,37 @@ use Rattle.questions.proofs.Tests.{stop, goes}
 use Rattle.peers.proofs.peer_scan.is_past.Statement.{statement}
 use Rattle.peers.proofs.peer_scan.is_past.Tie as tie
 
-one : (c : tie.Else2) → is_past_epoch c.before.before.before.args.count 0 c.before.before.before.args.a ≡ true
-one c = sym c.before.is-past-epoch.ensures ∙ not-false c.before.is-past-epoch.result c.if2.false
+one : (c : tie.Else-not-is_past_epoch) → is_past_epoch c.before.before.before.args.count 0 c.before.before.before.args.a ≡ true
+one c = sym c.before.is_past_epoch.ensures ∙ c.if-not-is_past_epoch.false
 
-two : (c : tie.Else3) → is_past_epoch c.before.before.before.before.before.args.count 1 c.before.before.before.before.before.args.b ≡ true
-two c = sym c.before.is-past-epoch2.ensures ∙ not-false c.before.is-past-epoch2.result c.if3.false
+two : (c : tie.Else-not-is_past_epoch-2) → is_past_epoch c.before.before.before.before.before.args.count 1 c.before.before.before.before.before.args.b ≡ true
+two c = sym c.before.is_past_epoch-2.ensures ∙ c.if-not-is_past_epoch-2.false
 
-three : (c : tie.Else4) → is_past_epoch c.before.before.before.before.before.before.before.args.count 2 c.before.before.before.before.before.before.before.args.c ≡ true
-three c = sym c.before.is-past-epoch3.ensures ∙ not-false c.before.is-past-epoch3.result c.if4.false
+three : (c : tie.Else-not-is_past_epoch-3) → is_past_epoch c.before.before.before.before.before.before.before.args.count 2 c.before.before.before.before.before.before.before.args.c ≡ true
+three c = sym c.before.is_past_epoch-3.ensures ∙ c.if-not-is_past_epoch-3.false
 
-returns : tie.Need-returns
+returns : tie.Need-returns-then-count-gt4
 unfolding is_past
-returns c = stop _ _ (lt-leb _ 4 c.if1.true)
+returns c = stop _ _ (lt-leb _ 4 c.if-count-gt4.true)
 
-returns-2 : tie.Need-returns-2
+returns-2 : tie.Need-returns-then-not-is_past_epoch
 unfolding is_past
-returns-2 c = goes _ _ false (le-leb _ 4 c.before.before.if1.false) (stop _ _ (sym c.before.is-past-epoch.ensures ∙ not-true c.before.is-past-epoch.result c.if2.true))
+returns-2 c = goes _ _ false (le-leb _ 4 c.before.before.if-count-gt4.false) (stop _ _ (sym c.before.is_past_epoch.ensures ∙ c.if-not-is_past_epoch.true))
 
-returns-3 : tie.Need-returns-3
+returns-3 : tie.Need-returns-then-not-is_past_epoch-2
 unfolding is_past
-returns-3 c = goes _ _ false (le-leb _ 4 c.before.before.before.before.if1.false) (goes _ _ false (one c.before.before) (stop _ _ (sym c.before.is-past-epoch2.ensures ∙ not-true c.before.is-past-epoch2.result c.if3.true)))
+returns-3 c = goes _ _ false (le-leb _ 4 c.before.before.before.before.if-count-gt4.false) (goes _ _ false (one c.before.before) (stop _ _ (sym c.before.is_past_epoch-2.ensures ∙ c.if-not-is_past_epoch-2.true)))
 
-returns-4 : tie.Need-returns-4
+returns-4 : tie.Need-returns-then-not-is_past_epoch-3
 unfolding is_past
-returns-4 c = goes _ _ false (le-leb _ 4 c.before.before.before.before.before.before.if1.false) (goes _ _ false (one c.before.before.before.before) (goes _ _ false (two c.before.before) (stop _ _ (sym c.before.is-past-epoch3.ensures ∙ not-true c.before.is-past-epoch3.result c.if4.true))))
+returns-4 c = goes _ _ false (le-leb _ 4 c.before.before.before.before.before.before.if-count-gt4.false) (goes _ _ false (one c.before.before.before.before) (goes _ _ false (two c.before.before) (stop _ _ (sym c.before.is_past_epoch-3.ensures ∙ c.if-not-is_past_epoch-3.true))))
 
-returns-5 : tie.Need-returns-5
+returns-5 : tie.Need-returns
 unfolding is_past
-returns-5 c = goes _ _ _ (le-leb _ 4 c.before.before.before.before.before.before.before.if1.false) (goes _ _ _ (one c.before.before.before.before.before) (goes _ _ _ (two c.before.before.before) (goes _ _ _ (three c.before) c.is-past-epoch4.ensures)))
+returns-5 c = goes _ _ _ (le-leb _ 4 c.before.before.before.before.before.before.before.if-count-gt4.false) (goes _ _ _ (one c.before.before.before.before.before) (goes _ _ _ (two c.before.before.before) (goes _ _ _ (three c.before) c.is_past_epoch-4.ensures)))
 
-pub is-past-spec : {M : Type 1} → statement M
-is-past-spec =
+pub is_past_spec : {M : Type 1} → statement M
+is_past_spec =
     tie.close
     (tie.spec
     returns

@@ -3,14 +3,14 @@ use Rattle.peers.proofs.Peers.Validity.RoomLaws.{short-peers, short-keys, long-c
 use Rattle.peers.proofs.peer_state.has_room.Statement.{statement}
 use Rattle.peers.proofs.peer_state.has_room.Tie as tie
 
-returns : tie.Need-returns
-returns c = short-peers _ c.if1.true
+returns : tie.Need-returns-then-peers-lt-PEERS_SIZE
+returns c = short-peers _ c.if-peers-lt-PEERS_SIZE.true
 
-returns-2 : tie.Need-returns-2
-returns-2 c = short-keys _ c.before.if1.false c.if2.true
+returns-2 : tie.Need-returns-then-snapshot_keys-lt-SNAPSHOT_KEYS_SIZE
+returns-2 c = short-keys _ c.before.if-peers-lt-PEERS_SIZE.false c.if-snapshot_keys-lt-SNAPSHOT_KEYS_SIZE.true
 
-returns-3 : tie.Need-returns-3
-returns-3 c = long-contested _ c.before.if1.false c.if2.false
+returns-3 : tie.Need-returns
+returns-3 c = long-contested _ c.before.if-peers-lt-PEERS_SIZE.false c.if-snapshot_keys-lt-SNAPSHOT_KEYS_SIZE.false
 
-pub has-room-spec : {M : Type 1} → statement M
-has-room-spec = tie.close (tie.spec returns returns-2 returns-3)
+pub has_room_spec : {M : Type 1} → statement M
+has_room_spec = tie.close (tie.spec returns returns-2 returns-3)

@@ -15,34 +15,34 @@ all_read : (xs : List ℕ) (i n : ℕ) → length xs ≡ i + n → drop i xs ≡
 all_read xs i zero e = drop_of_length-le xs {i = i} (omega arith)
 all_read xs i (suc n) e = drop-cons xs i 0 (omega arith) ∙ ap (λ (l : List ℕ). get_or xs i 0 ∷ l) (all_read xs (suc i) n (omega arith))
 
-abbrev start : tie.After-is-stale → tie.Start
+abbrev start : tie.After-is_stale → tie.Start
 start c = c.before.before.before.before.before
 
 -- the test, of the peer
-asked : (c : tie.After-is-stale) → let s = (start c).args in is_stale s.reading s.max-age (peer_of s.words.now).held_until (peer_of s.words.now).snapshot ≡ c.is-stale.result
+asked : (c : tie.After-is_stale) → let s = (start c).args in is_stale s.reading s.max-age (peer_of s.words.now).held_until (peer_of s.words.now).snapshot ≡ c.is_stale.result
 unfolding peer_of
 asked c =
     let s = (start c).args in
     let xs : List ℕ = s.words.now in
-    sym (c.is-stale.ensures ∙ stale-same s.reading s.max-age (get_or xs 1 0) (get_or xs 2 0) (get_or xs 3 0) (get_or xs 4 0) (get_or xs 5 0) (get_or xs 6 0))
+    sym (c.is_stale.ensures ∙ stale-same s.reading s.max-age (get_or xs 1 0) (get_or xs 2 0) (get_or xs 3 0) (get_or xs 4 0) (get_or xs 5 0) (get_or xs 6 0))
 
-returns : tie.Need-returns
+returns : tie.Need-returns-then-is_stale
 unfolding peer_of
 returns c =
     let a = c.before.before in
     let s = (start a).args in
     let p = peer_of s.words.now in
-    sym (aged-bare s.reading s.max-age p.id p.held_until p.snapshot p.past_epochs (asked a ∙ c.before.if1.true))
+    sym (aged-bare s.reading s.max-age p.id p.held_until p.snapshot p.past_epochs (asked a ∙ c.before.if-is_stale.true))
 
-returns-2 : tie.Need-returns-2
+returns-2 : tie.Need-returns
 returns-2 c =
     let t = c.before.before.before.before.before.before.before.before.before.before.before.before in
     let s = start t.before in
     let xs : List ℕ = s.args.words.now in
-    sym (ap peer_words (aged-not s.args.reading s.args.max-age (peer_of xs) (asked t.before ∙ t.if1.false)) ∙ s.pre.1 ∙ all_read xs 0 12 s.pre.0)
+    sym (ap peer_words (aged-not s.args.reading s.args.max-age (peer_of xs) (asked t.before ∙ t.if-is_stale.false)) ∙ s.pre.1 ∙ all_read xs 0 12 s.pre.0)
 
-pub aged-words-spec : {M : Type 1} → statement M
-aged-words-spec =
+pub aged_words_spec : {M : Type 1} → statement M
+aged_words_spec =
     tie.close
     (tie.spec
     (λ c. omega arith)

@@ -10,30 +10,30 @@ use Rattle.peers.proofs.peer_steps.has_snapshot.Tie as tie
 ordered : (c : tie.Start) → InOrder 12 1 c.args.n c.args.peers.now
 ordered c = in-order-says 12 1 c.args.n c.args.peers.now c.requires
 
-inside : (c : tie.Else1) → c.before.args.place * 12 + 12 ≤ length c.before.args.peers.now
-inside c = omega (arith, row 12 c.before.args.n c.before.args.place c.if1.false, (ordered c.before).words)
+inside : (c : tie.Else-place-n) → c.before.args.place * 12 + 12 ≤ length c.before.args.peers.now
+inside c = omega (arith, row 12 c.before.args.n c.before.args.place c.if-place-n.false, (ordered c.before).words)
 
-returns : tie.Need-returns
-returns c = sym (test-past c.before.args.n c.before.args.place _ c.if1.true)
+returns : tie.Need-returns-then-place-n
+returns c = sym (test-past c.before.args.n c.before.args.place _ c.if-place-n.true)
 
-mul-result : tie.Need-overflow-mul-result
+mul-result : tie.Need-overflow_mul-result
 mul-result c = omega (arith, inside c)
 
-add-result : tie.Need-overflow-add-result
+add-result : tie.Need-overflow_add-result
 add-result c = omega (arith, inside c)
 
-mul-result-2 : tie.Need-overflow-mul-result-2
+mul-result-2 : tie.Need-offset_bounds-peers-place
 mul-result-2 c = omega (arith, inside c)
 
-shared-slice-read-result : tie.Need-shared-slice-read-result
+shared-slice-read-result : tie.Need-bounds-peers-place
 shared-slice-read-result c = omega (arith, inside c.before)
 
-returns-2 : tie.Need-returns-2
+returns-2 : tie.Need-returns
 returns-2 c =
     let s = c.before.before in
-    sym (taken_here s.args.n s.args.peers.now (ordered s) s.args.place c.before.if1.false)
+    sym (taken_here s.args.n s.args.peers.now (ordered s) s.args.place c.before.if-place-n.false)
 
-pub has-snapshot-spec : {M : Type 1} → statement M
-has-snapshot-spec =
+pub has_snapshot_spec : {M : Type 1} → statement M
+has_snapshot_spec =
     tie.close
     (tie.spec returns mul-result add-result mul-result-2 shared-slice-read-result returns-2)

@@ -7,65 +7,65 @@ use Rattle.peers.proofs.Peers.Tables.HoldLaws.{held_at, held-gap}
 use Rattle.peers.proofs.peer_steps.hold_peer.Statement.{statement}
 use Rattle.peers.proofs.peer_steps.hold_peer.Tie as tie
 
-abbrev start : tie.After-find → tie.Start
+abbrev start : tie.After-find-found → tie.Start
 start c = c.before.before.before
 
-ordered : (c : tie.After-find) → InOrder 12 1 (start c).args.n (start c).args.peers.now
+ordered : (c : tie.After-find-found) → InOrder 12 1 (start c).args.n (start c).args.peers.now
 ordered c = in-order-says 12 1 (start c).args.n (start c).args.peers.now (start c).requires.0
 
-abbrev at : tie.After-known-told → tie.After-find
+abbrev at : tie.In-At → tie.After-find-found
 at c = c.before.before.before
 
-place : (c : tie.After-known-told) → At c.before.found.given.0.0 ≡ find_in 12 1 (start (at c)).args.n (start (at c)).args.id 0 (start (at c)).args.peers.now
-place c = sym c.before.found.given.1 ∙ (at c).find.ensures
+place : (c : tie.In-At) → At c.before.found.given.0.0 ≡ find_in 12 1 (start (at c)).args.n (start (at c)).args.id 0 (start (at c)).args.peers.now
+place c = sym c.before.found.given.1 ∙ (at c).find-found.ensures
 
-inside : (c : tie.After-known-told) → (c.before.found.given.0.0 < (start (at c)).args.n) × (c.before.found.given.0.0 * 12 + 12 ≤ length (start (at c)).args.peers.now)
+inside : (c : tie.In-At) → (c.before.found.given.0.0 < (start (at c)).args.n) × (c.before.found.given.0.0 * 12 + 12 ≤ length (start (at c)).args.peers.now)
 inside c =
     found_inside 12 (start (at c)).args.n (start (at c)).args.id (start (at c)).args.peers.now (ordered (at c)) c.before.found.given.0.0 (place c)
 
-mul_at : tie.Need-overflow-mul-at
+mul_at : tie.Need-overflow_mul-at
 mul_at c = omega (arith, inside c)
 
-add-peers : tie.Need-overflow-add-peers
+add-peers : tie.Need-overflow_add-peers
 add-peers c = omega (arith, inside c)
 
-mul-peers : tie.Need-overflow-mul-peers
+mul-peers : tie.Need-offset_bounds-peers-at
 mul-peers c = omega (arith, inside c)
 
-slice-write-peers : tie.Need-slice-write-peers
+slice-write-peers : tie.Need-bounds-peers-at
 slice-write-peers c = omega (arith, inside c)
 
-add-peers-2 : tie.Need-overflow-add-peers-2
+add-peers-2 : tie.Need-overflow_add-peers-in-At
 add-peers-2 c = omega (arith, inside c)
 
-mul-peers-2 : tie.Need-overflow-mul-peers-2
+mul-peers-2 : tie.Need-offset_bounds-peers-at-in-At
 mul-peers-2 c = omega (arith, inside c)
 
-slice-write-peers-2 : tie.Need-slice-write-peers-2
+slice-write-peers-2 : tie.Need-bounds-peers-at-in-At
 slice-write-peers-2 c = simp length-set (omega (arith, inside c))
 
-same_length : tie.Need-same-length
+same_length : tie.Need-shape_of-peers-in-At
 same_length c = simp length-set
 
-returns : tie.Need-returns
+returns : tie.Need-returns-in-At
 returns c =
     let s = start (at c) in
     held_at s.args.n s.args.id s.args.until s.args.peers.now (ordered (at c)) s.pre.1 c.before.found.given.0.0 (place c)
 
-returns-2 : tie.Need-returns-2
+returns-2 : tie.Need-returns-in-Gap
 returns-2 c =
     let f = c.before.before in
     let s = start f in
-    held-gap s.args.n s.args.id s.args.until s.args.peers.now (ordered f) s.pre.1 c.enum_told.given.0.0 (sym c.enum_told.given.1 ∙ f.find.ensures)
+    held-gap s.args.n s.args.id s.args.until s.args.peers.now (ordered f) s.pre.1 c.enum_told.given.0.0 (sym c.enum_told.given.1 ∙ f.find-found.ensures)
 
-returns-3 : tie.Need-returns-3
+returns-3 : tie.Need-returns-in-Unfit
 returns-3 c =
     let f = c.before.before in
     let s = start f in
-    found-fit 12 s.args.n s.args.id s.args.peers.now (ordered f) (sym c.enum-told2.given.1 ∙ f.find.ensures)
+    found-fit 12 s.args.n s.args.id s.args.peers.now (ordered f) (sym c.enum-told2.given.1 ∙ f.find-found.ensures)
 
-pub hold-peer-spec : {M : Type 1} → statement M
-hold-peer-spec =
+pub hold_peer_spec : {M : Type 1} → statement M
+hold_peer_spec =
     tie.close
     (tie.spec
     (λ c κs. search rules)

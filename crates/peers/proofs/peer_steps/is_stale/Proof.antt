@@ -22,21 +22,21 @@ taken_is at age zero zero heard h k = absurd (k refl)
 taken_is at age zero (suc taken) heard h k = refl
 taken_is at age (suc held) taken heard h k = let z : ⊥ = omega arith in absurd z
 
-returns : tie.Need-returns
+returns : tie.Need-returns-then-held-ne0
 returns c =
     let s = c.before.args in
-    held-is s.reading s.max-age s.held s.taken s.heard-at c.if1.true
+    held-is s.reading s.max-age s.held s.taken s.heard-at c.if-held-ne0.true
 
-returns-2 : tie.Need-returns-2
+returns-2 : tie.Need-returns-then-taken-eq0
 returns-2 c =
     let s = c.before.before.args in
-    bare-is s.reading s.max-age s.held s.taken s.heard-at c.before.if1.false c.if2.true
+    bare-is s.reading s.max-age s.held s.taken s.heard-at c.before.if-held-ne0.false c.if-taken-eq0.true
 
-returns-3 : tie.Need-returns-3
+returns-3 : tie.Need-returns
 returns-3 c =
     let e = c.before in
     let s = e.before.before.args in
-    ap not c.is-fresh.ensures ∙ taken_is s.reading s.max-age s.held s.taken s.heard-at e.before.if1.false e.if2.false
+    ap not c.is_fresh.ensures ∙ taken_is s.reading s.max-age s.held s.taken s.heard-at e.before.if-held-ne0.false e.if-taken-eq0.false
 
-pub is-stale-spec : {M : Type 1} → statement M
-is-stale-spec = tie.close (tie.spec returns returns-2 (λ c κs. search rules) returns-3)
+pub is_stale_spec : {M : Type 1} → statement M
+is_stale_spec = tie.close (tie.spec returns returns-2 (λ c κs. search rules) returns-3)

@@ -3,11 +3,11 @@ use Rattle.std.proofs.Common.{◌∙◌, arith, rules}
 use Rattle.peers.proofs.peer_steps.keep_peer.Statement.{statement}
 use Rattle.peers.proofs.peer_steps.keep_peer.Tie as tie
 
-returns : tie.Need-returns
+returns : tie.Need-returns-then-stays
 returns c =
     let o = c.before.before in
-    let e = o.before.before.if1.true in
+    let e = o.before.before.if-stays.true in
     (rw e, o.overwrite.ensures.1 ∙ rw e)
 
-pub keep-peer-spec : {M : Type 1} → statement M
-keep-peer-spec = tie.close (tie.spec (λ c κs. search rules) (λ c. omega arith) (λ c. search rules) returns (λ c. search rules))
+pub keep_peer_spec : {M : Type 1} → statement M
+keep_peer_spec = tie.close (tie.spec (λ c κs. search rules) (λ c. omega arith) (λ c. search rules) returns (λ c. search rules))

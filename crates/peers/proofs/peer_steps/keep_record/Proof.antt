@@ -11,10 +11,10 @@ use Rattle.peers.proofs.peer_steps.keep_record.Tie as tie
 sizes : (s : tie.Start) → (s.args.kept * s.args.w ≤ s.args.i * s.args.w) × (s.args.i ≤ s.args.i * s.args.w)
 sizes s = (mul-le-mul_right s.args.w s.requires.1, count-le s.args.w s.args.i s.requires.0)
 
-returns : tie.Need-returns
-returns c = let e = not-true c.before.before.args.stays c.if1.true in (rw e, rw e)
+returns : tie.Need-returns-then-not-stays
+returns c = let e = c.if-not-stays.true in (rw e, rw e)
 
-add-result : tie.Need-overflow-add-result
+add-result : tie.Need-overflow_add-result
 add-result c = omega (arith, sizes c.before.before.before)
 
 -- a record that is there already
@@ -24,23 +24,23 @@ in_place s h =
     sym (copy-here (a.i * a.w) (a.i * a.w + a.w) a.t.now (omega arith) s.requires.2)
     ∙ ap (λ (m : ℕ). copy_within (a.i * a.w) (a.i * a.w + a.w) (m * a.w) a.t.now) (sym h)
 
-returns-2 : tie.Need-returns-2
+returns-2 : tie.Need-returns-then-kept-i
 returns-2 c =
-    let e = not-false c.before.before.before.args.stays c.before.if1.false in
-    (rw e, in_place c.before.before.before c.if2.true ∙ rw e)
+    let e = c.before.if-not-stays.false in
+    (rw e, in_place c.before.before.before c.if-kept-i.true ∙ rw e)
 
-mul-copy-words : tie.Need-overflow-mul-copy-words
+mul-copy-words : tie.Need-overflow_mul-kept
 mul-copy-words c = omega (arith, sizes c.before.before.before.before)
 
-returns-3 : tie.Need-returns-3
+returns-3 : tie.Need-returns
 returns-3 c =
     let m = c.before.before in
     let b = m.before.before.before in
-    let e = not-false b.before.before.args.stays b.if1.false in
-    (rw e, m.copy-words.ensures.1 ∙ copied_is _ _ _ _ (omega (arith, sizes b.before.before)) ∙ rw e)
+    let e = b.if-not-stays.false in
+    (rw e, m.copy_words.ensures.1 ∙ copied_is _ _ _ _ (omega (arith, sizes b.before.before)) ∙ rw e)
 
-pub keep-record-spec : {M : Type 1} → statement M
-keep-record-spec =
+pub keep_record_spec : {M : Type 1} → statement M
+keep_record_spec =
     tie.close
     (tie.spec
     returns

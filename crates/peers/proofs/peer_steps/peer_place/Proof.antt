@@ -10,48 +10,48 @@ use Rattle.peers.proofs.peer_steps.peer_place.Tie as tie
 ordered : (c : tie.Start) → InOrder 12 1 c.args.n c.args.peers.now
 ordered c = in-order-says 12 1 c.args.n c.args.peers.now c.requires
 
-abbrev start : tie.Then1 → tie.Start
+abbrev start : tie.Then-near-n → tie.Start
 start c = c.before.before
 
-inside : (c : tie.Then1) → (start c).args.near * 12 + 12 ≤ length (start c).args.peers.now
-inside c = omega (arith, row 12 (start c).args.n (start c).args.near c.if1.true, (ordered (start c)).words)
+inside : (c : tie.Then-near-n) → (start c).args.near * 12 + 12 ≤ length (start c).args.peers.now
+inside c = omega (arith, row 12 (start c).args.n (start c).args.near c.if-near-n.true, (ordered (start c)).words)
 
-mul-if2 : tie.Need-overflow-mul-if2
+mul-if2 : tie.Need-overflow_mul-near
 mul-if2 c = omega (arith, inside c)
 
-mul-if2-2 : tie.Need-overflow-mul-if2-2
+mul-if2-2 : tie.Need-offset_bounds-peers-near
 mul-if2-2 c = omega (arith, inside c)
 
-shared-slice-read-if2 : tie.Need-shared-slice-read-if2
+shared-slice-read-if2 : tie.Need-bounds-peers-near
 shared-slice-read-if2 c = omega (arith, inside c.before)
 
-returns : tie.Need-returns
+returns : tie.Need-returns-then-peers-near
 unfolding place_of found_or
 returns c =
     let t = c.before.before in
     let s = start t in
-    ap (found_or s.args.n) (found_here 12 s.args.n s.args.id s.args.peers.now (ordered s) s.args.near t.if1.true c.if2.true)
+    ap (found_or s.args.n) (found_here 12 s.args.n s.args.id s.args.peers.now (ordered s) s.args.near t.if-near-n.true c.if-peers-near.true)
 
-returns-2 : tie.Need-returns-2
+returns-2 : tie.Need-returns-in-At
 unfolding place_of found_or
 returns-2 c =
     let f = c.before.before.before in
-    ap (found_or f.before.before.before.args.n) (sym c.before.found.given.1 ∙ f.find.ensures)
+    ap (found_or f.before.before.before.args.n) (sym c.before.found.given.1 ∙ f.find-found.ensures)
 
-returns-3 : tie.Need-returns-3
+returns-3 : tie.Need-returns-in-Gap
 unfolding place_of found_or
 returns-3 c =
     let f = c.before.before in
-    ap (found_or f.before.before.before.args.n) (sym c.enum_told.given.1 ∙ f.find.ensures)
+    ap (found_or f.before.before.before.args.n) (sym c.enum_told.given.1 ∙ f.find-found.ensures)
 
-returns-4 : tie.Need-returns-4
+returns-4 : tie.Need-returns-in-Unfit
 unfolding place_of found_or
 returns-4 c =
     let f = c.before.before in
-    ap (found_or f.before.before.before.args.n) (sym c.enum-told2.given.1 ∙ f.find.ensures)
+    ap (found_or f.before.before.before.args.n) (sym c.enum-told2.given.1 ∙ f.find-found.ensures)
 
-pub peer-place-spec : {M : Type 1} → statement M
-peer-place-spec =
+pub peer_place_spec : {M : Type 1} → statement M
+peer_place_spec =
     tie.close
     (tie.spec
     mul-if2

@@ -14,95 +14,95 @@ use Rattle.peers.proofs.peer_steps.retain_contested.Tie as tie
 abbrev test : List ℕ → ℕ → ℕ → ℕ → List ℕ → Bool
 test peers n at age x = stays_contested at age (map peer_of (records 12 n peers)) (contested_of x).peer (contested_of x).heard_at
 
-abbrev invariant-loop : tie.invariant-loop
-invariant-loop peers n contested₀ c reading max-age place₀ kept₀ i₀ contested place kept i = Kept (test peers n reading max-age) 6 c (records 6 c contested₀) contested₀ contested i kept
+abbrev invariant-loop-i : tie.invariant-loop-i
+invariant-loop-i peers n contested₀ c reading max-age place₀ kept₀ i₀ contested place kept i = Kept (test peers n reading max-age) 6 c (records 6 c contested₀) contested₀ contested i kept
 
-abbrev decreases-loop : tie.decreases-loop
-decreases-loop peers n contested₀ c reading max-age place₀ kept₀ i₀ contested place kept i = c - i
+abbrev decreases-loop-i : tie.decreases-loop-i
+decreases-loop-i peers n contested₀ c reading max-age place₀ kept₀ i₀ contested place kept i = c - i
 
-inside : (c : tie.In-loop invariant-loop decreases-loop) → (c.before.loop.auto ≤ c.before.loop.i) × (c.before.loop.i * 6 + 6 ≤ length c.before.loop.contested)
+inside : (c : tie.In-loop-i invariant-loop-i decreases-loop-i) → (c.before.loop-i.auto ≤ c.before.loop-i.i) × (c.before.loop-i.i * 6 + 6 ≤ length c.before.loop-i.contested)
 inside c =
     let s = c.before.before.before.before.args in
-    let l = c.before.loop in
-    kept-inside (test s.peers.now s.n s.reading s.max-age) 6 s.c (records 6 s.c s.contested.now) s.contested.now l.contested l.i l.auto l.invariant c.loop-test.true
+    let l = c.before.loop-i in
+    kept-inside (test s.peers.now s.n s.reading s.max-age) 6 s.c (records 6 s.c s.contested.now) s.contested.now l.contested l.i l.auto l.invariant c.loop-i-test.true
 
-loop-holds : tie.Need-loop-init invariant-loop decreases-loop
+loop-holds : tie.Need-loop-i-init invariant-loop-i decreases-loop-i
 loop-holds c =
     let s = c.before.before in
     let xs : List ℕ = s.args.contested.now in
     kept-none (test s.args.peers.now s.args.n s.args.reading s.args.max-age) 6 s.args.c (records 6 s.args.c xs) xs (omega arith) s.requires.1
     (wide-records 6 s.args.c xs s.requires.1) (length-records 6 s.args.c xs)
 
-mul_at : tie.Need-overflow-mul-at invariant-loop decreases-loop
+mul_at : tie.Need-overflow_mul-at invariant-loop-i decreases-loop-i
 mul_at c = omega (arith, inside c)
 
-mul-peer-place : tie.Need-overflow-mul-peer-place invariant-loop decreases-loop
+mul-peer-place : tie.Need-offset_bounds-contested-at invariant-loop-i decreases-loop-i
 mul-peer-place c = omega (arith, inside c)
 
-slice-read-peer-place : tie.Need-slice-read-peer-place invariant-loop decreases-loop
+slice-read-peer-place : tie.Need-bounds-contested-at invariant-loop-i decreases-loop-i
 slice-read-peer-place c = omega (arith, inside c.before)
 
-peer-place-requires : tie.Need-peer-place-requires invariant-loop decreases-loop
+peer-place-requires : tie.Need-peer_place-place-requires invariant-loop-i decreases-loop-i
 peer-place-requires c κs = c.before.before.before.before.before.requires.0
 
-add-stays-contested : tie.Need-overflow-add-stays-contested invariant-loop decreases-loop
+add-stays-contested : tie.Need-overflow_add-at invariant-loop-i decreases-loop-i
 add-stays-contested c = omega (arith, inside c.before.before)
 
-mul-stays-contested : tie.Need-overflow-mul-stays-contested invariant-loop decreases-loop
+mul-stays-contested : tie.Need-offset_bounds-contested-at-in-loop-i invariant-loop-i decreases-loop-i
 mul-stays-contested c = omega (arith, inside c.before.before)
 
-slice-read-stays-contested : tie.Need-slice-read-stays-contested invariant-loop decreases-loop
+slice-read-stays-contested : tie.Need-bounds-contested-at-in-loop-i invariant-loop-i decreases-loop-i
 slice-read-stays-contested c = omega (arith, inside c.before.before.before)
 
-stays-contested-requires : tie.Need-stays-contested-requires invariant-loop decreases-loop
+stays-contested-requires : tie.Need-stays_contested-stays-requires invariant-loop-i decreases-loop-i
 stays-contested-requires c κs = c.before.before.before.before.before.before.before.requires.0
 
-keep-record-requires : tie.Need-keep-record-requires invariant-loop decreases-loop
+keep-record-requires : tie.Need-keep_record-kept-requires invariant-loop-i decreases-loop-i
 keep-record-requires c κs =
     let l = c.before.before.before.before.before in
     (omega arith, (inside l).0, (inside l).1)
 
-loop-again : tie.Need-loop-preserved invariant-loop decreases-loop
+loop-again : tie.Need-loop-i-preserved invariant-loop-i decreases-loop-i
 unfolding contested_of
 loop-again c =
     let r = c.before.before in
     let h = r.before.before in
     let f = h.before.before in
     let t = f.before.before in
-    let l = t.before.loop in
+    let l = t.before.loop-i in
     let s₀ = t.before.before.before.before in
     let s = s₀.args in
     let xs : List ℕ = s.contested.now in
     let rs : List (List ℕ) = records 6 s.c xs in
     let p : List ℕ → Bool = test s.peers.now s.n s.reading s.max-age in
-    kept-copied p 6 s.c rs xs l.contested l.i l.auto l.invariant t.loop-test.true
-    h.stays-contested.result r.keep-record.new.0 r.keep-record.result refl
-    (h.stays-contested.ensures
-    ∙ stays-placed s.n s.peers.now (in-order-says 12 1 s.n s.peers.now s₀.requires.0) s.reading s.max-age _ _ f.peer-place.result f.peer-place.ensures
+    kept-copied p 6 s.c rs xs l.contested l.i l.auto l.invariant t.loop-i-test.true
+    h.stays_contested-stays.result r.keep_record-kept.new.0 r.keep_record-kept.result refl
+    (h.stays_contested-stays.ensures
+    ∙ stays-placed s.n s.peers.now (in-order-says 12 1 s.n s.peers.now s₀.requires.0) s.reading s.max-age _ _ f.peer_place-place.result f.peer_place-place.ensures
     ∙ (λ k. stays_contested s.reading s.max-age (map peer_of (records 12 s.n s.peers.now))
-    (kept-first p 6 s.c rs xs l.contested l.i l.auto l.invariant t.loop-test.true k)
-    (kept_word p 6 s.c rs xs l.contested l.i l.auto l.invariant t.loop-test.true 5 (omega arith) k)))
-    r.keep-record.ensures.0
-    r.keep-record.ensures.1
+    (kept-first p 6 s.c rs xs l.contested l.i l.auto l.invariant t.loop-i-test.true k)
+    (kept_word p 6 s.c rs xs l.contested l.i l.auto l.invariant t.loop-i-test.true 5 (omega arith) k)))
+    r.keep_record-kept.ensures.0
+    r.keep_record-kept.ensures.1
 
-same_length : tie.Need-same-length invariant-loop decreases-loop
+same_length : tie.Need-shape_of-contested invariant-loop-i decreases-loop-i
 same_length c =
-    let l = c.before.loop in
+    let l = c.before.loop-i in
     let s = c.before.before.before.before.args in
     kept-long (test s.peers.now s.n s.reading s.max-age) 6 s.c (records 6 s.c s.contested.now) s.contested.now l.contested l.i l.auto l.invariant
 
-returns : tie.Need-returns invariant-loop decreases-loop
+returns : tie.Need-returns invariant-loop-i decreases-loop-i
 returns c =
-    let l = c.before.loop in
+    let l = c.before.loop-i in
     let s = c.before.before.before.before.args in
-    kept-all (test s.peers.now s.n s.reading s.max-age) 6 s.c (records 6 s.c s.contested.now) s.contested.now l.contested l.i l.auto l.invariant c.loop-test.false
+    kept-all (test s.peers.now s.n s.reading s.max-age) 6 s.c (records 6 s.c s.contested.now) s.contested.now l.contested l.i l.auto l.invariant c.loop-i-test.false
 
-pub retain-contested-spec : {M : Type 1} → statement M
-retain-contested-spec =
+pub retain_contested_spec : {M : Type 1} → statement M
+retain_contested_spec =
     tie.close
     (tie.spec
-    invariant-loop
-    decreases-loop
+    invariant-loop-i
+    decreases-loop-i
     loop-holds
     mul_at
     mul-peer-place

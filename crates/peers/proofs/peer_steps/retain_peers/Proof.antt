@@ -22,41 +22,41 @@ test contested c at x = stays_peer at (map contested_of (records 6 c contested))
 abbrev aged : ℕ → ℕ → List ℕ → List ℕ
 aged at age x = peer_words (age_peer is_held at age (peer_of x))
 
-abbrev invariant-loop : tie.invariant-loop
-invariant-loop contested c peers₀ n reading max-age kept₀ i₀ peers kept i = Kept (test contested c reading) 12 n (map (aged reading max-age) (records 12 n peers₀)) peers₀ peers i kept
+abbrev invariant-loop-i : tie.invariant-loop-i
+invariant-loop-i contested c peers₀ n reading max-age kept₀ i₀ peers kept i = Kept (test contested c reading) 12 n (map (aged reading max-age) (records 12 n peers₀)) peers₀ peers i kept
 
-abbrev decreases-loop : tie.decreases-loop
-decreases-loop contested c peers₀ n reading max-age kept₀ i₀ peers kept i = n - i
+abbrev decreases-loop-i : tie.decreases-loop-i
+decreases-loop-i contested c peers₀ n reading max-age kept₀ i₀ peers kept i = n - i
 
-abbrev start : tie.In-loop invariant-loop decreases-loop → tie.Start invariant-loop decreases-loop
+abbrev start : tie.In-loop-i invariant-loop-i decreases-loop-i → tie.Start invariant-loop-i decreases-loop-i
 start c = c.before.before.before.before
 
-abbrev made : tie.In-loop invariant-loop decreases-loop → List (List ℕ)
+abbrev made : tie.In-loop-i invariant-loop-i decreases-loop-i → List (List ℕ)
 made c = map (aged (start c).args.reading (start c).args.max-age) (records 12 (start c).args.n (start c).args.peers.now)
 
 -- the peer that is reached
-abbrev peer : tie.In-loop invariant-loop decreases-loop → List ℕ
-peer c = get_or (records 12 (start c).args.n (start c).args.peers.now) c.before.loop.i []
+abbrev peer : tie.In-loop-i invariant-loop-i decreases-loop-i → List ℕ
+peer c = get_or (records 12 (start c).args.n (start c).args.peers.now) c.before.loop-i.i []
 
 -- its words, as they are lent
-abbrev lent : tie.In-loop invariant-loop decreases-loop → List ℕ
-lent c = let at = c.before.loop.i * 12 in take (at + 12 - at) (drop at c.before.loop.peers)
+abbrev lent : tie.In-loop-i invariant-loop-i decreases-loop-i → List ℕ
+lent c = let at = c.before.loop-i.i * 12 in take (at + 12 - at) (drop at c.before.loop-i.peers)
 
-inside : (c : tie.In-loop invariant-loop decreases-loop) → (c.before.loop.auto ≤ c.before.loop.i) × (c.before.loop.i * 12 + 12 ≤ length c.before.loop.peers)
+inside : (c : tie.In-loop-i invariant-loop-i decreases-loop-i) → (c.before.loop-i.auto ≤ c.before.loop-i.i) × (c.before.loop-i.i * 12 + 12 ≤ length c.before.loop-i.peers)
 inside c =
     let s = (start c).args in
-    let l = c.before.loop in
-    kept-inside (test s.contested.now s.c s.reading) 12 s.n (made c) s.peers.now l.peers l.i l.auto l.invariant c.loop-test.true
+    let l = c.before.loop-i in
+    kept-inside (test s.contested.now s.c s.reading) 12 s.n (made c) s.peers.now l.peers l.i l.auto l.invariant c.loop-i-test.true
 
-lent_is : (c : tie.In-loop invariant-loop decreases-loop) → lent c ≡ peer c
+lent_is : (c : tie.In-loop-i invariant-loop-i decreases-loop-i) → lent c ≡ peer c
 lent_is c =
     let s = (start c).args in
-    let l = c.before.loop in
+    let l = c.before.loop-i in
     let twelve : l.i * 12 + 12 - l.i * 12 ≡ 12 = omega arith in
     ap (λ (m : ℕ). take m (drop (l.i * 12) l.peers)) twelve
-    ∙ kept_here (test s.contested.now s.c s.reading) 12 s.n (made c) s.peers.now l.peers l.i l.auto l.invariant c.loop-test.true
+    ∙ kept_here (test s.contested.now s.c s.reading) 12 s.n (made c) s.peers.now l.peers l.i l.auto l.invariant c.loop-i-test.true
 
-loop-holds : tie.Need-loop-init invariant-loop decreases-loop
+loop-holds : tie.Need-loop-i-init invariant-loop-i decreases-loop-i
 loop-holds c =
     let s = c.before.before in
     let rs : List (List ℕ) = records 12 s.args.n s.args.peers.now in
@@ -65,94 +65,94 @@ loop-holds c =
     (wide-map f 12 (λ x. peer-long (age_peer is_held s.args.reading s.args.max-age (peer_of x))) rs)
     (length-map rs f ∙ length-records 12 s.args.n s.args.peers.now)
 
-mul_at : tie.Need-overflow-mul-at invariant-loop decreases-loop
+mul_at : tie.Need-overflow_mul-at invariant-loop-i decreases-loop-i
 mul_at c = omega (arith, inside c)
 
-add-aged-words : tie.Need-overflow-add-aged-words invariant-loop decreases-loop
+add-aged-words : tie.Need-overflow_add-at invariant-loop-i decreases-loop-i
 add-aged-words c = omega (arith, inside c)
 
-mul-aged-words : tie.Need-overflow-mul-aged-words invariant-loop decreases-loop
+mul-aged-words : tie.Need-offset_bounds-peers-at invariant-loop-i decreases-loop-i
 mul-aged-words c = omega (arith, inside c)
 
-part-aged-words-start : tie.Need-slice-bounds-aged-words-start invariant-loop decreases-loop
+part-aged-words-start : tie.Need-slice_bounds-aged_words-start invariant-loop-i decreases-loop-i
 part-aged-words-start c = omega (arith, inside c.before)
 
-part-aged-words-end : tie.Need-slice-bounds-aged-words-end invariant-loop decreases-loop
+part-aged-words-end : tie.Need-slice_bounds-aged_words-end invariant-loop-i decreases-loop-i
 part-aged-words-end c = omega (arith, inside c.before)
 
-aged-words-requires : tie.Need-aged-words-requires invariant-loop decreases-loop
+aged-words-requires : tie.Need-aged_words-words-requires invariant-loop-i decreases-loop-i
 aged-words-requires c κs =
     let t = c.before.before in
     let s = start t in
-    let e = exact-record peer_words peer_of (records 12 s.args.n s.args.peers.now) s.pre.2 t.before.loop.i (omega (arith, t.loop-test.true, length-records 12 s.args.n s.args.peers.now)) in (
+    let e = exact-record peer_words peer_of (records 12 s.args.n s.args.peers.now) s.pre.2 t.before.loop-i.i (omega (arith, t.loop-i-test.true, length-records 12 s.args.n s.args.peers.now)) in (
       ap length (lent_is t ∙ sym e) ∙ peer-long (peer_of (peer t)),
       ap (λ (x : List ℕ). peer_words (peer_of x)) (lent_is t) ∙ e ∙ sym (lent_is t),
     )
 
 -- the words of the peer once it has aged
-aged-is : (c : tie.After-aged-words invariant-loop decreases-loop) → let t = c.before.before.before in c.aged-words.result ≡ get_or (made t) t.before.loop.i []
+aged-is : (c : tie.After-aged_words-words invariant-loop-i decreases-loop-i) → let t = c.before.before.before in c.aged_words-words.result ≡ get_or (made t) t.before.loop-i.i []
 aged-is c =
     let t = c.before.before.before in
     let s = (start t).args in
-    c.aged-words.ensures
+    c.aged_words-words.ensures
     ∙ ap (aged s.reading s.max-age) (lent_is t)
-    ∙ sym (map_at (aged s.reading s.max-age) [] [] (records 12 s.n s.peers.now) t.before.loop.i (omega (arith, t.loop-test.true, length-records 12 s.n s.peers.now)))
+    ∙ sym (map_at (aged s.reading s.max-age) [] [] (records 12 s.n s.peers.now) t.before.loop-i.i (omega (arith, t.loop-i-test.true, length-records 12 s.n s.peers.now)))
 
-aged-long : (c : tie.After-aged-words invariant-loop decreases-loop) → length c.aged-words.result ≡ 12
+aged-long : (c : tie.After-aged_words-words invariant-loop-i decreases-loop-i) → length c.aged_words-words.result ≡ 12
 aged-long c =
     let t = c.before.before.before in
-    ap length c.aged-words.ensures ∙ peer-long (age_peer is_held (start t).args.reading (start t).args.max-age (peer_of (lent t)))
+    ap length c.aged_words-words.ensures ∙ peer-long (age_peer is_held (start t).args.reading (start t).args.max-age (peer_of (lent t)))
 
-stays-peer-requires : tie.Need-stays-peer-requires invariant-loop decreases-loop
+stays-peer-requires : tie.Need-stays_peer-stays-requires invariant-loop-i decreases-loop-i
 stays-peer-requires c κs = (start c.before.before.before).pre.0
 
-keep-peer-requires : tie.Need-keep-peer-requires invariant-loop decreases-loop
+keep-peer-requires : tie.Need-keep_peer-kept-requires invariant-loop-i decreases-loop-i
 keep-peer-requires c κs =
     let a = c.before.before.before in
     let t = a.before.before.before in
     let s = start t in
-    let l = t.before.loop in
+    let l = t.before.loop-i in
     let e = kept-long (test s.args.contested.now s.args.c s.args.reading) 12 s.args.n (made t) s.args.peers.now l.peers l.i l.auto l.invariant in
-    (omega (arith, inside t, t.loop-test.true), omega (arith, e, s.pre.1), aged-long a)
+    (omega (arith, inside t, t.loop-i-test.true), omega (arith, e, s.pre.1), aged-long a)
 
-loop-again : tie.Need-loop-preserved invariant-loop decreases-loop
+loop-again : tie.Need-loop-i-preserved invariant-loop-i decreases-loop-i
 unfolding peer_of
 loop-again c =
     let r = c.before.before in
     let h = r.before.before.before in
     let a = h.before in
     let t = a.before.before.before in
-    let l = t.before.loop in
+    let l = t.before.loop-i in
     let s = (start t).args in
     let p : List ℕ → Bool = test s.contested.now s.c s.reading in
     let cs : List ContestedKey = map contested_of (records 6 s.c s.contested.now) in
     let x : List ℕ = get_or (made t) l.i [] in
-    kept-written p 12 s.n (made t) s.peers.now l.peers l.i l.auto l.invariant t.loop-test.true
-    h.stays-peer.result a.aged-words.result r.keep-peer.new.0 r.keep-peer.result (aged-long a) (aged-is a)
-    (h.stays-peer.ensures
+    kept-written p 12 s.n (made t) s.peers.now l.peers l.i l.auto l.invariant t.loop-i-test.true
+    h.stays_peer-stays.result a.aged_words-words.result r.keep_peer-kept.new.0 r.keep_peer-kept.result (aged-long a) (aged-is a)
+    (h.stays_peer-stays.ensures
     ∙ ap (λ (y : List ℕ). stays_peer s.reading cs (get_or y 0 0) (time_of (get_or y 1 0) (get_or y 2 0)) (flag_of (get_or y 3 0))) (aged-is a)
     ∙ ap (stays_peer s.reading cs (get_or x 0 0) (time_of (get_or x 1 0) (get_or x 2 0))) (taken-flag (get_or x 3 0) (get_or x 4 0) (get_or x 5 0) (get_or x 6 0)))
-    r.keep-peer.ensures.0
-    r.keep-peer.ensures.1
+    r.keep_peer-kept.ensures.0
+    r.keep_peer-kept.ensures.1
 
-same_length : tie.Need-same-length invariant-loop decreases-loop
+same_length : tie.Need-shape_of-peers invariant-loop-i decreases-loop-i
 same_length c =
-    let l = c.before.loop in
+    let l = c.before.loop-i in
     let s = c.before.before.before.before.args in
     kept-long (test s.contested.now s.c s.reading) 12 s.n (map (aged s.reading s.max-age) (records 12 s.n s.peers.now)) s.peers.now l.peers l.i l.auto l.invariant
 
-returns : tie.Need-returns invariant-loop decreases-loop
+returns : tie.Need-returns invariant-loop-i decreases-loop-i
 returns c =
-    let l = c.before.loop in
+    let l = c.before.loop-i in
     let s = c.before.before.before.before.args in
-    kept-all (test s.contested.now s.c s.reading) 12 s.n (map (aged s.reading s.max-age) (records 12 s.n s.peers.now)) s.peers.now l.peers l.i l.auto l.invariant c.loop-test.false
+    kept-all (test s.contested.now s.c s.reading) 12 s.n (map (aged s.reading s.max-age) (records 12 s.n s.peers.now)) s.peers.now l.peers l.i l.auto l.invariant c.loop-i-test.false
 
-pub retain-peers-spec : {M : Type 1} → statement M
-retain-peers-spec =
+pub retain_peers_spec : {M : Type 1} → statement M
+retain_peers_spec =
     tie.close
     (tie.spec
-    invariant-loop
-    decreases-loop
+    invariant-loop-i
+    decreases-loop-i
     loop-holds
     mul_at
     add-aged-words

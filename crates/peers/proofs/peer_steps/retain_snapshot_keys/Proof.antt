@@ -14,84 +14,84 @@ use Rattle.peers.proofs.peer_steps.retain_snapshot_keys.Tie as tie
 abbrev test : List ℕ → ℕ → List ℕ → Bool
 test peers n x = has_snapshot (map peer_of (records 12 n peers)) (snapshot_key_of x).peer
 
-abbrev invariant-loop : tie.invariant-loop
-invariant-loop peers n snapshot-keys₀ k place₀ kept₀ i₀ snapshot-keys place kept i = Kept (test peers n) 4 k (records 4 k snapshot-keys₀) snapshot-keys₀ snapshot-keys i kept
+abbrev invariant-loop-i : tie.invariant-loop-i
+invariant-loop-i peers n snapshot-keys₀ k place₀ kept₀ i₀ snapshot-keys place kept i = Kept (test peers n) 4 k (records 4 k snapshot-keys₀) snapshot-keys₀ snapshot-keys i kept
 
-abbrev decreases-loop : tie.decreases-loop
-decreases-loop peers n snapshot-keys₀ k place₀ kept₀ i₀ snapshot-keys place kept i = k - i
+abbrev decreases-loop-i : tie.decreases-loop-i
+decreases-loop-i peers n snapshot-keys₀ k place₀ kept₀ i₀ snapshot-keys place kept i = k - i
 
-inside : (c : tie.In-loop invariant-loop decreases-loop) → (c.before.loop.auto ≤ c.before.loop.i) × (c.before.loop.i * 4 + 4 ≤ length c.before.loop.snapshot-keys)
+inside : (c : tie.In-loop-i invariant-loop-i decreases-loop-i) → (c.before.loop-i.auto ≤ c.before.loop-i.i) × (c.before.loop-i.i * 4 + 4 ≤ length c.before.loop-i.snapshot-keys)
 inside c =
     let s = c.before.before.before.before.args in
-    let l = c.before.loop in
-    kept-inside (test s.peers.now s.n) 4 s.k (records 4 s.k s.snapshot-keys.now) s.snapshot-keys.now l.snapshot-keys l.i l.auto l.invariant c.loop-test.true
+    let l = c.before.loop-i in
+    kept-inside (test s.peers.now s.n) 4 s.k (records 4 s.k s.snapshot-keys.now) s.snapshot-keys.now l.snapshot-keys l.i l.auto l.invariant c.loop-i-test.true
 
-loop-holds : tie.Need-loop-init invariant-loop decreases-loop
+loop-holds : tie.Need-loop-i-init invariant-loop-i decreases-loop-i
 loop-holds c =
     let s = c.before.before in
     let xs : List ℕ = s.args.snapshot-keys.now in
     kept-none (test s.args.peers.now s.args.n) 4 s.args.k (records 4 s.args.k xs) xs (omega arith) s.requires.1
     (wide-records 4 s.args.k xs s.requires.1) (length-records 4 s.args.k xs)
 
-mul_at : tie.Need-overflow-mul-at invariant-loop decreases-loop
+mul_at : tie.Need-overflow_mul-at invariant-loop-i decreases-loop-i
 mul_at c = omega (arith, inside c)
 
-mul-peer-place : tie.Need-overflow-mul-peer-place invariant-loop decreases-loop
+mul-peer-place : tie.Need-offset_bounds-snapshot_keys-at invariant-loop-i decreases-loop-i
 mul-peer-place c = omega (arith, inside c)
 
-slice-read-peer-place : tie.Need-slice-read-peer-place invariant-loop decreases-loop
+slice-read-peer-place : tie.Need-bounds-snapshot_keys-at invariant-loop-i decreases-loop-i
 slice-read-peer-place c = omega (arith, inside c.before)
 
-peer-place-requires : tie.Need-peer-place-requires invariant-loop decreases-loop
+peer-place-requires : tie.Need-peer_place-place-requires invariant-loop-i decreases-loop-i
 peer-place-requires c κs = c.before.before.before.before.before.requires.0
 
-has-snapshot-requires : tie.Need-has-snapshot-requires invariant-loop decreases-loop
+has-snapshot-requires : tie.Need-has_snapshot-stays-requires invariant-loop-i decreases-loop-i
 has-snapshot-requires c κs = c.before.before.before.before.before.before.requires.0
 
-keep-record-requires : tie.Need-keep-record-requires invariant-loop decreases-loop
+keep-record-requires : tie.Need-keep_record-kept-requires invariant-loop-i decreases-loop-i
 keep-record-requires c κs =
     let l = c.before.before.before.before in
     (omega arith, (inside l).0, (inside l).1)
 
-loop-again : tie.Need-loop-preserved invariant-loop decreases-loop
+loop-again : tie.Need-loop-i-preserved invariant-loop-i decreases-loop-i
 unfolding snapshot_key_of
 loop-again c =
     let r = c.before.before in
     let h = r.before.before in
     let f = h.before in
     let t = f.before.before in
-    let l = t.before.loop in
+    let l = t.before.loop-i in
     let s₀ = t.before.before.before.before in
     let s = s₀.args in
     let xs : List ℕ = s.snapshot-keys.now in
     let rs : List (List ℕ) = records 4 s.k xs in
     let p : List ℕ → Bool = test s.peers.now s.n in
-    kept-copied p 4 s.k rs xs l.snapshot-keys l.i l.auto l.invariant t.loop-test.true
-    h.has-snapshot.result r.keep-record.new.0 r.keep-record.result refl
-    (h.has-snapshot.ensures
-    ∙ taken-placed s.n s.peers.now (in-order-says 12 1 s.n s.peers.now s₀.requires.0) _ f.peer-place.result f.peer-place.ensures
-    ∙ ap (has_snapshot (map peer_of (records 12 s.n s.peers.now))) (kept-first p 4 s.k rs xs l.snapshot-keys l.i l.auto l.invariant t.loop-test.true))
-    r.keep-record.ensures.0
-    r.keep-record.ensures.1
+    kept-copied p 4 s.k rs xs l.snapshot-keys l.i l.auto l.invariant t.loop-i-test.true
+    h.has_snapshot-stays.result r.keep_record-kept.new.0 r.keep_record-kept.result refl
+    (h.has_snapshot-stays.ensures
+    ∙ taken-placed s.n s.peers.now (in-order-says 12 1 s.n s.peers.now s₀.requires.0) _ f.peer_place-place.result f.peer_place-place.ensures
+    ∙ ap (has_snapshot (map peer_of (records 12 s.n s.peers.now))) (kept-first p 4 s.k rs xs l.snapshot-keys l.i l.auto l.invariant t.loop-i-test.true))
+    r.keep_record-kept.ensures.0
+    r.keep_record-kept.ensures.1
 
-same_length : tie.Need-same-length invariant-loop decreases-loop
+same_length : tie.Need-shape_of-snapshot_keys invariant-loop-i decreases-loop-i
 same_length c =
-    let l = c.before.loop in
+    let l = c.before.loop-i in
     let s = c.before.before.before.before.args in
     kept-long (test s.peers.now s.n) 4 s.k (records 4 s.k s.snapshot-keys.now) s.snapshot-keys.now l.snapshot-keys l.i l.auto l.invariant
 
-returns : tie.Need-returns invariant-loop decreases-loop
+returns : tie.Need-returns invariant-loop-i decreases-loop-i
 returns c =
-    let l = c.before.loop in
+    let l = c.before.loop-i in
     let s = c.before.before.before.before.args in
-    kept-all (test s.peers.now s.n) 4 s.k (records 4 s.k s.snapshot-keys.now) s.snapshot-keys.now l.snapshot-keys l.i l.auto l.invariant c.loop-test.false
+    kept-all (test s.peers.now s.n) 4 s.k (records 4 s.k s.snapshot-keys.now) s.snapshot-keys.now l.snapshot-keys l.i l.auto l.invariant c.loop-i-test.false
 
-pub retain-snapshot-keys-spec : {M : Type 1} → statement M
-retain-snapshot-keys-spec =
+pub retain_snapshot_keys_spec : {M : Type 1} → statement M
+retain_snapshot_keys_spec =
     tie.close
     (tie.spec
-    invariant-loop
-    decreases-loop
+    invariant-loop-i
+    decreases-loop-i
     loop-holds
     mul_at
     mul-peer-place

@@ -8,14 +8,14 @@ use Rattle.records.proofs.Tables.ScanLaws.{unlike-record, scanned-record}
 use Rattle.peers.proofs.peer_words.is_peer_record.Statement.{statement}
 use Rattle.peers.proofs.peer_words.is_peer_record.Tie as tie
 
-returns : tie.Need-returns
-returns c = unlike-record 12 peer_words peer_of valid_peer c.before.before.args.words.now c.if1.true
+returns : tie.Need-returns-then-words-ne-PEER_WORDS
+returns c = unlike-record 12 peer_words peer_of valid_peer c.before.before.args.words.now c.if-words-ne-PEER_WORDS.true
 
-returns-2 : tie.Need-returns-2
+returns-2 : tie.Need-returns
 returns-2 c =
     let k = c.before.before in
-    scanned-record 12 peer_words peer_of valid_peer k.before.args.words.now are_peer_words peer-words-pass c.before.if1.false
-    (λ i. (k.shared-slice-known.given i).fits) c.are-peer-words.result c.are-peer-words.ensures
+    scanned-record 12 peer_words peer_of valid_peer k.before.args.words.now are_peer_words peer-words-pass c.before.if-words-ne-PEER_WORDS.false
+    (λ i. (k.shared_slice_known-1.given i).fits) c.are_peer_words.result c.are_peer_words.ensures
 
-pub is-peer-record-spec : {M : Type 1} → statement M
-is-peer-record-spec = tie.close (tie.spec returns (λ c κs. search rules) returns-2)
+pub is_peer_record_spec : {M : Type 1} → statement M
+is_peer_record_spec = tie.close (tie.spec returns (λ c κs. search rules) returns-2)

@@ -6,18 +6,18 @@ use borrow.Author.Rules.{rules}
 use Rattle.replay.proofs.answers.put_checks.Statement.{statement}
 use Rattle.replay.proofs.answers.put_checks.Tie as tie
 
-abbrev invariant-loop : tie.invariant-loop
-invariant-loop out₀ from n list at₀ left₀ i₀ out at left i = (i ≤ length list) × (length out ≡ length out₀)
+abbrev invariant-loop-i : tie.invariant-loop-i
+invariant-loop-i out₀ from n list at₀ left₀ i₀ out at left i = (i ≤ length list) × (length out ≡ length out₀)
 
-abbrev decreases-loop : tie.decreases-loop
-decreases-loop out₀ from n list at₀ left₀ i₀ out at left i = length list - i
+abbrev decreases-loop-i : tie.decreases-loop-i
+decreases-loop-i out₀ from n list at₀ left₀ i₀ out at left i = length list - i
 
-pub put-checks-spec : {M : Type 1} → statement M
-put-checks-spec =
+pub put_checks_spec : {M : Type 1} → statement M
+put_checks_spec =
     tie.close
     (tie.spec
-    invariant-loop
-    decreases-loop
+    invariant-loop-i
+    decreases-loop-i
     (λ c. search rules)
     (λ c. search rules)
     (λ c. search rules)

@@ -6,18 +6,18 @@ use borrow.Author.Rules.{rules}
 use Rattle.replay.proofs.answers.put_list.Statement.{statement}
 use Rattle.replay.proofs.answers.put_list.Tie as tie
 
-abbrev invariant-loop : tie.invariant-loop
-invariant-loop out₀ from value list n at₀ i₀ out at i = (i ≤ length list) × (length out ≡ length out₀)
+abbrev invariant-loop-i : tie.invariant-loop-i
+invariant-loop-i out₀ from value list n at₀ i₀ out at i = (i ≤ length list) × (length out ≡ length out₀)
 
-abbrev decreases-loop : tie.decreases-loop
-decreases-loop out₀ from value list n at₀ i₀ out at i = length list - i
+abbrev decreases-loop-i : tie.decreases-loop-i
+decreases-loop-i out₀ from value list n at₀ i₀ out at i = length list - i
 
-pub put-list-spec : {M : Type 1} → statement M
-put-list-spec =
+pub put_list_spec : {M : Type 1} → statement M
+put_list_spec =
     tie.close
     (tie.spec
-    invariant-loop
-    decreases-loop
+    invariant-loop-i
+    decreases-loop-i
     (λ c κs. search rules)
     (λ c. search rules)
     (λ c. search rules)

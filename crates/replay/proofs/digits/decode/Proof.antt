@@ -6,18 +6,18 @@ use borrow.Author.Rules.{rules}
 use Rattle.replay.proofs.digits.decode.Statement.{statement}
 use Rattle.replay.proofs.digits.decode.Tie as tie
 
-abbrev invariant-loop : tie.invariant-loop
-invariant-loop line₀ from at₀ len₀ line at len = (len ≤ at) × (at ≤ length line₀) × (length line ≡ length line₀)
+abbrev invariant-loop-line : tie.invariant-loop-line
+invariant-loop-line line₀ from at₀ len₀ line at len = (len ≤ at) × (at ≤ length line₀) × (length line ≡ length line₀)
 
-abbrev decreases-loop : tie.decreases-loop
-decreases-loop line₀ from at₀ len₀ line at len = length line₀ - at
+abbrev decreases-loop-line : tie.decreases-loop-line
+decreases-loop-line line₀ from at₀ len₀ line at len = length line₀ - at
 
-pub decode-spec : {M : Type 1} → statement M
-decode-spec =
+pub decode_spec : {M : Type 1} → statement M
+decode_spec =
     tie.close
     (tie.spec
-    invariant-loop
-    decreases-loop
+    invariant-loop-line
+    decreases-loop-line
     (λ c. search rules)
     (λ c. search rules)
     (λ c. search rules)

@@ -5,18 +5,18 @@ use borrow.Author.Rules.{rules}
 use Rattle.replay.proofs.digits.hash.Statement.{statement}
 use Rattle.replay.proofs.digits.hash.Tie as tie
 
-abbrev invariant-loop : tie.invariant-loop
-invariant-loop bytes h₀ i₀ h i = i ≤ length bytes
+abbrev invariant-loop-i : tie.invariant-loop-i
+invariant-loop-i bytes h₀ i₀ h i = i ≤ length bytes
 
-abbrev decreases-loop : tie.decreases-loop
-decreases-loop bytes h₀ i₀ h i = length bytes - i
+abbrev decreases-loop-i : tie.decreases-loop-i
+decreases-loop-i bytes h₀ i₀ h i = length bytes - i
 
-pub hash-spec : {M : Type 1} → statement M
-hash-spec =
+pub hash_spec : {M : Type 1} → statement M
+hash_spec =
     tie.close
     (tie.spec
-    invariant-loop
-    decreases-loop
+    invariant-loop-i
+    decreases-loop-i
     (λ c. search rules)
     (λ c. search rules)
     (λ c κs. search rules)

@@ -4,18 +4,18 @@ use borrow.Author.Rules.{rules}
 use Rattle.replay.proofs.entries.are_in.Statement.{statement}
 use Rattle.replay.proofs.entries.are_in.Tie as tie
 
-abbrev invariant-loop : tie.invariant-loop
-invariant-loop table entries i₀ i = i ≤ 64
+abbrev invariant-loop-i : tie.invariant-loop-i
+invariant-loop-i table entries i₀ i = i ≤ 64
 
-abbrev decreases-loop : tie.decreases-loop
-decreases-loop table entries i₀ i = 64 - i
+abbrev decreases-loop-i : tie.decreases-loop-i
+decreases-loop-i table entries i₀ i = 64 - i
 
-pub are-in-spec : {M : Type 1} → statement M
-are-in-spec =
+pub are_in_spec : {M : Type 1} → statement M
+are_in_spec =
     tie.close
     (tie.spec
-    invariant-loop
-    decreases-loop
+    invariant-loop-i
+    decreases-loop-i
     (λ c. search rules)
     (λ c. search rules)
     (λ c. search rules)

@@ -6,18 +6,18 @@ use borrow.Author.Rules.{rules}
 use Rattle.replay.proofs.entries.entries_of.Statement.{statement}
 use Rattle.replay.proofs.entries.entries_of.Tie as tie
 
-abbrev invariant-loop : tie.invariant-loop
-invariant-loop table entries₀ i₀ entries i = (i ≤ 64) × (length entries ≡ 64)
+abbrev invariant-loop-i : tie.invariant-loop-i
+invariant-loop-i table entries₀ i₀ entries i = (i ≤ 64) × (length entries ≡ 64)
 
-abbrev decreases-loop : tie.decreases-loop
-decreases-loop table entries₀ i₀ entries i = 64 - i
+abbrev decreases-loop-i : tie.decreases-loop-i
+decreases-loop-i table entries₀ i₀ entries i = 64 - i
 
-pub entries-of-spec : {M : Type 1} → statement M
-entries-of-spec =
+pub entries_of_spec : {M : Type 1} → statement M
+entries_of_spec =
     tie.close
     (tie.spec
-    invariant-loop
-    decreases-loop
+    invariant-loop-i
+    decreases-loop-i
     (λ c κs. search rules)
     (λ c. search rules)
     (λ c κs. search rules)

@@ -3,14 +3,14 @@ use borrow.Author.Rules.{rules}
 use Rattle.replay.proofs.images.change.Statement.{statement}
 use Rattle.replay.proofs.images.change.Tie as tie
 
-same-length-2 : tie.Need-same-length-2
+same-length-2 : tie.Need-shape_of-line-then-place-eq-LOADHEX
 same-length-2 c = search (rules, c.before.before.before.before.before.before.before.before.before.before.before.before.before.before.before.line)
 
-same-length-3 : tie.Need-same-length-3
+same-length-3 : tie.Need-shape_of-line
 same-length-3 c = search (rules, c.before.before.before.before.before.before.before.before.before.before.before.before.before.before.before.before.line)
 
-pub change-spec : {M : Type 1} → statement M
-change-spec =
+pub change_spec : {M : Type 1} → statement M
+change_spec =
     tie.close
     (tie.spec
     (λ c κs. search rules)

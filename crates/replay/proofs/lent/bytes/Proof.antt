@@ -5,8 +5,8 @@ use lib.Seq.{length-take-le}
 use Rattle.replay.proofs.lent.bytes.Statement.{statement}
 use Rattle.replay.proofs.lent.bytes.Tie as tie
 
-slice-aggregate-result : tie.Need-slice-aggregate-result
-slice-aggregate-result c = sym (length-take-le _ _ c.before.at_most.ensures)
+slice-aggregate-result : tie.Need-slice_bounds-result-end
+slice-aggregate-result c = sym (length-take-le _ _ c.before.at_most-end.ensures)
 
-pub bytes-spec : {M : Type 1} → statement M
-bytes-spec = tie.close (tie.spec (λ c κs. search rules) slice-aggregate-result (λ c. search rules))
+pub bytes_spec : {M : Type 1} → statement M
+bytes_spec = tie.close (tie.spec (λ c κs. search rules) slice-aggregate-result (λ c. search rules))

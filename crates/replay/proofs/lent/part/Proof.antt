@@ -5,8 +5,8 @@ use lib.Seq.{length-take-le}
 use Rattle.replay.proofs.lent.part.Statement.{statement}
 use Rattle.replay.proofs.lent.part.Tie as tie
 
-slice-aggregate-result : tie.Need-slice-aggregate-result
-slice-aggregate-result c = sym (length-take-le _ _ c.before.at_most.ensures)
+slice-aggregate-result : tie.Need-slice_bounds-result-end
+slice-aggregate-result c = sym (length-take-le _ _ c.before.at_most-end.ensures)
 
-pub part-spec : {M : Type 1} → statement M
-part-spec = tie.close (tie.spec (λ c κs. search rules) slice-aggregate-result (λ c. search rules))
+pub part_spec : {M : Type 1} → statement M
+part_spec = tie.close (tie.spec (λ c κs. search rules) slice-aggregate-result (λ c. search rules))

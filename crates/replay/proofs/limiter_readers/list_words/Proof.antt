@@ -6,18 +6,18 @@ use borrow.Author.Rules.{rules}
 use Rattle.replay.proofs.limiter_readers.list_words.Statement.{statement}
 use Rattle.replay.proofs.limiter_readers.list_words.Tie as tie
 
-abbrev invariant-loop : tie.invariant-loop
-invariant-loop words list₀ i₀ list i = (i ≤ length words) × (length list ≡ length list₀)
+abbrev invariant-loop-i : tie.invariant-loop-i
+invariant-loop-i words list₀ i₀ list i = (i ≤ length words) × (length list ≡ length list₀)
 
-abbrev decreases-loop : tie.decreases-loop
-decreases-loop words list₀ i₀ list i = length words - i
+abbrev decreases-loop-i : tie.decreases-loop-i
+decreases-loop-i words list₀ i₀ list i = length words - i
 
-pub list-words-spec : {M : Type 1} → statement M
-list-words-spec =
+pub list_words_spec : {M : Type 1} → statement M
+list_words_spec =
     tie.close
     (tie.spec
-    invariant-loop
-    decreases-loop
+    invariant-loop-i
+    decreases-loop-i
     (λ c. search rules)
     (λ c. search rules)
     (λ c. search rules)

@@ -5,11 +5,11 @@ use lib.Seq.{length-take-le}
 use Rattle.replay.proofs.peer_calls.answer_elsewheres.Statement.{statement}
 use Rattle.replay.proofs.peer_calls.answer_elsewheres.Tie as tie
 
-slice-aggregate-hot-elsewhere-of-each : tie.Need-slice-aggregate-hot-elsewhere-of-each
-slice-aggregate-hot-elsewhere-of-each c = sym (length-take-le _ _ c.before.at_most.ensures)
+slice-aggregate-hot-elsewhere-of-each : tie.Need-slice_bounds-hot_elsewhere_of_each-end-2
+slice-aggregate-hot-elsewhere-of-each c = sym (length-take-le _ _ c.before.at_most-room.ensures)
 
-pub answer-elsewheres-spec : {M : Type 1} → statement M
-answer-elsewheres-spec =
+pub answer_elsewheres_spec : {M : Type 1} → statement M
+answer_elsewheres_spec =
     tie.close
     (tie.spec
     (λ c κs. search rules)

@@ -5,11 +5,11 @@ use lib.Seq.{length-take-le}
 use Rattle.replay.proofs.peer_calls.answer_totals.Statement.{statement}
 use Rattle.replay.proofs.peer_calls.answer_totals.Tie as tie
 
-slice-aggregate-total-of-each : tie.Need-slice-aggregate-total-of-each
-slice-aggregate-total-of-each c = sym (length-take-le _ _ c.before.at_most.ensures)
+slice-aggregate-total-of-each : tie.Need-slice_bounds-total_of_each-end-2
+slice-aggregate-total-of-each c = sym (length-take-le _ _ c.before.at_most-room.ensures)
 
-pub answer-totals-spec : {M : Type 1} → statement M
-answer-totals-spec =
+pub answer_totals_spec : {M : Type 1} → statement M
+answer_totals_spec =
     tie.close
     (tie.spec
     (λ c κs. search rules)

@@ -6,18 +6,18 @@ use borrow.Author.Rules.{rules}
 use Rattle.replay.proofs.peer_calls.list_flags.Statement.{statement}
 use Rattle.replay.proofs.peer_calls.list_flags.Tie as tie
 
-abbrev invariant-loop : tie.invariant-loop
-invariant-loop flags list₀ i₀ list i = (i ≤ length flags) × (length list ≡ length list₀)
+abbrev invariant-loop-i : tie.invariant-loop-i
+invariant-loop-i flags list₀ i₀ list i = (i ≤ length flags) × (length list ≡ length list₀)
 
-abbrev decreases-loop : tie.decreases-loop
-decreases-loop flags list₀ i₀ list i = length flags - i
+abbrev decreases-loop-i : tie.decreases-loop-i
+decreases-loop-i flags list₀ i₀ list i = length flags - i
 
-pub list-flags-spec : {M : Type 1} → statement M
-list-flags-spec =
+pub list_flags_spec : {M : Type 1} → statement M
+list_flags_spec =
     tie.close
     (tie.spec
-    invariant-loop
-    decreases-loop
+    invariant-loop-i
+    decreases-loop-i
     (λ c. search rules)
     (λ c. search rules)
     (λ c. search rules)

@@ -6,18 +6,18 @@ use borrow.Author.Rules.{rules}
 use Rattle.replay.proofs.peer_calls.list_totals.Statement.{statement}
 use Rattle.replay.proofs.peer_calls.list_totals.Tie as tie
 
-abbrev invariant-loop : tie.invariant-loop
-invariant-loop totals list₀ i₀ list i = (i ≤ length totals) × (length list ≡ length list₀)
+abbrev invariant-loop-i : tie.invariant-loop-i
+invariant-loop-i totals list₀ i₀ list i = (i ≤ length totals) × (length list ≡ length list₀)
 
-abbrev decreases-loop : tie.decreases-loop
-decreases-loop totals list₀ i₀ list i = length totals - i
+abbrev decreases-loop-i : tie.decreases-loop-i
+decreases-loop-i totals list₀ i₀ list i = length totals - i
 
-pub list-totals-spec : {M : Type 1} → statement M
-list-totals-spec =
+pub list_totals_spec : {M : Type 1} → statement M
+list_totals_spec =
     tie.close
     (tie.spec
-    invariant-loop
-    decreases-loop
+    invariant-loop-i
+    decreases-loop-i
     (λ c. search rules)
     (λ c. search rules)
     (λ c. search rules)

@@ -19,5 +19,5 @@ returns c =
       omega (arith, s.requires.0, c.index_of.ensures.1, ap length e, length-slice a.from a.to a.buf.now s.requires.1),
     )
 
-pub line-end-spec : {M : Type 1} → statement M
-line-end-spec = tie.close (tie.spec (λ c. search rules) (λ c. search rules) (λ c. search rules) (λ c κs. search rules) (λ c. search rules) returns)
+pub line_end_spec : {M : Type 1} → statement M
+line_end_spec = tie.close (tie.spec (λ c. search rules) (λ c. search rules) (λ c. search rules) (λ c κs. search rules) (λ c. search rules) returns)

@@ -2,11 +2,11 @@
 use Rattle.text.proofs.lines.line_of.Statement.{statement}
 use Rattle.text.proofs.lines.line_of.Tie as tie
 
-returns : tie.Need-returns
-returns c = rw c.if1.true
+returns : tie.Need-returns-then-given_up
+returns c = rw c.if-given_up.true
 
-returns-2 : tie.Need-returns-2
-returns-2 c = rw c.if1.false
+returns-2 : tie.Need-returns-else-given_up
+returns-2 c = rw c.if-given_up.false
 
-pub line-of-spec : {M : Type 1} → statement M
-line-of-spec = tie.close (tie.spec returns returns-2)
+pub line_of_spec : {M : Type 1} → statement M
+line_of_spec = tie.close (tie.spec returns returns-2)

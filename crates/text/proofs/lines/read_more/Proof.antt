@@ -8,22 +8,22 @@ use borrow.Author.Rules.{rules}
 use Rattle.text.proofs.lines.read_more.Statement.{statement}
 use Rattle.text.proofs.lines.read_more.Tie as tie
 
-returns : tie.Need-returns
+returns : tie.Need-returns-then-turns-eq0
 returns c = record { least = omega arith; inside = c.before.before.requires; kept = refl; turn_left = λ h. absurd (omega (arith, h)) }
 
-returns-2 : tie.Need-returns-2
+returns-2 : tie.Need-returns
 returns-2 c =
     let s = c.before.before.before.before.before.before.before.before.before.before.before in
     let r = c.before.before.before.before.before.before in
     record {
       least = omega arith;
       inside = omega (arith, c.before.before.count.ensures);
-      kept = take_put s.args.to (length s.args.buf.now - s.args.to) s.args.buf.now r.read.new.1.0 s.requires;
-      turn_left = λ h. omega (arith, r.before.before.before.if1.false);
+      kept = take_put s.args.to (length s.args.buf.now - s.args.to) s.args.buf.now r.read-got.new.1.0 s.requires;
+      turn_left = λ h. omega (arith, r.before.before.before.if-turns-eq0.false);
     }
 
-pub read-more-spec : {M : Type 1} → statement M
-read-more-spec =
+pub read_more_spec : {M : Type 1} → statement M
+read_more_spec =
     tie.close
     (tie.spec
     returns

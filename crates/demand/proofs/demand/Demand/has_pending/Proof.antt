@@ -6,11 +6,11 @@ use borrow.Author.Rules.{rules}
 use Rattle.demand.proofs.demand.Demand.has_pending.Statement.{statement}
 use Rattle.demand.proofs.demand.Demand.has_pending.Tie as tie
 
-returns : tie.Need-returns
-returns c = no 2 _ _ (told-no c.before.is-valid.ensures c.if1.true)
+returns : tie.Need-returns-then-not-is_valid
+returns c = no 2 _ _ (told-no c.before.is_valid.ensures c.if-not-is_valid.true)
 
-returns-2 : tie.Need-returns-2
-returns-2 c = yes 2 _ _ (told-yes c.before.before.is-valid.ensures c.before.if1.false) (value refl)
+returns-2 : tie.Need-returns
+returns-2 c = yes 2 _ _ (told-yes c.before.before.is_valid.ensures c.before.if-not-is_valid.false) (value refl)
 
-pub has-pending-spec : {M : Type 1} → statement M
-has-pending-spec = tie.close (tie.spec (λ c κs. search rules) returns returns-2)
+pub has_pending_spec : {M : Type 1} → statement M
+has_pending_spec = tie.close (tie.spec (λ c κs. search rules) returns returns-2)

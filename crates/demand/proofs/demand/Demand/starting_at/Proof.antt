@@ -6,5 +6,5 @@ use Rattle.demand.proofs.demand.Demand.starting_at.Tie as tie
 returns : tie.Need-returns
 returns c = rw zero_is
 
-pub starting-at-spec : {M : Type 1} → statement M
-starting-at-spec = tie.close (tie.spec returns)
+pub starting_at_spec : {M : Type 1} → statement M
+starting_at_spec = tie.close (tie.spec returns)

@@ -4,18 +4,18 @@ use borrow.Author.Rules.{rules}
 use Rattle.demand.proofs.demand.Demand.ticked.Statement.{statement}
 use Rattle.demand.proofs.demand.Demand.ticked.Tie as tie
 
-returns : tie.Need-returns
-returns c = idle-tick _ _ _ _ _ _ c.before.before.before.times.given.1 c.before.saturating-sub.ensures c.if1.true
+returns : tie.Need-returns-then-elapsed-eq0
+returns c = idle-tick _ _ _ _ _ _ c.before.before.before.times.given.1 c.before.saturating_sub-elapsed.ensures c.if-elapsed-eq0.true
 
-returns-2 : tie.Need-returns-2
+returns-2 : tie.Need-returns-in-Unset
 returns-2 c = first-tick _ _ _ c.enum_told.given.1
 
-returns-3 : tie.Need-returns-3
+returns-3 : tie.Need-returns-else-elapsed-eq0
 returns-3 c =
     let n = c.before.before in
-    later-tick _ _ _ _ _ _ _ n.before.before.times.given.1 n.saturating-sub.ensures c.before.if1.false c.folded.ensures
+    later-tick _ _ _ _ _ _ _ n.before.before.times.given.1 n.saturating_sub-elapsed.ensures c.before.if-elapsed-eq0.false c.folded.ensures
 
-pub ticked-spec : {M : Type 1} → statement M
-ticked-spec =
+pub ticked_spec : {M : Type 1} → statement M
+ticked_spec =
     tie.close
     (tie.spec (λ c. search rules) (λ c. search rules) (λ c κs. search rules) returns (λ c κs. search rules) returns-2 returns-3)

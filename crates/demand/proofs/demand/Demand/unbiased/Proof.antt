@@ -5,13 +5,13 @@ use borrow.Author.Rules.{rules}
 use Rattle.demand.proofs.demand.Demand.unbiased.Statement.{statement}
 use Rattle.demand.proofs.demand.Demand.unbiased.Tie as tie
 
-returns : tie.Need-returns
+returns : tie.Need-returns-in-Unset
 returns c = unmeasured _ _ _ zero_is c.enum_told.given.1
 
-returns-2 : tie.Need-returns-2
+returns-2 : tie.Need-returns-in-At
 returns-2 c =
     let n = c.before.before in
-    measured _ _ _ _ _ _ _ n.before.before.times.given.1 n.saturating-sub.ensures c.before.alpha.ensures c.unbiased-by.ensures
+    measured _ _ _ _ _ _ _ n.before.before.times.given.1 n.saturating_sub-measured.ensures c.before.alpha.ensures c.unbiased_by.ensures
 
-pub unbiased-spec : {M : Type 1} → statement M
-unbiased-spec = tie.close (tie.spec (λ c. search rules) (λ c. search rules) (λ c κs. search rules) (λ c κs. search rules) (λ c κs. search rules) returns returns-2)
+pub unbiased_spec : {M : Type 1} → statement M
+unbiased_spec = tie.close (tie.spec (λ c. search rules) (λ c. search rules) (λ c κs. search rules) (λ c κs. search rules) (λ c κs. search rules) returns returns-2)

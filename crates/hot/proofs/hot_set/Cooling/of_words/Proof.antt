@@ -7,11 +7,11 @@ use Rattle.hot.proofs.HotSet.Words.{cools-since}
 use Rattle.hot.proofs.hot_set.Cooling.of_words.Statement.{statement}
 use Rattle.hot.proofs.hot_set.Cooling.of_words.Tie as tie
 
-returns : tie.Need-returns
-returns c = sym (ap (λ (f : ℕ). cooling (time_of f c.before.args.time)) c.if1.true)
+returns : tie.Need-returns-then-flag-eq0
+returns c = sym (ap (λ (f : ℕ). cooling (time_of f c.before.args.time)) c.if-flag-eq0.true)
 
-returns-2 : tie.Need-returns-2
-returns-2 c = cools-since c.before.args.flag c.before.args.time c.if1.false
+returns-2 : tie.Need-returns
+returns-2 c = cools-since c.before.args.flag c.before.args.time c.if-flag-eq0.false
 
-pub of-words-spec : {M : Type 1} → statement M
-of-words-spec = tie.close (tie.spec returns returns-2)
+pub of_words_spec : {M : Type 1} → statement M
+of_words_spec = tie.close (tie.spec returns returns-2)

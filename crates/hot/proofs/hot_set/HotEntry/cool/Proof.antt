@@ -6,28 +6,28 @@ use Rattle.hot.proofs.HotSet.Tests.{cooled-secondary, cooled-expired, cooled-wai
 use Rattle.hot.proofs.hot_set.HotEntry.cool.Statement.{statement}
 use Rattle.hot.proofs.hot_set.HotEntry.cool.Tie as tie
 
-returns : tie.Need-returns
-returns c = cooled-secondary _ _ _ _ (not-true _ c.if1.true)
+returns : tie.Need-returns-then-not-self
+returns c = cooled-secondary _ _ _ _ (c.if-not-self.true)
 
-returns-2 : tie.Need-returns-2
+returns-2 : tie.Need-returns-then-cooldown-saturating_sub
 returns-2 c =
     let h = c.before.before in
     let k = h.before.before in
     let e = k.before.before in
-    c.renewed.ensures ∙ cooled-expired _ _ _ _ _ (not-false _ e.if1.false) k.cooling.given.1 (le-leb _ _ (rw h.saturating-sub.ensures at c.before.if2.true))
+    c.renewed.ensures ∙ cooled-expired _ _ _ _ _ (e.if-not-self.false) k.cooling.given.1 (le-leb _ _ (rw h.saturating_sub.ensures at c.before.if-cooldown-saturating_sub.true))
 
-returns-3 : tie.Need-returns-3
+returns-3 : tie.Need-returns-else-cooldown-saturating_sub
 returns-3 c =
     let h = c.before in
     let k = h.before.before in
     let e = k.before.before in
-    cooled-waiting _ _ _ _ _ (not-false _ e.if1.false) k.cooling.given.1 (lt-leb _ _ (rw h.saturating-sub.ensures at c.if2.false))
+    cooled-waiting _ _ _ _ _ (e.if-not-self.false) k.cooling.given.1 (lt-leb _ _ (rw h.saturating_sub.ensures at c.if-cooldown-saturating_sub.false))
 
-returns-4 : tie.Need-returns-4
-returns-4 c = cooled-first _ _ _ _ (not-false _ c.before.before.if1.false) c.enum_told.given.1
+returns-4 : tie.Need-returns-in_default
+returns-4 c = cooled-first _ _ _ _ (c.before.before.if-not-self.false) c.enum_told.given.1
 
-pub cool-spec : {M : Type 1} → statement M
-cool-spec =
+pub cool_spec : {M : Type 1} → statement M
+cool_spec =
     tie.close
     (tie.spec
     returns

@@ -2,14 +2,14 @@
 use borrow.Author.Rules.{rules}
 use Rattle.records.proofs.Words.FieldLaws.{flag_is}
 use Rattle.hot.proofs.HotSet.Words.{entry_at}
-use Rattle.hot.proofs.hot_set.HotEntry.of_words.Statement.{statement}
-use Rattle.hot.proofs.hot_set.HotEntry.of_words.Tie as tie
+use Rattle.hot.proofs.hot_set.HotEntry.of_words-cooling_since.Statement.{statement}
+use Rattle.hot.proofs.hot_set.HotEntry.of_words-cooling_since.Tie as tie
 
 returns : tie.Need-returns
-returns c = rw (entry_at, flag_is, c.before.before.before.of_words.ensures, c.before.before.before.before.before.before.from-bits.ensures)
+returns c = rw (entry_at, flag_is, c.before.before.before.of_words-cooling_since.ensures, c.before.before.before.before.before.before.from_bits-demand.ensures)
 
-pub of-words-spec : {M : Type 1} → statement M
-of-words-spec =
+pub of_words_spec : {M : Type 1} → statement M
+of_words_spec =
     tie.close
     (tie.spec
     (λ c. search rules)

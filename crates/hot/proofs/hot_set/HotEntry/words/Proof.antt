@@ -6,8 +6,8 @@ use Rattle.hot.proofs.hot_set.HotEntry.words.Tie as tie
 
 returns : tie.Need-returns
 unfolding words
-returns c = rw (c.before.before.before.to-bits.ensures, c.before.before.flag_word.ensures, c.before.flag.ensures, c.time.ensures)
+returns c = rw (c.before.before.before.to_bits-demand.ensures, c.before.before.flag_word-primary.ensures, c.before.flag-is_cooling.ensures, c.time-cooling_since.ensures)
 
-pub words-spec : {M : Type 1} → statement M
-words-spec =
+pub words_spec : {M : Type 1} → statement M
+words_spec =
     tie.close (tie.spec (λ c κs. search rules) (λ c κs. search rules) (λ c κs. search rules) (λ c κs. search rules) returns)

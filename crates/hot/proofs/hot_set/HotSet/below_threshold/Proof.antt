@@ -13,19 +13,19 @@ use Rattle.hot.proofs.HotSet.Acts.{ready-now, kept-room, gone-count, cooled-stay
 use Rattle.hot.proofs.hot_set.HotSet.below_threshold.Statement.{statement}
 use Rattle.hot.proofs.hot_set.HotSet.below_threshold.Tie as tie
 
-abbrev there : tie.After-known-told → tie.Start
+abbrev there : tie.In-Entry → tie.Start
 there c = c.before.before.before.before.before.before
 
-found : (c : tie.After-known-told) → get (there c).args.key (entries_of (there c).args.self (there c).args.hot.now) ≡ some c.before.entry.given.0.0
+found : (c : tie.In-Entry) → get (there c).args.key (entries_of (there c).args.self (there c).args.hot.now) ≡ some c.before.entry.given.0.0
 found c = sym c.before.before.before.get.ensures ∙ ap slot c.before.entry.given.1
 
-same_key : (c : tie.After-cool) → c.cool.result.key ≡ c.before.before.entry.given.0.0.key
-same_key c = ap (λ (e : HotEntry). e.key) c.cool.ensures ∙ cooled-key _ _ _ _
+same_key : (c : tie.After-cool-cooled) → c.cool-cooled.result.key ≡ c.before.before.entry.given.0.0.key
+same_key c = ap (λ (e : HotEntry). e.key) c.cool-cooled.ensures ∙ cooled-key _ _ _ _
 
-abbrev away : tie.After-enum-told → tie.Start
+abbrev away : tie.In-Free → tie.Start
 away c = c.before.before.before.before.before
 
-free : (c : tie.After-enum-told) → get (away c).args.key (entries_of (away c).args.self (away c).args.hot.now) ≡ none
+free : (c : tie.In-Free) → get (away c).args.key (entries_of (away c).args.self (away c).args.hot.now) ≡ none
 free c = sym c.before.before.get.ensures ∙ ap slot c.enum_told.given.1
 
 get-requires : tie.Need-get-requires
@@ -37,48 +37,48 @@ put-requires c κs =
     let s = there f.before in
     (ready-now _ _ s.pre, kept-room s.args.self s.args.hot.now s.pre s.args.key _ _ (found f.before) (same_key f))
 
-returns : tie.Need-returns
+returns : tie.Need-returns-then-cooled
 returns c =
     let p = c.before.before.before in
     let j = p.before.before in
     let f = j.before in
     let s = there f.before in
-    cooled-stays s.args.self s.args.hot.now s.pre s.args.margin s.args.key s.args.demand-rate s.args.now s.args.hot-elsewhere _ _ _ _ (found f.before) f.cool.ensures (either f.cool.result.primary s.args.hot-elsewhere (⊎_elim (λ w. inl w.taken) (λ w. inr w.1.taken) j.if1.branch)) c.counted.ensures p.put.ensures
+    cooled-stays s.args.self s.args.hot.now s.pre s.args.margin s.args.key s.args.demand-rate s.args.now s.args.hot-elsewhere _ _ _ _ (found f.before) f.cool-cooled.ensures (either f.cool-cooled.result.primary s.args.hot-elsewhere (⊎_elim (λ w. inl w.taken) (λ w. inr w.1.taken) j.then-cooled.branch)) c.counted.ensures p.put.ensures
 
 remove-requires : tie.Need-remove-requires
 remove-requires c κs = ready-now _ _ c.before.before.before.before.before.before.before.before.before.before.requires
 
-sub-counted : tie.Need-overflow-sub-counted
+sub-counted : tie.Need-overflow_sub-n
 sub-counted c =
     let f = c.before.before.before.before.before.before in
     let s = there f.before in
-    omega (arith, gone-count s.args.self s.args.hot.now s.pre s.args.key _ f.cool.result (found f.before) (same_key f))
+    omega (arith, gone-count s.args.self s.args.hot.now s.pre s.args.key _ f.cool-cooled.result (found f.before) (same_key f))
 
-returns-2 : tie.Need-returns-2
+returns-2 : tie.Need-returns-then-hot_elsewhere-2
 returns-2 c =
     let p = c.before.before in
     let t = p.before.before in
     let e = t.before in
     let s = away e in
-    absent-elsewhere s.args.self s.args.hot.now s.pre s.args.margin s.args.key s.args.demand-rate s.args.now s.args.hot-elsewhere _ _ (free e) t.if3.true p.promote.ensures
+    absent-elsewhere s.args.self s.args.hot.now s.pre s.args.margin s.args.key s.args.demand-rate s.args.now s.args.hot-elsewhere _ _ (free e) t.if-hot_elsewhere-2.true p.promote.ensures
 
-returns-3 : tie.Need-returns-3
+returns-3 : tie.Need-returns-else-hot_elsewhere
 returns-3 c =
     let r = c.before.before.before in
     let e = r.before.before in
     let f = e.before.before in
     let s = there f.before in
-    cooled-leaves s.args.self s.args.hot.now s.pre s.args.margin s.args.key s.args.demand-rate s.args.now s.args.hot-elsewhere _ _ _ _ (found f.before) f.cool.ensures (neither _ _ e.before.if1.false e.if2.false) c.counted2.ensures r.remove.ensures
+    cooled-leaves s.args.self s.args.hot.now s.pre s.args.margin s.args.key s.args.demand-rate s.args.now s.args.hot-elsewhere _ _ _ _ (found f.before) f.cool-cooled.ensures (neither _ _ e.before.then-cooled.false e.if-hot_elsewhere.false) c.counted-in-Entry.ensures r.remove.ensures
 
-returns-4 : tie.Need-returns-4
+returns-4 : tie.Need-returns-else-hot_elsewhere-2
 returns-4 c =
     let t = c.before in
     let e = t.before in
     let s = away e in
-    absent-stays s.args.self s.args.hot.now s.pre s.args.margin s.args.key s.args.demand-rate s.args.now s.args.hot-elsewhere _ _ (free e) t.if3.false c.counted3.ensures refl
+    absent-stays s.args.self s.args.hot.now s.pre s.args.margin s.args.key s.args.demand-rate s.args.now s.args.hot-elsewhere _ _ (free e) t.if-hot_elsewhere-2.false c.counted-in-Free.ensures refl
 
-pub below-threshold-spec : {M : Type 1} → statement M
-below-threshold-spec =
+pub below_threshold_spec : {M : Type 1} → statement M
+below_threshold_spec =
     tie.close
     (tie.spec
     get-requires

@@ -12,13 +12,13 @@ use Rattle.hot.proofs.hot_set.HotSet.evict.Tie as tie
 some-entry : (s : tie.Start) → 0 < s.args.self.len
 some-entry s = let p = passed-set s.args.self s.args.hot.now s.requires.0 in let f = s.requires.1.0 in omega (arith, p.some_size)
 
-weakest-requires : tie.Need-weakest-requires
+weakest-requires : tie.Need-weakest-least-requires
 weakest-requires c κs = let s = c.before.before in (ready-now _ _ s.requires.0, some-entry s)
 
 remove-requires : tie.Need-remove-requires
 remove-requires c κs = ready-now _ _ c.before.before.before.before.before.before.before.requires.0
 
-sub-put : tie.Need-overflow-sub-put
+sub-put : tie.Need-overflow_sub-n
 sub-put c = let s = c.before.before.before.before.before.before.before.before.before.before.before in omega (arith, some-entry s)
 
 put-requires : tie.Need-put-requires
@@ -27,26 +27,26 @@ put-requires c κs =
     let t = r.before.before in
     let w = t.before.before.before in
     let s = w.before.before.before in
-    (evict-ready s.args.self s.args.hot.now s.requires.0 s.args.entry w.weakest.result s.requires.1.0 s.requires.1.1 w.weakest.ensures _ r.remove.ensures, evict-room s.args.self s.args.hot.now s.requires.0 s.args.entry w.weakest.result s.requires.1.0 s.requires.1.1 w.weakest.ensures _ r.remove.ensures)
+    (evict-ready s.args.self s.args.hot.now s.requires.0 s.args.entry w.weakest-least.result s.requires.1.0 s.requires.1.1 w.weakest-least.ensures _ r.remove.ensures, evict-room s.args.self s.args.hot.now s.requires.0 s.args.entry w.weakest-least.result s.requires.1.0 s.requires.1.1 w.weakest-least.ensures _ r.remove.ensures)
 
-returns : tie.Need-returns
+returns : tie.Need-returns-then-entry-least
 returns c =
     let p = c.before.before.before in
     let r = p.before.before.before.before in
     let t = r.before.before in
     let w = t.before.before.before in
     let s = w.before.before.before in
-    evicted s.args.self s.args.hot.now s.requires.0 s.args.entry w.weakest.result s.requires.1.0 s.requires.1.1 w.weakest.ensures _ r.remove.ensures s.args.margin _ _ t.if1.true c.counted.ensures p.put.ensures
+    evicted s.args.self s.args.hot.now s.requires.0 s.args.entry w.weakest-least.result s.requires.1.0 s.requires.1.1 w.weakest-least.ensures _ r.remove.ensures s.args.margin _ _ t.if-entry-least.true c.counted.ensures p.put.ensures
 
-returns-2 : tie.Need-returns-2
+returns-2 : tie.Need-returns
 returns-2 c =
     let t = c.before in
     let w = t.before.before.before in
     let s = w.before.before.before in
-    not-evicted s.args.self s.args.hot.now s.requires.0 s.args.entry w.weakest.result s.requires.1.0 s.requires.1.1 w.weakest.ensures s.args.margin _ _ t.if1.false c.counted2.ensures refl
+    not-evicted s.args.self s.args.hot.now s.requires.0 s.args.entry w.weakest-least.result s.requires.1.0 s.requires.1.1 w.weakest-least.ensures s.args.margin _ _ t.if-entry-least.false c.counted-2.ensures refl
 
-pub evict-spec : {M : Type 1} → statement M
-evict-spec =
+pub evict_spec : {M : Type 1} → statement M
+evict_spec =
     tie.close
     (tie.spec
     weakest-requires

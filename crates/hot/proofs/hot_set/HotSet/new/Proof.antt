@@ -6,17 +6,17 @@ use Rattle.questions.specs.Questions.{answer}
 use Rattle.hot.proofs.hot_set.HotSet.new.Statement.{statement}
 use Rattle.hot.proofs.hot_set.HotSet.new.Tie as tie
 
-returns : tie.Need-returns
+returns : tie.Need-returns-then-not-has_room
 unfolding answer
-returns c = rw (sym c.before.has_room.ensures ∙ not-true _ c.if1.true)
+returns c = rw (sym c.before.has_room.ensures ∙ c.if-not-has_room.true)
 
-returns-2 : tie.Need-returns-2
+returns-2 : tie.Need-returns-then-not-is_valid_size
 unfolding answer
-returns-2 c = rw (sym c.before.before.before.has_room.ensures ∙ not-false _ c.before.before.if1.false, sym c.before.is-valid-size.ensures ∙ not-true _ c.if2.true)
+returns-2 c = rw (sym c.before.before.before.has_room.ensures ∙ c.before.before.if-not-has_room.false, sym c.before.is_valid_size.ensures ∙ c.if-not-is_valid_size.true)
 
-returns-3 : tie.Need-returns-3
+returns-3 : tie.Need-returns
 unfolding answer
-returns-3 c = rw (sym c.before.before.before.has_room.ensures ∙ not-false _ c.before.before.if1.false, sym c.before.is-valid-size.ensures ∙ not-false _ c.if2.false)
+returns-3 c = rw (sym c.before.before.before.has_room.ensures ∙ c.before.before.if-not-has_room.false, sym c.before.is_valid_size.ensures ∙ c.if-not-is_valid_size.false)
 
 pub new_spec : {M : Type 1} → statement M
 new_spec =

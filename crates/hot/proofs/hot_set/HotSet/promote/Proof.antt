@@ -13,16 +13,16 @@ use Rattle.hot.proofs.HotSet.Acts.{ready-now, kept-room, more_room, promoted-the
 use Rattle.hot.proofs.hot_set.HotSet.promote.Statement.{statement}
 use Rattle.hot.proofs.hot_set.HotSet.promote.Tie as tie
 
-abbrev there : tie.After-known-told → tie.Start
+abbrev there : tie.In-Entry → tie.Start
 there c = c.before.before.before.before.before.before
 
-found : (c : tie.After-known-told) → get (there c).args.key (entries_of (there c).args.self (there c).args.hot.now) ≡ some c.before.entry.given.0.0
+found : (c : tie.In-Entry) → get (there c).args.key (entries_of (there c).args.self (there c).args.hot.now) ≡ some c.before.entry.given.0.0
 found c = sym c.before.before.before.get.ensures ∙ ap slot c.before.entry.given.1
 
-abbrev away : tie.After-enum-told → tie.Start
+abbrev away : tie.In-Free → tie.Start
 away c = c.before.before.before.before.before
 
-free : (c : tie.After-enum-told) → get (away c).args.key (entries_of (away c).args.self (away c).args.hot.now) ≡ none
+free : (c : tie.In-Free) → get (away c).args.key (entries_of (away c).args.self (away c).args.hot.now) ≡ none
 free c = sym c.before.before.get.ensures ∙ ap slot c.enum_told.given.1
 
 -- a set that is not below its size is at it
@@ -38,28 +38,28 @@ put-requires c κs =
     let s = there k in
     (ready-now _ _ s.pre, kept-room s.args.self s.args.hot.now s.pre s.args.key _ _ (found k) (ap (λ (e : HotEntry). e.key) c.renewed.ensures))
 
-put-requires-2 : tie.Need-put-requires-2
+put-requires-2 : tie.Need-put-requires-then-n-self
 put-requires-2 c κs =
     let k = c.before.before.before.before in
     let s = k.before.before.before.before.before in
-    (ready-now _ _ s.requires, more_room s.args.self s.args.hot.now s.requires s.args.key _ (free k) (ap (λ (e : HotEntry). e.key) c.before.before.before.new.ensures) c.before.if1.true)
+    (ready-now _ _ s.requires, more_room s.args.self s.args.hot.now s.requires s.args.key _ (free k) (ap (λ (e : HotEntry). e.key) c.before.before.before.new-entry.ensures) c.before.if-n-self.true)
 
-returns : tie.Need-returns
+returns : tie.Need-returns-then-n-self
 returns c =
     let p = c.before.before.before in
     let t = p.before.before in
     let n = t.before.before in
     let s = n.before.before.before.before.before.before in
-    promoted-new s.args.self s.args.hot.now s.requires s.args.margin s.args.key s.args.demand-rate s.args.primary s.args.now _ _ _ (free n.before) n.new.ensures t.if1.true c.counted2.ensures p.put2.ensures
+    promoted-new s.args.self s.args.hot.now s.requires s.args.margin s.args.key s.args.demand-rate s.args.primary s.args.now _ _ _ (free n.before) n.new-entry.ensures t.if-n-self.true c.counted-then-n-self.ensures p.put-then-n-self.ensures
 
 evict-requires : tie.Need-evict-requires
 evict-requires c κs =
     let e = c.before in
     let n = e.before.before in
     let s = n.before.before.before.before.before.before in
-    (s.requires, (passed-full s e.if1.false, ap (λ (x : HotEntry). get x.key (entries_of s.args.self s.args.hot.now)) n.new.ensures ∙ free n.before))
+    (s.requires, (passed-full s e.if-n-self.false, ap (λ (x : HotEntry). get x.key (entries_of s.args.self s.args.hot.now)) n.new-entry.ensures ∙ free n.before))
 
-returns-2 : tie.Need-returns-2
+returns-2 : tie.Need-returns-in-Entry
 returns-2 c =
     let p = c.before.before.before in
     let w = p.before in
@@ -67,16 +67,16 @@ returns-2 c =
     let s = there k in
     promoted-there s.args.self s.args.hot.now s.pre s.args.margin s.args.key s.args.demand-rate s.args.primary s.args.now _ _ _ _ (found k) w.renewed.ensures c.counted.ensures p.put.ensures
 
-returns-3 : tie.Need-returns-3
+returns-3 : tie.Need-returns-else-n-self
 returns-3 c =
     let v = c.before.before in
     let e = v.before.before in
     let n = e.before.before in
     let s = n.before.before.before.before.before.before in
-    promoted-full s.args.self s.args.hot.now s.requires s.args.margin s.args.key s.args.demand-rate s.args.primary s.args.now _ _ _ (free n.before) n.new.ensures e.if1.false v.evict.ensures
+    promoted-full s.args.self s.args.hot.now s.requires s.args.margin s.args.key s.args.demand-rate s.args.primary s.args.now _ _ _ (free n.before) n.new-entry.ensures e.if-n-self.false v.evict.ensures
 
-pub promote-spec : {M : Type 1} → statement M
-promote-spec =
+pub promote_spec : {M : Type 1} → statement M
+promote_spec =
     tie.close
     (tie.spec
     get-requires

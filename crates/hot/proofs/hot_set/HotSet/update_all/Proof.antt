@@ -14,95 +14,95 @@ use Rattle.hot.proofs.HotSet.EachLaws.{EachPassed, each-passed, lent-next, lent_
 use Rattle.hot.proofs.hot_set.HotSet.update_all.Statement.{statement}
 use Rattle.hot.proofs.hot_set.HotSet.update_all.Tie as tie
 
-abbrev invariant-loop : tie.invariant-loop
-invariant-loop hot₀ keys w n demands thresholds elsewhere now out₀ set₀ i₀ hot out set i = Updating eviction_margin set₀ now (lent_updates keys w n demands thresholds elsewhere) hot₀ out₀ i set hot out
+abbrev invariant-loop-i : tie.invariant-loop-i
+invariant-loop-i hot₀ keys w n demands thresholds elsewhere now out₀ set₀ i₀ hot out set i = Updating eviction_margin set₀ now (lent_updates keys w n demands thresholds elsewhere) hot₀ out₀ i set hot out
 
-abbrev decreases-loop : tie.decreases-loop
-decreases-loop hot₀ keys w n demands thresholds elsewhere now out₀ set₀ i₀ hot out set i = n - i
+abbrev decreases-loop-i : tie.decreases-loop-i
+decreases-loop-i hot₀ keys w n demands thresholds elsewhere now out₀ set₀ i₀ hot out set i = n - i
 
-abbrev start : tie.At-loop invariant-loop decreases-loop → tie.Start invariant-loop decreases-loop
+abbrev start : tie.At-loop-i invariant-loop-i decreases-loop-i → tie.Start invariant-loop-i decreases-loop-i
 start c = c.before.before.before.before.before.before.before
 
-passed : (s : tie.Start invariant-loop decreases-loop) → EachPassed s.args.self s.args.hot.now s.args.keys.now s.args.w s.args.n s.args.demands.now s.args.thresholds.now s.args.elsewhere.now (length s.args.out.now)
+passed : (s : tie.Start invariant-loop-i decreases-loop-i) → EachPassed s.args.self s.args.hot.now s.args.keys.now s.args.w s.args.n s.args.demands.now s.args.thresholds.now s.args.elsewhere.now (length s.args.out.now)
 passed s = each-passed _ _ _ _ _ _ _ _ _ s.requires
 
-abbrev updates : tie.Start invariant-loop decreases-loop → List Update
+abbrev updates : tie.Start invariant-loop-i decreases-loop-i → List Update
 updates s = lent_updates s.args.keys.now s.args.w s.args.n s.args.demands.now s.args.thresholds.now s.args.elsewhere.now
 
-count : (s : tie.Start invariant-loop decreases-loop) → length (updates s) ≡ s.args.n
+count : (s : tie.Start invariant-loop-i decreases-loop-i) → length (updates s) ≡ s.args.n
 count s = lent_length s.args.keys.now s.args.w s.args.n s.args.demands.now s.args.thresholds.now s.args.elsewhere.now (passed s).fit
 
 -- the key of an update is within its table
-inside : (c : tie.In-loop invariant-loop decreases-loop) → c.before.loop.i * (start c.before).args.w < length (start c.before).args.keys.now
+inside : (c : tie.In-loop-i invariant-loop-i decreases-loop-i) → c.before.loop-i.i * (start c.before).args.w < length (start c.before).args.keys.now
 inside c =
     let s = start c.before in
     let f = (passed s).fit.keys_fit in
-    omega (arith, row s.args.w s.args.n c.before.loop.i c.loop-test.true, fits-pos (length s.args.keys.now) s.args.w s.args.n f, fits_le (length s.args.keys.now) s.args.w s.args.n f)
+    omega (arith, row s.args.w s.args.n c.before.loop-i.i c.loop-i-test.true, fits-pos (length s.args.keys.now) s.args.w s.args.n f, fits_le (length s.args.keys.now) s.args.w s.args.n f)
 
-loop-holds : tie.Need-loop-init invariant-loop decreases-loop
+loop-holds : tie.Need-loop-i-init invariant-loop-i decreases-loop-i
 loop-holds c =
     let s = c.before.before.before.before.before.before in
     updating-start eviction_margin _ _ _ _ _ (passed s).asked
 
-mul-update-with-margin : tie.Need-overflow-mul-update-with-margin invariant-loop decreases-loop
+mul-update-with-margin : tie.Need-overflow_mul-i invariant-loop-i decreases-loop-i
 mul-update-with-margin c = omega (arith, inside c.before)
 
-mul-update-with-margin-2 : tie.Need-overflow-mul-update-with-margin-2 invariant-loop decreases-loop
+mul-update-with-margin-2 : tie.Need-offset_bounds-keys-i invariant-loop-i decreases-loop-i
 mul-update-with-margin-2 c = omega (arith, inside c.before)
 
-shared-slice-read-update-with-margin : tie.Need-shared-slice-read-update-with-margin invariant-loop decreases-loop
+shared-slice-read-update-with-margin : tie.Need-bounds-keys-i invariant-loop-i decreases-loop-i
 shared-slice-read-update-with-margin c = inside c.before.before
 
-mul-update-with-margin-3 : tie.Need-overflow-mul-update-with-margin-3 invariant-loop decreases-loop
-mul-update-with-margin-3 c = let e = c.before.before in omega (arith, e.loop-test.true, (passed (start e.before)).fit.demands_fit)
+mul-update-with-margin-3 : tie.Need-offset_bounds-demands-i invariant-loop-i decreases-loop-i
+mul-update-with-margin-3 c = let e = c.before.before in omega (arith, e.loop-i-test.true, (passed (start e.before)).fit.demands_fit)
 
-shared-slice-read-update-with-margin-2 : tie.Need-shared-slice-read-update-with-margin-2 invariant-loop decreases-loop
+shared-slice-read-update-with-margin-2 : tie.Need-bounds-demands-i invariant-loop-i decreases-loop-i
 shared-slice-read-update-with-margin-2 c =
     let e = c.before.before.before in
-    omega (arith, e.loop-test.true, (passed (start e.before)).fit.demands_fit)
+    omega (arith, e.loop-i-test.true, (passed (start e.before)).fit.demands_fit)
 
-mul-update-with-margin-4 : tie.Need-overflow-mul-update-with-margin-4 invariant-loop decreases-loop
+mul-update-with-margin-4 : tie.Need-offset_bounds-thresholds-i invariant-loop-i decreases-loop-i
 mul-update-with-margin-4 c =
     let e = c.before.before.before in
-    omega (arith, e.loop-test.true, (passed (start e.before)).fit.thresholds_fit)
+    omega (arith, e.loop-i-test.true, (passed (start e.before)).fit.thresholds_fit)
 
-shared-slice-read-update-with-margin-3 : tie.Need-shared-slice-read-update-with-margin-3 invariant-loop decreases-loop
+shared-slice-read-update-with-margin-3 : tie.Need-bounds-thresholds-i invariant-loop-i decreases-loop-i
 shared-slice-read-update-with-margin-3 c =
     let e = c.before.before.before.before in
-    omega (arith, e.loop-test.true, (passed (start e.before)).fit.thresholds_fit)
+    omega (arith, e.loop-i-test.true, (passed (start e.before)).fit.thresholds_fit)
 
-shared-slice-read-update-with-margin-4 : tie.Need-shared-slice-read-update-with-margin-4 invariant-loop decreases-loop
+shared-slice-read-update-with-margin-4 : tie.Need-bounds-elsewhere-i invariant-loop-i decreases-loop-i
 shared-slice-read-update-with-margin-4 c =
     let e = c.before.before.before.before.before in
-    omega (arith, e.loop-test.true, (passed (start e.before)).fit.flags_fit)
+    omega (arith, e.loop-i-test.true, (passed (start e.before)).fit.flags_fit)
 
-update-with-margin-requires : tie.Need-update-with-margin-requires invariant-loop decreases-loop
-update-with-margin-requires c κs = c.before.before.before.before.before.before.loop.invariant.asked
+update-with-margin-requires : tie.Need-update_with_margin-updated-requires invariant-loop-i decreases-loop-i
+update-with-margin-requires c κs = c.before.before.before.before.before.before.loop-i.invariant.asked
 
-slice-write-out : tie.Need-slice-write-out invariant-loop decreases-loop
+slice-write-out : tie.Need-bounds-out-i invariant-loop-i decreases-loop-i
 slice-write-out c =
     let e = c.before.before.before.before.before.before.before.before in
-    omega (arith, e.loop-test.true, (passed (start e.before)).room, e.before.loop.invariant.wide)
+    omega (arith, e.loop-i-test.true, (passed (start e.before)).room, e.before.loop-i.invariant.wide)
 
-add-i : tie.Need-overflow-add-i invariant-loop decreases-loop
+add-i : tie.Need-overflow_add-i invariant-loop-i decreases-loop-i
 add-i c =
     let e = c.before.before.before.before.before.before.before.before.before in
-    omega (arith, e.loop-test.true)
+    omega (arith, e.loop-i-test.true)
 
-loop-less : tie.Need-loop-smaller invariant-loop decreases-loop
+loop-less : tie.Need-loop-i-smaller invariant-loop-i decreases-loop-i
 loop-less c =
     let e = c.before.before.before.before.before.before.before.before.before in
-    omega (arith, e.loop-test.true)
+    omega (arith, e.loop-i-test.true)
 
-loop-again : tie.Need-loop-preserved invariant-loop decreases-loop
+loop-again : tie.Need-loop-i-preserved invariant-loop-i decreases-loop-i
 loop-again c =
     let a = c.before.before.before in
     let e = a.before.before.before.before.before.before in
     let s = start e.before in
-    let l = e.before.loop in
-    let h = e.loop-test.true in
+    let l = e.before.loop-i in
+    let h = e.loop-i-test.true in
     let p = passed s in
-    let key : get_or s.args.keys.now (l.i * s.args.w) 0 < 2 ^ 64 = omega (arith, a.before.before.before.before.shared-slice-known5.given (l.i * s.args.w)) in
+    let key : get_or s.args.keys.now (l.i * s.args.w) 0 < 2 ^ 64 = omega (arith, a.before.before.before.before.shared_slice_known-in-loop-i-1.given (l.i * s.args.w)) in
     let reading : s.args.now < 2 ^ 64 = omega (arith, s.fits.now) in
     updating-next eviction_margin s.args.self s.args.now (updates s) s.args.hot.now s.args.out.now l.i l.set l.hot l.out l.invariant
     (omega (arith, h, count s))
@@ -111,33 +111,33 @@ loop-again c =
     (lent-next s.args.keys.now s.args.w s.args.n s.args.demands.now s.args.thresholds.now s.args.elsewhere.now p.fit _ _ _ l.i h)
     (record {
       key_word = lt-ltb (get_or s.args.keys.now (l.i * s.args.w) 0) (2 ^ 64) key;
-      demand_f64 = is_true _ (a.before.before.before.shared-slice-known6.given l.i);
+      demand_f64 = is_true _ (a.before.before.before.shared_slice_known-in-loop-i-2-1.given l.i);
       finite = p.numbers _ l.i h;
       now_word = lt-ltb s.args.now (2 ^ 64) reading;
     })
-    a.update-with-margin.result
+    a.update_with_margin-updated.result
     _
-    a.update-with-margin.ensures
+    a.update_with_margin-updated.ensures
 
-same_length : tie.Need-same-length invariant-loop decreases-loop
-same_length c = c.before.loop.invariant.long
+same_length : tie.Need-shape_of-hot invariant-loop-i decreases-loop-i
+same_length c = c.before.loop-i.invariant.long
 
-same-length-2 : tie.Need-same-length-2 invariant-loop decreases-loop
-same-length-2 c = c.before.loop.invariant.wide
+same-length-2 : tie.Need-shape_of-out invariant-loop-i decreases-loop-i
+same-length-2 c = c.before.loop-i.invariant.wide
 
-returns : tie.Need-returns invariant-loop decreases-loop
+returns : tie.Need-returns invariant-loop-i decreases-loop-i
 returns c =
     let s = start c.before in
-    let l = c.before.loop in
+    let l = c.before.loop-i in
     subst (λ (n : ℕ). UpdatesEach eviction_margin s.args.self s.args.hot.now (updates s) s.args.now n s.args.out.now l.set l.hot l.out) (count s)
-    (updating-done eviction_margin s.args.self s.args.now (updates s) s.args.hot.now s.args.out.now l.i l.set l.hot l.out l.invariant (omega (arith, c.loop-test.false, count s)))
+    (updating-done eviction_margin s.args.self s.args.now (updates s) s.args.hot.now s.args.out.now l.i l.set l.hot l.out l.invariant (omega (arith, c.loop-i-test.false, count s)))
 
-pub update-all-spec : {M : Type 1} → statement M
-update-all-spec =
+pub update_all_spec : {M : Type 1} → statement M
+update_all_spec =
     tie.close
     (tie.spec
-    invariant-loop
-    decreases-loop
+    invariant-loop-i
+    decreases-loop-i
     loop-holds
     mul-update-with-margin
     mul-update-with-margin-2

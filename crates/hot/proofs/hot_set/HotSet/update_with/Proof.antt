@@ -9,28 +9,28 @@ use Rattle.hot.proofs.HotSet.Answers.{numbered-update, update-passed-set}
 use Rattle.hot.proofs.hot_set.HotSet.update_with.Statement.{statement}
 use Rattle.hot.proofs.hot_set.HotSet.update_with.Tie as tie
 
-abbrev start : tie.Else1 → tie.Start
+abbrev start : tie.Else-no-ne0 → tie.Start
 start c = c.before.before.before.before
 
-asked : (c : tie.Else1) → passes (ask_update (start c).args.self (start c).args.hot.now (start c).args.demand-rate) ≡ true
-asked c = let s = start c in passed_none _ _ (numbered-update s.args.self s.args.hot.now s.args.demand-rate) c.before.ask-update.ensures c.if1.false
+asked : (c : tie.Else-no-ne0) → passes (ask_update (start c).args.self (start c).args.hot.now (start c).args.demand-rate) ≡ true
+asked c = let s = start c in passed_none _ _ (numbered-update s.args.self s.args.hot.now s.args.demand-rate) c.before.ask_update-no.ensures c.if-no-ne0.false
 
-returns : tie.Need-returns
-returns c = record { answered = answer-no _ _ _ c.before.ask-update.ensures c.if1.true; left = kept-no _ _ _ _ c.before.ask-update.ensures c.if1.true }
+returns : tie.Need-returns-then-no-ne0
+returns c = record { answered = answer-no _ _ _ c.before.ask_update-no.ensures c.if-no-ne0.true; left = kept-no _ _ _ _ c.before.ask_update-no.ensures c.if-no-ne0.true }
 
-update-with-margin-requires : tie.Need-update-with-margin-requires
+update-with-margin-requires : tie.Need-update_with_margin-requires
 update-with-margin-requires c κs = let s = start c.before in update-passed-set s.args.self s.args.hot.now s.args.demand-rate (asked c.before)
 
-returns-2 : tie.Need-returns-2
+returns-2 : tie.Need-returns
 returns-2 c =
     let u = c.before.before in
     let e = u.before.before in
     record {
-      answered = ap given u.update-with-margin.ensures.says ∙ answer-passed _ _ (asked e);
-      left = u.update-with-margin.ensures.left ∙ changed-passed _ _ _ (asked e);
+      answered = ap given u.update_with_margin.ensures.says ∙ answer-passed _ _ (asked e);
+      left = u.update_with_margin.ensures.left ∙ changed-passed _ _ _ (asked e);
     }
 
-pub update-with-spec : {M : Type 1} → statement M
-update-with-spec =
+pub update_with_spec : {M : Type 1} → statement M
+update_with_spec =
     tie.close
     (tie.spec (λ c κs. search rules) (λ c. search rules) returns update-with-margin-requires (λ c. search rules) returns-2)

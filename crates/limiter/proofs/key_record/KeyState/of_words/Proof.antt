@@ -1,8 +1,8 @@
 -- `KeyState::of_words` meets its contract.
 use Rattle.limiter.proofs.Checking.KeyRecordLaws.{key-at}
 use borrow.Author.Rules.{rules}
-use Rattle.limiter.proofs.key_record.KeyState.of_words.Statement.{statement}
-use Rattle.limiter.proofs.key_record.KeyState.of_words.Tie as tie
+use Rattle.limiter.proofs.key_record.KeyState.of_words-demand.Statement.{statement}
+use Rattle.limiter.proofs.key_record.KeyState.of_words-demand.Tie as tie
 
 returns : tie.Need-returns
 returns c =
@@ -13,16 +13,16 @@ returns c =
     let d = r.before in
     rw (
       key-at,
-      d.before.before.from-bits.ensures,
-      d.of_words.ensures,
-      r.of-words2.ensures,
-      n.of-words3.ensures,
-      s.of-words4.ensures,
-      m.meter-of-words.ensures,
+      d.before.before.from_bits-rate.ensures,
+      d.of_words-demand.ensures,
+      r.of_words-requests.ensures,
+      n.of_words-denials.ensures,
+      s.of_words-shadow_denials.ensures,
+      m.meter_of_words-gcra.ensures,
     )
 
-pub of-words-spec : {M : Type 1} → statement M
-of-words-spec =
+pub of_words_spec : {M : Type 1} → statement M
+of_words_spec =
     tie.close
     (tie.spec
     (λ c. search rules)

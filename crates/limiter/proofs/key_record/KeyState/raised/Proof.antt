@@ -21,7 +21,7 @@ counted-requires-4 : tie.Need-counted-requires-4
 counted-requires-4 c κs = (fits c.before.before.before.before.before.before.before.before).fit_shadow
 
 returns : tie.Need-returns
-returns c = rw (c.before.before.before.counted.ensures, c.before.before.counted2.ensures, c.before.counted3.ensures, c.counted4.ensures)
+returns c = rw (c.before.before.before.counted.ensures, c.before.before.counted-2.ensures, c.before.counted-3.ensures, c.counted-4.ensures)
 
-pub raised-spec : {M : Type 1} → statement M
-raised-spec = tie.close (tie.spec counted-requires counted-requires-2 counted-requires-3 counted-requires-4 returns)
+pub raised_spec : {M : Type 1} → statement M
+raised_spec = tie.close (tie.spec counted-requires counted-requires-2 counted-requires-3 counted-requires-4 returns)

@@ -9,57 +9,57 @@ use Rattle.peers.proofs.Peers.Readers.ReaderLaws.{alone, at_most_one, len-starts
 use Rattle.peers.proofs.peer_demand.PeerDemand.count_keys.Statement.{statement}
 use Rattle.peers.proofs.peer_demand.PeerDemand.count_keys.Tie as tie
 
-abbrev invariant-loop : tie.invariant-loop
-invariant-loop peers snapshot-keys contested n m count₀ i₀ count i = (i ≤ m) × (count ≤ n + i) × (count + length (only (alone n snapshot-keys) (drop i (records 6 m contested))) ≡ n + length (only (alone n snapshot-keys) (drop 0 (records 6 m contested))))
+abbrev invariant-loop-i : tie.invariant-loop-i
+invariant-loop-i peers snapshot-keys contested n m count₀ i₀ count i = (i ≤ m) × (count ≤ n + i) × (count + length (only (alone n snapshot-keys) (drop i (records 6 m contested))) ≡ n + length (only (alone n snapshot-keys) (drop 0 (records 6 m contested))))
 
-abbrev decreases-loop : tie.decreases-loop
-decreases-loop peers snapshot-keys contested n m count₀ i₀ count i = m - i
+abbrev decreases-loop-i : tie.decreases-loop-i
+decreases-loop-i peers snapshot-keys contested n m count₀ i₀ count i = m - i
 
-abbrev start : tie.After-count-unlisted invariant-loop decreases-loop → tie.Start invariant-loop decreases-loop
+abbrev start : tie.After-count_unlisted-count invariant-loop-i decreases-loop-i → tie.Start invariant-loop-i decreases-loop-i
 start c = c.before.before.before.before.before.before
 
 -- what a turn counts
-turn : (c : tie.After-count-unlisted invariant-loop decreases-loop) → let s = (start c).args in let i = c.before.before.loop.i in (c.count-unlisted.result ≤ 1) × (length (only (alone s.self.snapshot_keys s.snapshot-keys.now) (drop i (records 6 s.self.contested s.contested.now))) ≡ c.count-unlisted.result + length (only (alone s.self.snapshot_keys s.snapshot-keys.now) (drop (i + 1) (records 6 s.self.contested s.contested.now))))
+turn : (c : tie.After-count_unlisted-count invariant-loop-i decreases-loop-i) → let s = (start c).args in let i = c.before.before.loop-i.i in (c.count_unlisted-count.result ≤ 1) × (length (only (alone s.self.snapshot_keys s.snapshot-keys.now) (drop i (records 6 s.self.contested s.contested.now))) ≡ c.count_unlisted-count.result + length (only (alone s.self.snapshot_keys s.snapshot-keys.now) (drop (i + 1) (records 6 s.self.contested s.contested.now))))
 turn c =
     let s = (start c).args in
-    let e = len-goes s.self.snapshot_keys s.snapshot-keys.now s.self.contested s.contested.now c.before.before.loop.i (omega arith) in
-    let i : ℕ = c.before.before.loop.i in
+    let e = len-goes s.self.snapshot_keys s.snapshot-keys.now s.self.contested s.contested.now c.before.before.loop-i.i (omega arith) in
+    let i : ℕ = c.before.before.loop-i.i in
     let listed : Bool = is_listed (get_or s.contested.now (i * 6) 0) (get_or s.contested.now (i * 6 + 1) 0) (map snapshot_key_of (records 4 s.self.snapshot_keys s.snapshot-keys.now)) in
-    (omega (arith, c.count-unlisted.ensures, at_most_one listed), omega (arith, e, c.count-unlisted.ensures))
+    (omega (arith, c.count_unlisted-count.ensures, at_most_one listed), omega (arith, e, c.count_unlisted-count.ensures))
 
 -- the counts are small
-small : (c : tie.After-count-unlisted invariant-loop decreases-loop) → let s = (start c).args in (s.self.snapshot_keys * 4 ≤ length s.snapshot-keys.now) × (s.self.contested * 6 ≤ length s.contested.now)
+small : (c : tie.After-count_unlisted-count invariant-loop-i decreases-loop-i) → let s = (start c).args in (s.self.snapshot_keys * 4 ≤ length s.snapshot-keys.now) × (s.self.contested * 6 ≤ length s.contested.now)
 small c = ((start c).requires.snapshot_keys.ready.fit, (start c).requires.contested.ready.fit)
 
-loop-holds : tie.Need-loop-init invariant-loop decreases-loop
+loop-holds : tie.Need-loop-i-init invariant-loop-i decreases-loop-i
 loop-holds c = (omega arith, omega arith, refl)
 
-count-unlisted-requires : tie.Need-count-unlisted-requires invariant-loop decreases-loop
+count-unlisted-requires : tie.Need-count_unlisted-count-requires invariant-loop-i decreases-loop-i
 count-unlisted-requires c κs =
     let st = c.before.before.before.before.before in
     (st.requires.snapshot_keys, omega (arith, st.requires.contested.ready.fit))
 
-add-count : tie.Need-overflow-add-count invariant-loop decreases-loop
+add-count : tie.Need-overflow_add-count invariant-loop-i decreases-loop-i
 add-count c = omega (arith, turn c, small c)
 
-add-i : tie.Need-overflow-add-i invariant-loop decreases-loop
+add-i : tie.Need-overflow_add-i invariant-loop-i decreases-loop-i
 add-i c = omega (arith, small c)
 
-loop-again : tie.Need-loop-preserved invariant-loop decreases-loop
+loop-again : tie.Need-loop-i-preserved invariant-loop-i decreases-loop-i
 loop-again c = (omega arith, omega (arith, turn c), omega (arith, turn c))
 
-returns : tie.Need-returns invariant-loop decreases-loop
+returns : tie.Need-returns invariant-loop-i decreases-loop-i
 returns c =
     let s = c.before.before.before.before.before.args in
-    let l = c.before.loop in
+    let l = c.before.loop-i in
     omega (arith, len-ends s.self.snapshot_keys s.snapshot-keys.now s.self.contested s.contested.now l.i (omega arith), len-starts s.self (tables s.peers.now s.snapshot-keys.now s.contested.now), l.invariant.2)
 
-pub count-keys-spec : {M : Type 1} → statement M
-count-keys-spec =
+pub count_keys_spec : {M : Type 1} → statement M
+count_keys_spec =
     tie.close
     (tie.spec
-    invariant-loop
-    decreases-loop
+    invariant-loop-i
+    decreases-loop-i
     loop-holds
     count-unlisted-requires
     add-count

@@ -4,22 +4,22 @@ use Rattle.peers.proofs.Peers.CallLaws.{changes-not, asked-all, peers-changed}
 use Rattle.peers.proofs.peer_demand.PeerDemand.expire.Statement.{statement}
 use Rattle.peers.proofs.peer_demand.PeerDemand.expire.Tie as tie
 
-returns : tie.Need-returns
-returns c = changes-not _ _ _ _ _ _ c.before.before.ask.ensures c.before.if1.true c.refused.ensures
+returns : tie.Need-returns-then-no-ne0
+returns c = changes-not _ _ _ _ _ _ c.before.before.ask-no.ensures c.before.if-no-ne0.true c.refused.ensures
 
-expire-all-requires : tie.Need-expire-all-requires
+expire-all-requires : tie.Need-expire_all-requires
 expire-all-requires c κs =
     let e = c.before.before.before in
-    asked-all _ _ _ e.before.ask.ensures e.if1.false
+    asked-all _ _ _ e.before.ask-no.ensures e.if-no-ne0.false
 
-returns-2 : tie.Need-returns-2
+returns-2 : tie.Need-returns
 returns-2 c =
     let f = c.before.before.before.before.before.before.before in
     let e = f.before.before.before.before in
-    peers-changed _ _ _ _ _ _ _ e.before.ask.ensures e.if1.false c.done.ensures f.expire-all.ensures
+    peers-changed _ _ _ _ _ _ _ e.before.ask-no.ensures e.if-no-ne0.false c.done.ensures f.expire_all.ensures
 
-pub expire-spec : {M : Type 1} → statement M
-expire-spec =
+pub expire_spec : {M : Type 1} → statement M
+expire_spec =
     tie.close
     (tie.spec
     (λ c κs. search rules)

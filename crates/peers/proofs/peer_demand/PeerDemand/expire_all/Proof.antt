@@ -12,35 +12,35 @@ lent c = tables c.args.peers.now c.args.snapshot-keys.now c.args.contested.now
 sound : (c : tie.Start) → Tables c.args.self (lent c)
 sound c = tables-of c.args.self (lent c) c.requires
 
-abbrev first : tie.After-retain-contested → tie.Start
+abbrev first : tie.After-retain_contested-c → tie.Start
 first c = c.before.before.before.before.before.before
 
-abbrev second : tie.After-retain-peers → tie.After-retain-contested
+abbrev second : tie.After-retain_peers-n → tie.After-retain_contested-c
 second c = c.before.before.before.before.before
 
-retain-contested-requires : tie.Need-retain-contested-requires
+retain-contested-requires : tie.Need-retain_contested-c-requires
 retain-contested-requires c κs =
     let o = sound c.before.before.before.before.before in
     (o.peers.order, omega (arith, o.contested.within, o.contested.room))
 
-retain-peers-requires : tie.Need-retain-peers-requires
+retain-peers-requires : tie.Need-retain_peers-n-requires
 retain-peers-requires c κs =
     let r = c.before.before.before.before in
     let s = first r in
     let o = sound s in (
-      contested-order s.args.self (lent s) o s.args.reading s.args.max-age r.retain-contested.result r.retain-contested.new.1.1.0 r.retain-contested.ensures,
+      contested-order s.args.self (lent s) o s.args.reading s.args.max-age r.retain_contested-c.result r.retain_contested-c.new.1.1.0 r.retain_contested-c.ensures,
       omega (arith, o.peers.within, o.peers.room),
       o.peers.exactly,
     )
 
-retain-snapshot-keys-requires : tie.Need-retain-snapshot-keys-requires
+retain-snapshot-keys-requires : tie.Need-retain_snapshot_keys-k-requires
 retain-snapshot-keys-requires c κs =
     let q = c.before.before.before.before in
     let r = second q in
     let s = first r in
     let o = sound s in (
-      peers-order s.args.self (lent s) o s.args.reading s.args.max-age r.retain-contested.result r.retain-contested.last.1.1.0 r.retain-contested.ensures
-          q.retain-peers.result q.retain-peers.new.1.1.0 q.retain-peers.ensures,
+      peers-order s.args.self (lent s) o s.args.reading s.args.max-age r.retain_contested-c.result r.retain_contested-c.last.1.1.0 r.retain_contested-c.ensures
+          q.retain_peers-n.result q.retain_peers-n.new.1.1.0 q.retain_peers-n.ensures,
       omega (arith, o.snapshot_keys.within, o.snapshot_keys.room),
     )
 
@@ -50,12 +50,12 @@ returns c =
     let q = k.before.before.before.before.before in
     let r = second q in
     let s = first r in
-    expired s.args.self (lent s) (sound s) s.args.reading s.args.max-age r.retain-contested.result r.retain-contested.last.1.1.0 r.retain-contested.ensures
-    q.retain-peers.result q.retain-peers.new.1.1.0 q.retain-peers.ensures
-    k.retain-snapshot-keys.result k.retain-snapshot-keys.new.1.1.0 k.retain-snapshot-keys.ensures
+    expired s.args.self (lent s) (sound s) s.args.reading s.args.max-age r.retain_contested-c.result r.retain_contested-c.last.1.1.0 r.retain_contested-c.ensures
+    q.retain_peers-n.result q.retain_peers-n.new.1.1.0 q.retain_peers-n.ensures
+    k.retain_snapshot_keys-k.result k.retain_snapshot_keys-k.new.1.1.0 k.retain_snapshot_keys-k.ensures
 
-pub expire-all-spec : {M : Type 1} → statement M
-expire-all-spec =
+pub expire_all_spec : {M : Type 1} → statement M
+expire_all_spec =
     tie.close
     (tie.spec
     retain-contested-requires

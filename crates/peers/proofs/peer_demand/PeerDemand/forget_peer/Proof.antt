@@ -19,22 +19,22 @@ keys s = in-order-says 4 2 s.args.self.snapshot_keys s.args.snapshot-keys.now (s
 contested : (s : tie.Start) → InOrder 6 2 s.args.self.contested s.args.contested.now
 contested s = in-order-says 6 2 s.args.self.contested s.args.contested.now (sound s).contested.order
 
-abbrev start : tie.After-none → tie.Start
+abbrev start : tie.After-none-1 → tie.Start
 start c = c.before.before.before.before.before
 
-abbrev second : tie.After-none2 → tie.After-replace-run
+abbrev second : tie.After-none-2-1 → tie.After-replace_run-n
 second c = c.before.before.before.before
 
-abbrev third : tie.After-none3 → tie.After-replace-run2
+abbrev third : tie.After-none-3-1 → tie.After-replace_run-k
 third c = c.before.before.before.before
 
-replace-run-requires : tie.Need-replace-run-requires
+replace-run-requires : tie.Need-replace_run-n-requires
 replace-run-requires c κs = let s = start c in in-order-run 12 1 _ s.args.id _ (omega arith) (peers s)
 
-replace-run-requires-2 : tie.Need-replace-run-requires-2
+replace-run-requires-2 : tie.Need-replace_run-k-requires
 replace-run-requires-2 c κs = let s = start (second c).before in in-order-run 4 2 _ s.args.id _ (omega arith) (keys s)
 
-replace-run-requires-3 : tie.Need-replace-run-requires-3
+replace-run-requires-3 : tie.Need-replace_run-c-requires
 replace-run-requires-3 c κs = let s = start (second (third c).before).before in in-order-run 6 2 _ s.args.id _ (omega arith) (contested s)
 
 returns : tie.Need-returns
@@ -44,14 +44,14 @@ returns c =
     let w₁ = second w₂.before in
     let s = start w₁.before in
     forgotten s.args.self (tables s.args.peers.now s.args.snapshot-keys.now s.args.contested.now) s.args.id
-    w₁.replace-run.result w₂.replace-run2.result w₃.replace-run3.result w₁.replace-run.last.0 w₂.replace-run2.last.0 w₃.replace-run3.new.0
+    w₁.replace_run-n.result w₂.replace_run-k.result w₃.replace_run-c.result w₁.replace_run-n.last.0 w₂.replace_run-k.last.0 w₃.replace_run-c.new.0
     (sound s)
-    (run_out 12 1 _ s.args.id _ (omega arith) (peers s) _ _ w₁.replace-run.ensures)
-    (run_out 4 2 _ s.args.id _ (omega arith) (keys s) _ _ w₂.replace-run2.ensures)
-    (run_out 6 2 _ s.args.id _ (omega arith) (contested s) _ _ w₃.replace-run3.ensures)
+    (run_out 12 1 _ s.args.id _ (omega arith) (peers s) _ _ w₁.replace_run-n.ensures)
+    (run_out 4 2 _ s.args.id _ (omega arith) (keys s) _ _ w₂.replace_run-k.ensures)
+    (run_out 6 2 _ s.args.id _ (omega arith) (contested s) _ _ w₃.replace_run-c.ensures)
 
-pub forget-peer-spec : {M : Type 1} → statement M
-forget-peer-spec =
+pub forget_peer_spec : {M : Type 1} → statement M
+forget_peer_spec =
     tie.close
     (tie.spec
     (λ c. search rules)

@@ -7,29 +7,29 @@ use Rattle.peers.proofs.Peers.Readers.ReaderLaws.{id-at, heard-missing}
 use Rattle.peers.proofs.peer_demand.PeerDemand.heard_by.Statement.{statement}
 use Rattle.peers.proofs.peer_demand.PeerDemand.heard_by.Tie as tie
 
-abbrev start : tie.After-i → tie.Start
+abbrev start : tie.In-At-2 → tie.Start
 start c = c.before.before.before.before.before.before
 
 -- the peer that is found has the id
-place : (c : tie.After-i) → (c.i.given.0.0 < (start c).args.self.peers) × (get_or (start c).args.peers.now (c.i.given.0.0 * 12) 0 ≡ (start c).args.id)
+place : (c : tie.In-At-2) → (c.i.given.0.0 < (start c).args.self.peers) × (get_or (start c).args.peers.now (c.i.given.0.0 * 12) 0 ≡ (start c).args.id)
 place c =
     let st = start c in
     let s = st.args in
     let b = c.before.before in
     id-at s.self.peers s.peers.now st.pre.peers s.id c.i.given.0.0 (find-says 12 1 s.self.peers s.id 0 s.peers.now (omega arith) (omega arith) (omega arith) st.pre.peers.fit b.find.result b.find.ensures ∙ c.i.given.1)
 
-heard-from-requires : tie.Need-heard-from-requires
+heard-from-requires : tie.Need-heard_from-requires
 heard-from-requires c κs =
     let st = start c.before in
     (st.pre, (place c.before).0)
 
-returns : tie.Need-returns
+returns : tie.Need-returns-in-At
 returns c =
     let a = c.before.before in
     let s = (start a).args in
-    c.heard-from.ensures ∙ ap (λ (id : ℕ). heard id s.key (state_of s.self (tables s.peers.now s.snapshot-keys.now s.contested.now))) (place a).1
+    c.heard_from.ensures ∙ ap (λ (id : ℕ). heard id s.key (state_of s.self (tables s.peers.now s.snapshot-keys.now s.contested.now))) (place a).1
 
-returns-2 : tie.Need-returns-2
+returns-2 : tie.Need-returns-in-Gap
 returns-2 c =
     let a = c.before in
     let b = a.before.before in
@@ -37,15 +37,15 @@ returns-2 c =
     let s = st.args in
     heard-missing s.self (tables s.peers.now s.snapshot-keys.now s.contested.now) st.requires s.key s.id a.i2.given.0.0 (find-says 12 1 s.self.peers s.id 0 s.peers.now (omega arith) (omega arith) (omega arith) st.requires.peers.fit b.find.result b.find.ensures ∙ a.i2.given.1)
 
-returns-3 : tie.Need-returns-3
+returns-3 : tie.Need-returns-in-Unfit
 returns-3 c =
     let b = c.before.before in
     let st = b.before.before.before.before in
     let s = st.args in
     absurd (never-unfit 12 1 s.self.peers s.id 0 s.peers.now (omega arith) (omega arith) (omega arith) st.requires.peers.fit b.find.result b.find.ensures c.enum_told.given.1)
 
-pub heard-by-spec : {M : Type 1} → statement M
-heard-by-spec =
+pub heard_by_spec : {M : Type 1} → statement M
+heard_by_spec =
     tie.close
     (tie.spec
     (λ c κs. search rules)

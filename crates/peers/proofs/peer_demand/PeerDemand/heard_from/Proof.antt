@@ -6,7 +6,7 @@ use Rattle.peers.proofs.Peers.Readers.ReaderLaws.{peer-round, heard-at}
 use Rattle.peers.proofs.peer_demand.PeerDemand.heard_from.Statement.{statement}
 use Rattle.peers.proofs.peer_demand.PeerDemand.heard_from.Tie as tie
 
-heard-taken-requires : tie.Need-heard-taken-requires
+heard-taken-requires : tie.Need-heard_taken-taken-requires
 heard-taken-requires c κs =
     let st = c.before.before.before.before.before.before.before in
     (st.requires.0.snapshot_keys, peer-round st.args.self.peers st.args.peers.now st.requires.0.peers st.requires.0.pass st.args.i st.requires.1)
@@ -15,10 +15,10 @@ returns : tie.Need-returns
 returns c =
     let st = c.before.before.before.before.before.before.before.before.before.before in
     let s = st.args in
-    c.join.ensures ∙ (λ k. join (c.before.before.heard-taken.ensures k) (c.before.heard-contested.ensures k)) ∙ heard-at s.self (tables s.peers.now s.snapshot-keys.now s.contested.now) st.requires.0 s.key s.i st.requires.1
+    c.join.ensures ∙ (λ k. join (c.before.before.heard_taken-taken.ensures k) (c.before.heard_contested-other.ensures k)) ∙ heard-at s.self (tables s.peers.now s.snapshot-keys.now s.contested.now) st.requires.0 s.key s.i st.requires.1
 
-pub heard-from-spec : {M : Type 1} → statement M
-heard-from-spec =
+pub heard_from_spec : {M : Type 1} → statement M
+heard_from_spec =
     tie.close
     (tie.spec
     (λ c. search rules)

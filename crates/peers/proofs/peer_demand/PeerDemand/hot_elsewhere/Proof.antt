@@ -5,16 +5,16 @@ use Rattle.peers.proofs.Peers.Readers.EachLaws.{one-refused, one-given}
 use Rattle.peers.proofs.peer_demand.PeerDemand.hot_elsewhere.Statement.{statement}
 use Rattle.peers.proofs.peer_demand.PeerDemand.hot_elsewhere.Tie as tie
 
-returns : tie.Need-returns
+returns : tie.Need-returns-in-No
 returns c =
     let m = c.before in
-    one-refused hot_elsewhere _ _ _ _ _ _ m.before.before.before.hot-elsewhere-of-each.ensures _ m.no.given.1
+    one-refused hot_elsewhere _ _ _ _ _ _ m.before.before.before.hot_elsewhere_of_each.ensures _ m.no.given.1
 
-returns-2 : tie.Need-returns-2
-returns-2 c = one-given hot_elsewhere _ _ _ _ _ _ c.before.before.before.hot-elsewhere-of-each.ensures _ c.enum_told.given.1
+returns-2 : tie.Need-returns-in-Done
+returns-2 c = one-given hot_elsewhere _ _ _ _ _ _ c.before.before.before.hot_elsewhere_of_each.ensures _ c.enum_told.given.1
 
-pub hot-elsewhere-spec : {M : Type 1} → statement M
-hot-elsewhere-spec =
+pub hot_elsewhere_spec : {M : Type 1} → statement M
+hot_elsewhere_spec =
     tie.close
     (tie.spec
     (λ c. search rules)

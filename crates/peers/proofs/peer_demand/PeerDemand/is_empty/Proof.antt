@@ -5,12 +5,12 @@ use Rattle.peers.proofs.Peers.CallLaws.{refused-any, given_by}
 use Rattle.peers.proofs.peer_demand.PeerDemand.is_empty.Statement.{statement}
 use Rattle.peers.proofs.peer_demand.PeerDemand.is_empty.Tie as tie
 
-returns : tie.Need-returns
+returns : tie.Need-returns-in-No
 returns c =
     let m = c.before in
     refused-any _ _ _ _ (sym (ap len_answer m.no.given.1) ∙ m.before.before.len.ensures)
 
-returns-2 : tie.Need-returns-2
+returns-2 : tie.Need-returns-in-Is
 returns-2 c =
     let m = c.before in
     given_by (λ (n : ℕ). eqb n 0) _ _ _ (sym (ap len_answer m.n.given.1) ∙ m.before.before.len.ensures)

@@ -9,60 +9,60 @@ use Rattle.peers.proofs.Peers.Validity.StartLaws.{starts-room, own-told}
 use Rattle.peers.proofs.peer_demand.PeerDemand.is_primary_of_any.Statement.{statement}
 use Rattle.peers.proofs.peer_demand.PeerDemand.is_primary_of_any.Tie as tie
 
-abbrev invariant-loop : tie.invariant-loop
-invariant-loop self peers snapshot-keys contested key n snapshot-starts contested-starts i₀ i = (i ≤ n) × (hot_elsewhere key (state_of self (tables peers snapshot-keys contested)) ≡ any (holds self (tables peers snapshot-keys contested) key) (drop i (records 12 self.peers peers)))
+abbrev invariant-loop-i : tie.invariant-loop-i
+invariant-loop-i self peers snapshot-keys contested key n snapshot-starts contested-starts i₀ i = (i ≤ n) × (hot_elsewhere key (state_of self (tables peers snapshot-keys contested)) ≡ any (holds self (tables peers snapshot-keys contested) key) (drop i (records 12 self.peers peers)))
 
-abbrev decreases-loop : tie.decreases-loop
-decreases-loop self peers snapshot-keys contested key n snapshot-starts contested-starts i₀ i = n - i
+abbrev decreases-loop-i : tie.decreases-loop-i
+decreases-loop-i self peers snapshot-keys contested key n snapshot-starts contested-starts i₀ i = n - i
 
-loop-holds : tie.Need-loop-init invariant-loop decreases-loop
+loop-holds : tie.Need-loop-i-init invariant-loop-i decreases-loop-i
 loop-holds c =
     let s = c.before.before.before.before.before.args in
     (omega arith, hot-starts s.self (tables s.peers.now s.snapshot-keys.now s.contested.now) s.key)
 
-abbrev start : tie.In-loop invariant-loop decreases-loop → tie.Start invariant-loop decreases-loop
+abbrev start : tie.In-loop-i invariant-loop-i decreases-loop-i → tie.Start invariant-loop-i decreases-loop-i
 start c = c.before.before.before.before.before.before.before
 
-own-keys-requires : tie.Need-own-keys-requires invariant-loop decreases-loop
+own-keys-requires : tie.Need-own_keys-own-requires invariant-loop-i decreases-loop-i
 own-keys-requires c κs =
     let e = c.before.before in
     let st = start e in
     let s = st.args in
-    starts-room s.self (tables s.peers.now s.snapshot-keys.now s.contested.now) s.starts st.pre e.before.loop.i e.loop-test.true
+    starts-room s.self (tables s.peers.now s.snapshot-keys.now s.contested.now) s.starts st.pre e.before.loop-i.i e.loop-i-test.true
 
-heard-among-own-requires : tie.Need-heard-among-own-requires invariant-loop decreases-loop
+heard-among-own-requires : tie.Need-heard_among_own-said-requires invariant-loop-i decreases-loop-i
 heard-among-own-requires c κs =
     let e = c.before.before.before in
     let st = start e in
     let s = st.args in
-    (st.pre.ready, (own-told s.self (tables s.peers.now s.snapshot-keys.now s.contested.now) s.starts st.pre e.before.loop.i e.loop-test.true c.own_keys.result c.own_keys.ensures, e.loop-test.true))
+    (st.pre.ready, (own-told s.self (tables s.peers.now s.snapshot-keys.now s.contested.now) s.starts st.pre e.before.loop-i.i e.loop-i-test.true c.own_keys-own.result c.own_keys-own.ensures, e.loop-i-test.true))
 
-returns : tie.Need-returns invariant-loop decreases-loop
+returns : tie.Need-returns-then-is_primary invariant-loop-i decreases-loop-i
 returns c =
     let e = c.before.before.before.before.before.before in
     let s = (start e).args in
-    let l = e.before.loop in
-    hot-here s.self (tables s.peers.now s.snapshot-keys.now s.contested.now) s.key (start e).requires.ready l.i e.loop-test.true (ap is_primary (sym c.before.before.heard-among-own.ensures) ∙ sym c.before.is-primary.ensures ∙ c.if1.true) l.invariant.1
+    let l = e.before.loop-i in
+    hot-here s.self (tables s.peers.now s.snapshot-keys.now s.contested.now) s.key (start e).requires.ready l.i e.loop-i-test.true (ap is_primary (sym c.before.before.heard_among_own-said.ensures) ∙ sym c.before.is_primary.ensures ∙ c.if-is_primary.true) l.invariant.1
 
-loop-again : tie.Need-loop-preserved invariant-loop decreases-loop
+loop-again : tie.Need-loop-i-preserved invariant-loop-i decreases-loop-i
 loop-again c =
     let e = c.before.before.before.before.before.before in
     let s = (start e).args in
-    let l = e.before.loop in
-    (omega (arith, e.loop-test.true), hot-goes s.self (tables s.peers.now s.snapshot-keys.now s.contested.now) s.key (start e).requires.ready l.i e.loop-test.true (ap is_primary (sym c.before.before.heard-among-own.ensures) ∙ sym c.before.is-primary.ensures ∙ c.if1.false) l.invariant.1)
+    let l = e.before.loop-i in
+    (omega (arith, e.loop-i-test.true), hot-goes s.self (tables s.peers.now s.snapshot-keys.now s.contested.now) s.key (start e).requires.ready l.i e.loop-i-test.true (ap is_primary (sym c.before.before.heard_among_own-said.ensures) ∙ sym c.before.is_primary.ensures ∙ c.if-is_primary.false) l.invariant.1)
 
-returns-2 : tie.Need-returns-2 invariant-loop decreases-loop
+returns-2 : tie.Need-returns invariant-loop-i decreases-loop-i
 returns-2 c =
     let s = c.before.before.before.before.before.before.before.args in
-    let l = c.before.loop in
+    let l = c.before.loop-i in
     hot-ends s.self (tables s.peers.now s.snapshot-keys.now s.contested.now) s.key l.i (omega arith) l.invariant.1
 
-pub is-primary-of-any-spec : {M : Type 1} → statement M
-is-primary-of-any-spec =
+pub is_primary_of_any_spec : {M : Type 1} → statement M
+is_primary_of_any_spec =
     tie.close
     (tie.spec
-    invariant-loop
-    decreases-loop
+    invariant-loop-i
+    decreases-loop-i
     loop-holds
     (λ c. search rules)
     (λ c. search rules)

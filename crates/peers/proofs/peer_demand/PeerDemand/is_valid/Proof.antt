@@ -10,69 +10,69 @@ use Rattle.records.proofs.Tables.TypedLaws.{all_words}
 use Rattle.peers.proofs.peer_demand.PeerDemand.is_valid.Statement.{statement}
 use Rattle.peers.proofs.peer_demand.PeerDemand.is_valid.Tie as tie
 
-scanned : (c : tie.After-shared-slice-known3) → let s = c.before.before.before.args in is_scanned s.self (tables s.peers.now s.snapshot-keys.now s.contested.now) ≡ is_valid s.self (tables s.peers.now s.snapshot-keys.now s.contested.now)
+scanned : (c : tie.After-shared_slice_known-3-1) → let s = c.before.before.before.args in is_scanned s.self (tables s.peers.now s.snapshot-keys.now s.contested.now) ≡ is_valid s.self (tables s.peers.now s.snapshot-keys.now s.contested.now)
 scanned c =
     let st = c.before.before.before in
     let s = st.args in
     scanned-is-valid s.self (tables s.peers.now s.snapshot-keys.now s.contested.now) st.requires.0
-    (all_words s.peers.now (λ i. omega (arith, c.before.before.shared-slice-known.given i)))
-    (all_words s.snapshot-keys.now (λ i. omega (arith, c.before.shared-slice-known2.given i)))
-    (all_words s.contested.now (λ i. omega (arith, c.shared-slice-known3.given i)))
+    (all_words s.peers.now (λ i. omega (arith, c.before.before.shared_slice_known-1.given i)))
+    (all_words s.snapshot-keys.now (λ i. omega (arith, c.before.shared_slice_known-2-1.given i)))
+    (all_words s.contested.now (λ i. omega (arith, c.shared_slice_known-3-1.given i)))
 
-abbrev start : tie.Else1 → tie.Start
+abbrev start : tie.Else-not-are_peers → tie.Start
 start c = c.before.before.before.before.before.before.before
 
-roomy : (c : tie.Else1) → let s = (start c).args in Roomy (tables s.peers.now s.snapshot-keys.now s.contested.now)
+roomy : (c : tie.Else-not-are_peers) → let s = (start c).args in Roomy (tables s.peers.now s.snapshot-keys.now s.contested.now)
 roomy c =
     let s = (start c).args in
     room_says (tables s.peers.now s.snapshot-keys.now s.contested.now) (start c).requires.0
 
-passed : (c : tie.Else1) → are_peers (records 12 (start c).args.self.peers (start c).args.peers.now) ≡ true
-passed c = sym c.before.are-peers.ensures ∙ not-false c.before.are-peers.result c.if1.false
+passed : (c : tie.Else-not-are_peers) → are_peers (records 12 (start c).args.self.peers (start c).args.peers.now) ≡ true
+passed c = sym c.before.are_peers.ensures ∙ c.if-not-are_peers.false
 
-ready : (c : tie.Else1) → PeersReady (start c).args.self.peers (start c).args.peers.now
+ready : (c : tie.Else-not-are_peers) → PeersReady (start c).args.self.peers (start c).args.peers.now
 ready c = peers-ready (start c).args.self.peers (start c).args.peers.now (roomy c).peers (passed c)
 
-are-peers-requires : tie.Need-are-peers-requires
+are-peers-requires : tie.Need-are_peers-requires
 are-peers-requires c κs =
     let st = c.before.before.before.before.before in
     let s = st.args in
     (room_says (tables s.peers.now s.snapshot-keys.now s.contested.now) st.requires.0).peers
 
-returns : tie.Need-returns
+returns : tie.Need-returns-then-not-are_peers
 unfolding is_scanned
-returns c = (stop _ _ (sym c.before.are-peers.ensures ∙ not-true c.before.are-peers.result c.if1.true) ∙ scanned c.before.before.before.before, λ e. contradiction (sym e))
+returns c = (stop _ _ (sym c.before.are_peers.ensures ∙ c.if-not-are_peers.true) ∙ scanned c.before.before.before.before, λ e. contradiction (sym e))
 
-are-keys-requires : tie.Need-are-keys-requires
+are-keys-requires : tie.Need-are_keys-requires
 are-keys-requires c κs =
     let e = c.before in
     (ready e, ((omega arith, omega arith, omega (arith, (roomy e).snapshot_keys)), (start e).requires.1.0))
 
-returns-2 : tie.Need-returns-2
+returns-2 : tie.Need-returns-then-not-are_keys
 unfolding is_scanned
 returns-2 c =
     let k = c.before.before.before in
     let e = k.before.before in
-    (goes _ _ false (passed e) (stop _ _ (sym k.are-keys.ensures.0 ∙ not-true k.are-keys.result c.if2.true)) ∙ scanned e.before.before.before.before, λ e. contradiction (sym e))
+    (goes _ _ false (passed e) (stop _ _ (sym k.are_keys.ensures.0 ∙ c.if-not-are_keys.true)) ∙ scanned e.before.before.before.before, λ e. contradiction (sym e))
 
-are-keys-requires-2 : tie.Need-are-keys-requires-2
+are-keys-requires-2 : tie.Need-are_keys-requires-2
 are-keys-requires-2 c κs =
     let e = c.before.before.before.before.before.before in
     (ready e, ((omega arith, omega arith, omega (arith, (roomy e).contested)), (start e).requires.1.1))
 
-returns-3 : tie.Need-returns-3
+returns-3 : tie.Need-returns
 unfolding is_scanned
 returns-3 c =
     let d = c.before.before in
     let f = d.before.before in
     let k = f.before.before.before in
     let e = k.before.before in
-    let found = not-false k.are-keys.result f.if2.false in (
-      goes _ _ _ (passed e) (goes _ _ _ (sym k.are-keys.ensures.0 ∙ found) d.are-keys2.ensures.0) ∙ scanned e.before.before.before.before,
-      λ h. record { snapshot_keys = k.are-keys.ensures.1 found; contested = d.are-keys2.ensures.1 h },
+    let found = f.if-not-are_keys.false in (
+      goes _ _ _ (passed e) (goes _ _ _ (sym k.are_keys.ensures.0 ∙ found) d.are_keys-2.ensures.0) ∙ scanned e.before.before.before.before,
+      λ h. record { snapshot_keys = k.are_keys.ensures.1 found; contested = d.are_keys-2.ensures.1 h },
     )
 
-pub is-valid-spec : {M : Type 1} → statement M
-is-valid-spec =
+pub is_valid_spec : {M : Type 1} → statement M
+is_valid_spec =
     tie.close
     (tie.spec are-peers-requires returns are-keys-requires (λ c. search rules) returns-2 are-keys-requires-2 (λ c. search rules) (λ c. search rules) returns-3)

@@ -7,21 +7,21 @@ use Rattle.peers.proofs.Peers.Readers.ReaderLaws.{answer-yes, asked-ready}
 use Rattle.peers.proofs.peer_demand.PeerDemand.len.Statement.{statement}
 use Rattle.peers.proofs.peer_demand.PeerDemand.len.Tie as tie
 
-returns : tie.Need-returns
-returns c = answer-no _ _ c.before.ask.result c.before.ask.ensures c.if1.true
+returns : tie.Need-returns-then-asked-ne0
+returns c = answer-no _ _ c.before.ask-asked.result c.before.ask-asked.ensures c.if-asked-ne0.true
 
-count-keys-requires : tie.Need-count-keys-requires
+count-keys-requires : tie.Need-count_keys-requires
 count-keys-requires c κs =
     let k = c.before.before in
-    asked-ready _ _ _ c.before.ask.ensures c.if1.false (λ i. (k.before.before.shared-slice-known.given i).fits)
-    (λ i. (k.before.shared-slice-known2.given i).fits) (λ i. (k.shared-slice-known3.given i).fits)
+    asked-ready _ _ _ c.before.ask-asked.ensures c.if-asked-ne0.false (λ i. (k.before.before.shared_slice_known-1.given i).fits)
+    (λ i. (k.before.shared_slice_known-2-1.given i).fits) (λ i. (k.shared_slice_known-3-1.given i).fits)
 
-returns-2 : tie.Need-returns-2
+returns-2 : tie.Need-returns
 returns-2 c =
     let e = c.before in
     let s = e.before.before.before.before.before.args in
-    let all-keys = c.count-keys.ensures ∙ asked-counted s.self (tables s.peers.now s.snapshot-keys.now s.contested.now) e.before.ask.result e.before.ask.ensures e.if1.false in
-    answer-yes _ _ e.before.ask.result _ _ e.before.ask.ensures e.if1.false all-keys
+    let all-keys = c.count_keys.ensures ∙ asked-counted s.self (tables s.peers.now s.snapshot-keys.now s.contested.now) e.before.ask-asked.result e.before.ask-asked.ensures e.if-asked-ne0.false in
+    answer-yes _ _ e.before.ask-asked.result _ _ e.before.ask-asked.ensures e.if-asked-ne0.false all-keys
 
 pub len_spec : {M : Type 1} → statement M
 len_spec = tie.close (tie.spec (λ c κs. search rules) returns count-keys-requires returns-2)

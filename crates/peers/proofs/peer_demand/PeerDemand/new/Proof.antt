@@ -5,11 +5,11 @@ use borrow.Author.Tests.{not-true, not-false}
 use Rattle.peers.proofs.peer_demand.PeerDemand.new.Statement.{statement}
 use Rattle.peers.proofs.peer_demand.PeerDemand.new.Tie as tie
 
-returns : tie.Need-returns
-returns c = no_room _ _ (sym c.before.has_room.ensures ∙ not-true c.before.has_room.result c.if1.true)
+returns : tie.Need-returns-then-not-has_room
+returns c = no_room _ _ (sym c.before.has_room.ensures ∙ c.if-not-has_room.true)
 
-returns-2 : tie.Need-returns-2
-returns-2 c = some-room _ _ (sym c.before.has_room.ensures ∙ not-false c.before.has_room.result c.if1.false)
+returns-2 : tie.Need-returns
+returns-2 c = some-room _ _ (sym c.before.has_room.ensures ∙ c.if-not-has_room.false)
 
 pub new_spec : {M : Type 1} → statement M
 new_spec = tie.close (tie.spec (λ c κs. search rules) returns returns-2)

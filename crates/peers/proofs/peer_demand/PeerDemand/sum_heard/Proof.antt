@@ -10,54 +10,54 @@ use Rattle.peers.proofs.Peers.Validity.StartLaws.{starts-room, own-told}
 use Rattle.peers.proofs.peer_demand.PeerDemand.sum_heard.Statement.{statement}
 use Rattle.peers.proofs.peer_demand.PeerDemand.sum_heard.Tie as tie
 
-abbrev invariant-loop : tie.invariant-loop
-invariant-loop self peers snapshot-keys contested key n snapshot-starts contested-starts sum₀ i₀ sum i = (i ≤ n) × (total_from sum key (state_of self (tables peers snapshot-keys contested)) (map peer_of (drop i (records 12 self.peers peers))) ≡ total key (state_of self (tables peers snapshot-keys contested)))
+abbrev invariant-loop-i : tie.invariant-loop-i
+invariant-loop-i self peers snapshot-keys contested key n snapshot-starts contested-starts sum₀ i₀ sum i = (i ≤ n) × (total_from sum key (state_of self (tables peers snapshot-keys contested)) (map peer_of (drop i (records 12 self.peers peers))) ≡ total key (state_of self (tables peers snapshot-keys contested)))
 
-abbrev decreases-loop : tie.decreases-loop
-decreases-loop self peers snapshot-keys contested key n snapshot-starts contested-starts sum₀ i₀ sum i = n - i
+abbrev decreases-loop-i : tie.decreases-loop-i
+decreases-loop-i self peers snapshot-keys contested key n snapshot-starts contested-starts sum₀ i₀ sum i = n - i
 
-loop-holds : tie.Need-loop-init invariant-loop decreases-loop
+loop-holds : tie.Need-loop-i-init invariant-loop-i decreases-loop-i
 loop-holds c =
     let s = c.before.before.before.before.before.args in
     (omega arith, total-starts s.self (tables s.peers.now s.snapshot-keys.now s.contested.now) s.key)
 
-abbrev start : tie.In-loop invariant-loop decreases-loop → tie.Start invariant-loop decreases-loop
+abbrev start : tie.In-loop-i invariant-loop-i decreases-loop-i → tie.Start invariant-loop-i decreases-loop-i
 start c = c.before.before.before.before.before.before.before
 
-own-keys-requires : tie.Need-own-keys-requires invariant-loop decreases-loop
+own-keys-requires : tie.Need-own_keys-own-requires invariant-loop-i decreases-loop-i
 own-keys-requires c κs =
     let e = c.before.before in
     let st = start e in
     let s = st.args in
-    starts-room s.self (tables s.peers.now s.snapshot-keys.now s.contested.now) s.starts st.pre e.before.loop.i e.loop-test.true
+    starts-room s.self (tables s.peers.now s.snapshot-keys.now s.contested.now) s.starts st.pre e.before.loop-i.i e.loop-i-test.true
 
-heard-among-own-requires : tie.Need-heard-among-own-requires invariant-loop decreases-loop
+heard-among-own-requires : tie.Need-heard_among_own-said-requires invariant-loop-i decreases-loop-i
 heard-among-own-requires c κs =
     let e = c.before.before.before in
     let st = start e in
     let s = st.args in
-    (st.pre.ready, (own-told s.self (tables s.peers.now s.snapshot-keys.now s.contested.now) s.starts st.pre e.before.loop.i e.loop-test.true c.own_keys.result c.own_keys.ensures, e.loop-test.true))
+    (st.pre.ready, (own-told s.self (tables s.peers.now s.snapshot-keys.now s.contested.now) s.starts st.pre e.before.loop-i.i e.loop-i-test.true c.own_keys-own.result c.own_keys-own.ensures, e.loop-i-test.true))
 
-loop-again : tie.Need-loop-preserved invariant-loop decreases-loop
+loop-again : tie.Need-loop-i-preserved invariant-loop-i decreases-loop-i
 loop-again c =
     let e = c.before.before.before.before.before in
     let s = (start e).args in
-    let l = e.before.loop in
+    let l = e.before.loop-i in
     let t = tables s.peers.now s.snapshot-keys.now s.contested.now in
-    (omega (arith, e.loop-test.true), ap (λ (x : Float). total_from x s.key (state_of s.self t) (map peer_of (drop (l.i + 1) (records 12 s.self.peers s.peers.now)))) (c.add-heard.ensures ∙ ap (add_heard l.sum) c.before.heard-among-own.ensures) ∙ sym (total-goes s.self t s.key (start e).requires.ready l.sum l.i e.loop-test.true) ∙ l.invariant.1)
+    (omega (arith, e.loop-i-test.true), ap (λ (x : Float). total_from x s.key (state_of s.self t) (map peer_of (drop (l.i + 1) (records 12 s.self.peers s.peers.now)))) (c.add_heard-sum.ensures ∙ ap (add_heard l.sum) c.before.heard_among_own-said.ensures) ∙ sym (total-goes s.self t s.key (start e).requires.ready l.sum l.i e.loop-i-test.true) ∙ l.invariant.1)
 
-returns : tie.Need-returns invariant-loop decreases-loop
+returns : tie.Need-returns invariant-loop-i decreases-loop-i
 returns c =
     let s = c.before.before.before.before.before.before.before.args in
-    let l = c.before.loop in
+    let l = c.before.loop-i in
     sym (total-ends s.self (tables s.peers.now s.snapshot-keys.now s.contested.now) s.key l.sum l.i (omega arith)) ∙ l.invariant.1
 
-pub sum-heard-spec : {M : Type 1} → statement M
-sum-heard-spec =
+pub sum_heard_spec : {M : Type 1} → statement M
+sum_heard_spec =
     tie.close
     (tie.spec
-    invariant-loop
-    decreases-loop
+    invariant-loop-i
+    decreases-loop-i
     loop-holds
     (λ c. search rules)
     (λ c. search rules)

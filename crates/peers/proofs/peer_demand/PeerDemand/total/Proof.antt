@@ -5,16 +5,16 @@ use Rattle.peers.proofs.Peers.Readers.EachLaws.{one-refused, one-given}
 use Rattle.peers.proofs.peer_demand.PeerDemand.total.Statement.{statement}
 use Rattle.peers.proofs.peer_demand.PeerDemand.total.Tie as tie
 
-returns : tie.Need-returns
+returns : tie.Need-returns-in-No
 returns c =
     let m = c.before in
-    one-refused total _ _ _ _ _ _ m.before.before.before.total-of-each.ensures _ m.no.given.1
+    one-refused total _ _ _ _ _ _ m.before.before.before.total_of_each.ensures _ m.no.given.1
 
-returns-2 : tie.Need-returns-2
-returns-2 c = one-given total _ _ _ _ _ _ c.before.before.before.total-of-each.ensures _ c.enum_told.given.1
+returns-2 : tie.Need-returns-in-Done
+returns-2 c = one-given total _ _ _ _ _ _ c.before.before.before.total_of_each.ensures _ c.enum_told.given.1
 
-pub total-spec : {M : Type 1} → statement M
-total-spec =
+pub total_spec : {M : Type 1} → statement M
+total_spec =
     tie.close
     (tie.spec
     (λ c. search rules)
