@@ -10,22 +10,22 @@ use Rattle.float.proofs.ceil.Tie as tie
 held : (c : tie.Start) → T (fits binary64 c.args.x)
 held c = subst T (sym c.well_formed.0.1) tt
 
-middle : (c : tie.Then-x-2) → Middle c.before.before.args.x false
+middle : (c : tie.Then-x-2) → Middle c.args.x false
 unfolding of_bits
-middle c = middle-pos c.before.before.args.x c.before.if-x.true c.if-x-2.true
+middle c = middle-pos c.args.x c.if-x.true c.if-x-2.true
 
-middle-2 : (c : tie.Then-x-4) → Middle c.before.before.before.args.x true
+middle-2 : (c : tie.Then-x-4) → Middle c.args.x true
 unfolding of_bits neg
-middle-2 c = middle-neg c.before.before.before.args.x c.before.if-x-3.true c.if-x-4.true
+middle-2 c = middle-neg c.args.x c.if-x-3.true c.if-x-4.true
 
 truncating-f64-to-u64-requires : tie.Need-truncating_f64_to_u64-n-requires
-truncating-f64-to-u64-requires c κs = cut-asks c.before.before.args.x (middle c)
+truncating-f64-to-u64-requires c κs = cut-asks c.args.x (middle c)
 
 cut : (c : tie.After-truncating_f64_to_u64-n) → c.truncating_f64_to_u64-n.result < 4503599627370496
-cut c = cut_small c.before.before.before.args.x c.truncating_f64_to_u64-n.result (middle c.before) c.truncating_f64_to_u64-n.ensures
+cut c = cut_small c.args.x c.truncating_f64_to_u64-n.result (middle c.before) c.truncating_f64_to_u64-n.ensures
 
 int-to-float-w : tie.Need-int_to_float-w
-int-to-float-w c = held_whole c.before.truncating_f64_to_u64-n.result (omega (arith, cut c.before))
+int-to-float-w c = held_whole c.truncating_f64_to_u64-n.result (omega (arith, cut c.before))
 
 add-result : tie.Need-overflow_add-result
 add-result c = omega (arith, cut c.before.before)
@@ -34,39 +34,39 @@ int-to-float-result : tie.Need-int_to_float-result
 int-to-float-result c = held_whole _ (omega (arith, cut c.before.before.before))
 
 truncating-f64-to-u64-requires-2 : tie.Need-truncating_f64_to_u64-n-requires-then-x-4
-truncating-f64-to-u64-requires-2 c κs = cut-asks (neg c.before.before.before.args.x) (neg-middle c.before.before.before.args.x (middle-2 c))
+truncating-f64-to-u64-requires-2 c κs = cut-asks (neg c.args.x) (neg-middle c.args.x (middle-2 c))
 
 int-to-float-w-2 : tie.Need-int_to_float-w-then-x-4
 int-to-float-w-2 c =
-    let x = c.before.before.before.before.before.args.x in
-    held_whole c.before.truncating_f64_to_u64-n-then-x-4.result (omega (arith, cut_small (neg x) c.before.truncating_f64_to_u64-n-then-x-4.result (neg-middle x (middle-2 c.before.before)) c.before.truncating_f64_to_u64-n-then-x-4.ensures))
+    let x = c.args.x in
+    held_whole c.truncating_f64_to_u64-n-then-x-4.result (omega (arith, cut_small (neg x) c.truncating_f64_to_u64-n-then-x-4.result (neg-middle x (middle-2 c.before.before)) c.truncating_f64_to_u64-n-then-x-4.ensures))
 
 returns : tie.Need-returns-then-w-x
 returns c =
     let d = c.before.before.before in
-    ceil-up-at d.before.before.before.args.x d.truncating_f64_to_u64-n.result (middle d.before) d.truncating_f64_to_u64-n.ensures c.before.if-w-x.true
+    ceil-up-at d.args.x d.truncating_f64_to_u64-n.result (middle d.before) d.truncating_f64_to_u64-n.ensures c.if-w-x.true
 
 returns-2 : tie.Need-returns-else-w-x
 returns-2 c =
     let d = c.before.before in
-    ceil-same-at d.before.before.before.args.x d.truncating_f64_to_u64-n.result (middle d.before) d.truncating_f64_to_u64-n.ensures c.if-w-x.false
+    ceil-same-at d.args.x d.truncating_f64_to_u64-n.result (middle d.before) d.truncating_f64_to_u64-n.ensures c.if-w-x.false
 
 returns-3 : tie.Need-returns-else-x-2
 unfolding of_bits
-returns-3 c = (own-above c.before.before.args.x (held c.before.before) c.before.if-x.true c.if-x-2.false).0
+returns-3 c = (own-above c.args.x (held c.before.before) c.if-x.true c.if-x-2.false).0
 
 returns-4 : tie.Need-returns-then-x-4
 returns-4 c =
     let d = c.before in
-    ceil-neg-at d.before.before.before.before.args.x d.truncating_f64_to_u64-n-then-x-4.result (middle-2 d.before) d.truncating_f64_to_u64-n-then-x-4.ensures
+    ceil-neg-at d.args.x d.truncating_f64_to_u64-n-then-x-4.result (middle-2 d.before) d.truncating_f64_to_u64-n-then-x-4.ensures
 
 returns-5 : tie.Need-returns-else-x-4
 unfolding of_bits neg
-returns-5 c = (own_below c.before.before.before.args.x (held c.before.before.before) c.before.if-x-3.true c.if-x-4.false).0
+returns-5 c = (own_below c.args.x (held c.before.before.before) c.if-x-3.true c.if-x-4.false).0
 
 returns-6 : tie.Need-returns-else-x-3
 unfolding of_bits
-returns-6 c = (own-neither c.before.before.args.x (held c.before.before) c.before.if-x.false c.if-x-3.false).0
+returns-6 c = (own-neither c.args.x (held c.before.before) c.if-x.false c.if-x-3.false).0
 
 pub ceil_spec : {M : Type 1} → statement M
 ceil_spec =

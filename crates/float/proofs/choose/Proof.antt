@@ -4,16 +4,16 @@ use Rattle.float.proofs.choose.Statement.{statement}
 use Rattle.float.proofs.choose.Tie as tie
 
 returns : tie.Need-returns-then-a
-returns c = let s = c.before.args in chosen-first s.a s.b s.second c.if-a.true
+returns c = let s = c.args in chosen-first s.a s.b s.second c.if-a.true
 
 returns-2 : tie.Need-returns-then-b
-returns-2 c = let s = c.before.before.args in chosen-second s.a s.b s.second c.before.if-a.false c.if-b.true
+returns-2 c = let s = c.args in chosen-second s.a s.b s.second c.if-a.false c.if-b.true
 
 returns-3 : tie.Need-returns-then-second
-returns-3 c = let s = c.before.before.before.args in chosen-third s.a s.b s.second _ c.before.before.if-a.false c.before.if-b.false c.if-second.true
+returns-3 c = let s = c.args in chosen-third s.a s.b s.second _ c.if-a.false c.if-b.false c.if-second.true
 
 returns-4 : tie.Need-returns-else-second
-returns-4 c = let s = c.before.before.before.args in chosen-third s.a s.b s.second _ c.before.before.if-a.false c.before.if-b.false c.if-second.false
+returns-4 c = let s = c.args in chosen-third s.a s.b s.second _ c.if-a.false c.if-b.false c.if-second.false
 
 pub choose_spec : {M : Type 1} → statement M
 choose_spec = tie.close (tie.spec returns returns-2 returns-3 returns-4)

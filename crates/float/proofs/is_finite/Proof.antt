@@ -10,11 +10,11 @@ float-from-bits-top c = tt
 
 returns : tie.Need-returns-then-x-top
 unfolding of_bits neg
-returns c = finite-under c.before.args.x c.if-x-top.true
+returns c = finite-under c.args.x c.if-x-top.true
 
 returns-2 : tie.Need-returns-else-x-top
 unfolding of_bits
-returns-2 c = finite-over c.before.args.x c.if-x-top.false
+returns-2 c = finite-over c.args.x c.if-x-top.false
 
 pub is_finite_spec : {M : Type 1} → statement M
 is_finite_spec = tie.close (tie.spec float-from-bits-top returns returns-2)

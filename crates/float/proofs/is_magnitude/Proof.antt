@@ -10,8 +10,8 @@ use Rattle.float.proofs.is_magnitude.Tie as tie
 returns : tie.Need-returns
 returns c =
     c.is_magnitude_bits.ensures
-    ∙ ap (λ (b : ℕ). magnitude (of_bits binary64 b)) c.before.to_bits.ensures
-    ∙ magnitude-of binary64 c.before.before.args.x (yes c.before.before.well_formed.0.1)
+    ∙ ap (λ (b : ℕ). magnitude (of_bits binary64 b)) c.to_bits.ensures
+    ∙ magnitude-of binary64 c.args.x (yes c.well_formed.0.1)
 
 pub is_magnitude_spec : {M : Type 1} → statement M
 is_magnitude_spec = tie.close (tie.spec (λ c κs. search rules) (λ c κs. search rules) returns)

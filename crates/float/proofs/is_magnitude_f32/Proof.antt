@@ -10,8 +10,8 @@ use Rattle.float.proofs.is_magnitude_f32.Tie as tie
 returns : tie.Need-returns
 returns c =
     c.is_magnitude_bits_f32.ensures
-    ∙ ap (λ (b : ℕ). magnitude (of_bits binary32 b)) c.before.f32_to_bits.ensures
-    ∙ magnitude-of binary32 c.before.before.args.x (yes c.before.before.well_formed.0.1)
+    ∙ ap (λ (b : ℕ). magnitude (of_bits binary32 b)) c.f32_to_bits.ensures
+    ∙ magnitude-of binary32 c.args.x (yes c.well_formed.0.1)
 
 pub is_magnitude_f32_spec : {M : Type 1} → statement M
 is_magnitude_f32_spec = tie.close (tie.spec (λ c κs. search rules) (λ c κs. search rules) returns)

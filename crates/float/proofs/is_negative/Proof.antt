@@ -9,7 +9,7 @@ use Rattle.float.proofs.is_negative.Tie as tie
 returns : tie.Need-returns
 returns c =
     ap (λ (b : ℕ). leb (top binary64) b) c.to_bits.ensures
-    ∙ sign_bit binary64 c.before.args.x (yes c.before.well_formed.0.1)
+    ∙ sign_bit binary64 c.args.x (yes c.well_formed.0.1)
 
 pub is_negative_spec : {M : Type 1} → statement M
 is_negative_spec = tie.close (tie.spec (λ c κs. search rules) returns)

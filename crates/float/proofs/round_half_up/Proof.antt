@@ -15,19 +15,19 @@ truncating-f64-to-u64-requires c κs = twice-asks c.args.x (held c) c.requires
 
 cut : (c : tie.After-truncating_f64_to_u64-n) → c.truncating_f64_to_u64-n.result < 9007199254740992
 unfolding of_bits
-cut c = twice-small c.before.args.x c.truncating_f64_to_u64-n.result (held c.before) c.before.requires c.truncating_f64_to_u64-n.ensures
+cut c = twice-small c.args.x c.truncating_f64_to_u64-n.result (held c.before) c.requires c.truncating_f64_to_u64-n.ensures
 
 add-result : tie.Need-overflow_add-result
 add-result c = omega (arith, cut c)
 
 int-to-float-result : tie.Need-int_to_float-result
-int-to-float-result c = held_whole ((c.before.truncating_f64_to_u64-n.result + 1) / 2) (omega (arith, cut c.before))
+int-to-float-result c = held_whole ((c.truncating_f64_to_u64-n.result + 1) / 2) (omega (arith, cut c.before))
 
 returns : tie.Need-returns
 unfolding of_bits
 returns c =
     let d = c.before in
-    round-pos-at d.before.args.x d.truncating_f64_to_u64-n.result (held d.before) d.before.requires d.truncating_f64_to_u64-n.ensures
+    round-pos-at d.args.x d.truncating_f64_to_u64-n.result (held d.before) d.requires d.truncating_f64_to_u64-n.ensures
 
 pub round_half_up_spec : {M : Type 1} → statement M
 round_half_up_spec = tie.close (tie.spec truncating-f64-to-u64-requires add-result int-to-float-result returns)

@@ -6,11 +6,11 @@ use Rattle.float.proofs.to_bits.Statement.{statement}
 use Rattle.float.proofs.to_bits.Tie as tie
 
 float-to-bits-result : tie.Need-float_to_bits-result
-float-to-bits-result c = no_nan c.before.args.x c.if-x.false
+float-to-bits-result c = no_nan c.args.x c.if-x.false
 
 returns : tie.Need-returns-then-x
 unfolding to_bits
-returns c = nan_pattern binary64 c.before.args.x c.if-x.true
+returns c = nan_pattern binary64 c.args.x c.if-x.true
 
 pub to_bits_spec : {M : Type 1} → statement M
 to_bits_spec = tie.close (tie.spec float-to-bits-result returns (λ c. search rules))

@@ -7,8 +7,8 @@ use Rattle.float.proofs.total_less.Tie as tie
 returns : tie.Need-returns
 unfolding total_less
 returns c =
-    ap (λ (z : ℕ). ltb z c.total_place-2.result) c.before.total_place.ensures
-    ∙ ap (λ (z : ℕ). ltb (place c.before.before.args.a) z) c.total_place-2.ensures
+    ap (λ (z : ℕ). ltb z c.total_place-2.result) c.total_place.ensures
+    ∙ ap (λ (z : ℕ). ltb (place c.args.a) z) c.total_place-2.ensures
 
 pub total_less_spec : {M : Type 1} → statement M
 total_less_spec = tie.close (tie.spec (λ c κs. search rules) (λ c κs. search rules) returns)

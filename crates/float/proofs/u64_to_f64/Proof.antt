@@ -8,7 +8,7 @@ use Rattle.float.proofs.u64_to_f64.Statement.{statement}
 use Rattle.float.proofs.u64_to_f64.Tie as tie
 
 int-to-float-result : tie.Need-int_to_float-result
-int-to-float-result c = small-in c.before.before.args.n c.before.before.ranges.n.fits c.before.if-z-ge11.true
+int-to-float-result c = small-in c.args.n c.ranges.n.fits c.if-z-ge11.true
 
 -- n has 53 + k digits
 some : (n : ℕ) → count_leading_zeros 64 n < 11 → 0 < n
@@ -19,7 +19,7 @@ some n h = elim (eq-zero-or-pos n) [ inl z ↦ absurd (no (count_leading_zeros 6
 
 module _ (c : tie.After-nearest_shifted-d) where
   abbrev n : ℕ
-  n = c.before.before.args.n
+  n = c.args.n
 
   abbrev z : ℕ
   z = count_leading_zeros 64 n
@@ -28,10 +28,10 @@ module _ (c : tie.After-nearest_shifted-d) where
   k = 11 - z
 
   top : (j : ℕ) × (z + suc j ≡ 64) × (2 ^ j ≤ n) × (n < 2 ^ suc j)
-  top = leading_top 64 n (some n c.before.if-z-ge11.false) c.before.before.ranges.n.fits
+  top = leading_top 64 n (some n c.if-z-ge11.false) c.ranges.n.fits
 
   places : top.0 ≡ 52 + k
-  places = omega (arith, top.1, c.before.if-z-ge11.false)
+  places = omega (arith, top.1, c.if-z-ge11.false)
 
   few : k ≤ 11
   few = omega arith

@@ -6,12 +6,12 @@ use Rattle.gcra.proofs.attempt.Statement.{statement}
 use Rattle.gcra.proofs.attempt.Tie as tie
 
 returns : tie.Need-returns-then-now-earliest
-returns c = let h = c.before.saturating_sub-earliest.ensures in rw h (sym (attempt-deny _ _ _ (rw h at c.if-now-earliest.true)))
+returns c = let h = c.saturating_sub-earliest.ensures in rw h (sym (attempt-deny _ _ _ (rw h at c.if-now-earliest.true)))
 
 returns-2 : tie.Need-returns
 returns-2 c =
-    let h = c.before.before.before.saturating_sub-earliest.ensures in
-    rw (c.saturating_add.ensures, c.before.max.ensures) (sym (attempt-allow _ _ _ (rw h at c.before.before.if-now-earliest.false)))
+    let h = c.saturating_sub-earliest.ensures in
+    rw (c.saturating_add.ensures, c.max.ensures) (sym (attempt-allow _ _ _ (rw h at c.if-now-earliest.false)))
 
 pub attempt_spec : {M : Type 1} → statement M
 attempt_spec =

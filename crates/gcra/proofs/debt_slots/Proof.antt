@@ -8,12 +8,12 @@ use Rattle.gcra.proofs.debt_slots.Tie as tie
 returns : tie.Need-returns-then-tat-ne18446744073709551615
 unfolding debt_slots
 returns c =
-    let s = c.before.before.before.before.args in
+    let s = c.args in
     rw (
       ne_eqb s.tat 18446744073709551615 c.if-tat-ne18446744073709551615.true,
-      c.before.before.u64_to_f64-debt.ensures,
-      c.before.u64_to_f64.ensures,
-      c.before.before.before.saturating_sub.ensures,
+      c.u64_to_f64-debt.ensures,
+      c.u64_to_f64.ensures,
+      c.saturating_sub.ensures,
     )
 
 returns-2 : tie.Need-returns
@@ -23,13 +23,13 @@ returns-2 c =
     let d = c.before.before.before.before.before.before.before.before in
     rw (
       c.max-2.ensures,
-      c.before.max.ensures,
-      c.before.before.u64_to_f64-new_burst.ensures,
-      c.before.before.before.before.u64_to_f64-old_burst.ensures,
-      c.before.before.before.before.before.before.before.u64_to_f64.ensures,
+      c.max.ensures,
+      c.u64_to_f64-new_burst.ensures,
+      c.u64_to_f64-old_burst.ensures,
+      c.u64_to_f64.ensures,
       d.u64_to_f64-debt.ensures,
-      d.before.saturating_sub.ensures,
-      eq-eqb s.args.tat 18446744073709551615 c.before.before.before.before.before.before.if-tat-ne18446744073709551615.false,
+      d.saturating_sub.ensures,
+      eq-eqb s.args.tat 18446744073709551615 c.if-tat-ne18446744073709551615.false,
     )
 
 pub debt_slots_spec : {M : Type 1} → statement M

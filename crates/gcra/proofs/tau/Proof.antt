@@ -26,16 +26,16 @@ unfolding tau
 capped n b h l = let p : 0 < b - 1 = omega arith in omega (arith, (div-lt_iff_lt-mul {x = 2 ^ 63 - 1} {y = n} p).0 l)
 
 returns : tie.Need-returns-then-burst-le1
-returns c = none c.before.args.interval c.before.args.burst c.if-burst-le1.true
+returns c = none c.args.interval c.args.burst c.if-burst-le1.true
 
 mul-result : tie.Need-overflow_mul-result
-mul-result c = record { fits = omega (arith, some c.before.before.args.interval c.before.before.args.burst (search rules) c.if-interval-slots.true) }
+mul-result c = record { fits = omega (arith, some c.args.interval c.args.burst (search rules) c.if-interval-slots.true) }
 
 returns-2 : tie.Need-returns-then-interval-slots
-returns-2 c = within c.before.before.args.interval c.before.before.args.burst (search rules) c.if-interval-slots.true
+returns-2 c = within c.args.interval c.args.burst (search rules) c.if-interval-slots.true
 
 returns-3 : tie.Need-returns-else-interval-slots
-returns-3 c = capped c.before.before.args.interval c.before.before.args.burst (search rules) c.if-interval-slots.false
+returns-3 c = capped c.args.interval c.args.burst (search rules) c.if-interval-slots.false
 
 pub tau_spec : {M : Type 1} → statement M
 tau_spec = tie.close (tie.spec returns (λ c. search rules) (λ c. search rules) mul-result returns-2 returns-3)

@@ -37,7 +37,7 @@ returns c =
     record {
       answered = c.before.before.update_with-answer.ensures.answered;
       left =
-          turn-of t.set _ t.key t.demand-rate t.threshold t.now t.hot-elsewhere (fits-true _ b.well_formed.1.1.1.0.1) _ _ _
+          turn-of t.set _ t.key t.demand_rate t.threshold t.now t.hot_elsewhere (fits-true _ b.well_formed.1.1.1.0.1) _ _ _
           (drop (t.copied.len * 6) t.copied.words) _ c.length_left-len.ensures refl c.before.before.update_with-answer.ensures;
     }
 

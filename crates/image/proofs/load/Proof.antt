@@ -27,52 +27,52 @@ abbrev lent : tie.Start → LimiterTables
 lent s = tables s.args.keys.now s.args.hot.now s.args.shadows.now
 
 abbrev peers_lent : tie.Start → PeerTables
-peers_lent s = peer-state.tables s.args.peer-table.now s.args.snapshot-keys.now s.args.contested.now
+peers_lent s = peer-state.tables s.args.peer_table.now s.args.snapshot-keys.now s.args.contested.now
 
 -- there is room
 room : (e : tie.Else-not-has_room) → let s = begun e.before in have_room (bytes s) (lent s) (peers_lent s) ≡ true
-room e = let s = begun e.before in room-is (bytes s) (lent s) (peers_lent s) ∙ told-yes e.before.has_room.ensures e.if-not-has_room.false
+room e = let s = begun e.before in room-is (bytes s) (lent s) (peers_lent s) ∙ told-yes e.has_room.ensures e.if-not-has_room.false
 
 -- the judge's answers
 abbrev asked : tie.After-judge → tie.Else-not-has_room
 asked j = j.before.before
 
-judged-no : (k : tie.In-No-2) → let s = begun (asked k.before.before).before in refused k.no.given.0.0 ≡ answer (image_questions (bytes s)) (values_of (state_read (bytes s)))
-judged-no k = sym (ap load_answer k.no.given.1) ∙ k.before.before.judge.ensures
+judged-no : (k : tie.In-No) → let s = begun (asked k.before).before in refused k.in-No.no ≡ answer (image_questions (bytes s)) (values_of (state_read (bytes s)))
+judged-no k = sym (ap load_answer k.in-No.is) ∙ k.judge.ensures
 
-judged-yes : (k : tie.In-Is-2) → let s = begun (asked k.before.before).before in given k.loaded.given.0.0 ≡ answer (image_questions (bytes s)) (values_of (state_read (bytes s)))
-judged-yes k = sym (ap load_answer k.loaded.given.1) ∙ k.before.before.judge.ensures
+judged-yes : (k : tie.In-Is) → let s = begun (asked k.before).before in given k.in-Is.loaded ≡ answer (image_questions (bytes s)) (values_of (state_read (bytes s)))
+judged-yes k = sym (ap load_answer k.in-Is.is) ∙ k.judge.ensures
 
 returns : tie.Need-returns-then-not-has_room
 returns c =
     let s = begun c.before in
-    refused-room (bytes s) (lent s) (peers_lent s) (room-is (bytes s) (lent s) (peers_lent s) ∙ told-no c.before.has_room.ensures c.if-not-has_room.true)
+    refused-room (bytes s) (lent s) (peers_lent s) (room-is (bytes s) (lent s) (peers_lent s) ∙ told-no c.has_room.ensures c.if-not-has_room.true)
 
 store-requires : tie.Need-store-requires
 store-requires c κs =
-    let k = c.before.before.before.before.before.before.before in
-    let j = k.before.before in
+    let k = c.before.before.before.before.before.before in
+    let j = k.before in
     let e = asked j in
     let s = begun e.before in (
-      j.before.scan-found.ensures,
-      image-fits (bytes s) (lent s) (peers_lent s) (room e) k.loaded.given.0.0 (judged-yes k) j.before.scan-found.result j.before.scan-found.ensures,
+      j.scan-found.ensures,
+      image-fits (bytes s) (lent s) (peers_lent s) (room e) k.in-Is.loaded (judged-yes k) j.scan-found.result j.scan-found.ensures,
     )
 
 returns-2 : tie.Need-returns-in-No
 returns-2 c =
-    let k = c.before in
-    let e = asked k.before.before in
+    let k = c in
+    let e = asked k.before in
     let s = begun e.before in
-    refused-image (bytes s) (lent s) (peers_lent s) (room e) k.no.given.0.0 (judged-no k)
+    refused-image (bytes s) (lent s) (peers_lent s) (room e) k.in-No.no (judged-no k)
 
 returns-3 : tie.Need-returns-in-Is
 returns-3 c =
     let o = c.before.before.before.before.before.before.before.before.before.before.before.before in
-    let k = o.before.before.before.before.before.before.before.before in
-    let j = k.before.before in
+    let k = o.before.before.before.before.before.before.before in
+    let j = k.before in
     let e = asked j in
     let s = begun e.before in
-    image-loaded (bytes s) (lent s) (peers_lent s) (room e) k.loaded.given.0.0 (judged-yes k) j.before.scan-found.result j.before.scan-found.ensures _ _
+    image-loaded (bytes s) (lent s) (peers_lent s) (room e) k.in-Is.loaded (judged-yes k) j.scan-found.result j.scan-found.ensures _ _
     o.store.ensures
 
 pub load_spec : {M : Type 1} → statement M

@@ -8,12 +8,12 @@ use Rattle.inspect.proofs.record_end.Statement.{statement}
 use Rattle.inspect.proofs.record_end.Tie as tie
 
 returns : tie.Need-returns-in-NoRecord
-returns c = omega (arith, c.before.before.before.before.requires)
+returns c = omega (arith, c.requires)
 
 returns-2 : tie.Need-returns-in-Is
 returns-2 c =
-    let x = c.before in
-    let r = x.before.before in
+    let x = c in
+    let r = x.before in
     let s = r.before.before in
     record-within s.args.here s.args.image.now _ (sym (ap record_told x.«record».given.1) ∙ r.record_at.ensures)
 

@@ -11,34 +11,34 @@ use Rattle.limiter.specs.State.{within}
 use Rattle.limiter.proofs.have_room.Statement.{statement}
 use Rattle.limiter.proofs.have_room.Tie as tie
 
-keys_fit : (c : tie.Else-keys-size) → let s = c.before.before.args in leb (22 * min s.table-size 4096) s.keys ≡ true
+keys_fit : (c : tie.Else-keys-size) → let s = c.args in leb (22 * min s.table_size 4096) s.keys ≡ true
 keys_fit c =
-    let s = c.before.before.args in
-    le-leb (22 * min s.table-size 4096) s.keys (omega (arith, c.before.at_most-size.ensures, c.if-keys-size.false))
+    let s = c.args in
+    le-leb (22 * min s.table_size 4096) s.keys (omega (arith, c.at_most-size.ensures, c.if-keys-size.false))
 
-hot-fits : (c : tie.Else-hot-at_most) → let s = c.before.before.before.before.args in leb (6 * min s.hot-set-size 64) s.hot ≡ true
+hot-fits : (c : tie.Else-hot-at_most) → let s = c.args in leb (6 * min s.hot_set_size 64) s.hot ≡ true
 hot-fits c =
-    let s = c.before.before.before.before.args in
-    le-leb (6 * min s.hot-set-size 64) s.hot (omega (arith, c.before.at_most.ensures, c.if-hot-at_most.false))
+    let s = c.args in
+    le-leb (6 * min s.hot_set_size 64) s.hot (omega (arith, c.at_most.ensures, c.if-hot-at_most.false))
 
 returns : tie.Need-returns-then-keys-size
 unfolding within
 returns c =
-    let s = c.before.before.args in
-    stop _ _ (lt-leb (22 * min s.table-size 4096) s.keys (omega (arith, c.before.at_most-size.ensures, c.if-keys-size.true)))
+    let s = c.args in
+    stop _ _ (lt-leb (22 * min s.table_size 4096) s.keys (omega (arith, c.at_most-size.ensures, c.if-keys-size.true)))
 
 returns-2 : tie.Need-returns-then-hot-at_most
 unfolding within
 returns-2 c =
-    let s = c.before.before.before.before.args in
-    goes _ _ false (keys_fit c.before.before) (stop _ _ (lt-leb (6 * min s.hot-set-size 64) s.hot (omega (arith, c.before.at_most.ensures, c.if-hot-at_most.true))))
+    let s = c.args in
+    goes _ _ false (keys_fit c.before.before) (stop _ _ (lt-leb (6 * min s.hot_set_size 64) s.hot (omega (arith, c.at_most.ensures, c.if-hot-at_most.true))))
 
 returns-3 : tie.Need-returns
 unfolding within
 returns-3 c =
     let e = c.before.before in
-    let s = e.before.before.args in
-    goes _ _ _ (keys_fit e) (goes _ _ _ (hot-fits c) (ap (λ (m : ℕ). leb (4 * m) s.shadows) e.before.at_most-size.ensures))
+    let s = e.args in
+    goes _ _ _ (keys_fit e) (goes _ _ _ (hot-fits c) (ap (λ (m : ℕ). leb (4 * m) s.shadows) e.at_most-size.ensures))
 
 pub have_room_spec : {M : Type 1} → statement M
 have_room_spec =

@@ -6,7 +6,7 @@ use Rattle.meter.proofs.meter_of_line.Statement.{statement}
 use Rattle.meter.proofs.meter_of_line.Tie as tie
 
 slice-aggregate-decimal : tie.Need-slice_bounds-decimal-end
-slice-aggregate-decimal c = let i = c.before.before.index_of-space in sym (length-take-le i.result c.before.before.before.before.args.line.now i.ensures.1)
+slice-aggregate-decimal c = let i = c.index_of-space in sym (length-take-le i.result c.args.line.now i.ensures.1)
 
 pub meter_of_line_spec : {M : Type 1} → statement M
 meter_of_line_spec =

@@ -4,7 +4,7 @@ use Rattle.replay.proofs.turn_of.Statement.{statement}
 use Rattle.replay.proofs.turn_of.Tie as tie
 
 same_length : tie.Need-shape_of-input
-same_length c = search (rules, c.before.before.before.before.before.before.before.before.before.before.before.before.before.before.before.before.before.before.input)
+same_length c = search (rules, c.input)
 
 pub turn_of_spec : {M : Type 1} → statement M
 turn_of_spec =

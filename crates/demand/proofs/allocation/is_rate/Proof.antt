@@ -18,7 +18,7 @@ unfolding is_rate
 not_above x t = rw (sym (ap (λ (z : Float). lt z x) zero_is) ∙ t)
 
 returns : tie.Need-returns-then-x
-returns c = above _ _ c.before.if-x.true c.is_finite.ensures
+returns c = above _ _ c.if-x.true c.is_finite.ensures
 
 returns-2 : tie.Need-returns-else-x
 returns-2 c = not_above _ c.if-x.false

@@ -6,22 +6,22 @@ use Rattle.demand.proofs.allocation.share.Statement.{statement}
 use Rattle.demand.proofs.allocation.share.Tie as tie
 
 returns : tie.Need-returns-then-not-is_rate
-returns c = no 3 _ _ (told-no c.before.is_rate.ensures c.if-not-is_rate.true)
+returns c = no 3 _ _ (told-no c.is_rate.ensures c.if-not-is_rate.true)
 
 returns-2 : tie.Need-returns-then-not-is_floor_factor
-returns-2 c = yes 3 _ _ (told-yes c.before.before.before.is_rate.ensures c.before.before.if-not-is_rate.false) (no 5 _ _ (told-no c.before.is_floor_factor.ensures c.if-not-is_floor_factor.true))
+returns-2 c = yes 3 _ _ (told-yes c.is_rate.ensures c.if-not-is_rate.false) (no 5 _ _ (told-no c.is_floor_factor.ensures c.if-not-is_floor_factor.true))
 
 returns-3 : tie.Need-returns-then-not-is_cluster_size
 returns-3 c =
-    yes 3 _ _ (told-yes c.before.before.before.before.before.is_rate.ensures c.before.before.before.before.if-not-is_rate.false)
-    (yes 5 _ _ (told-yes c.before.before.before.is_floor_factor.ensures c.before.before.if-not-is_floor_factor.false) (no 7 _ _ (told-no c.before.is_cluster_size.ensures c.if-not-is_cluster_size.true)))
+    yes 3 _ _ (told-yes c.is_rate.ensures c.if-not-is_rate.false)
+    (yes 5 _ _ (told-yes c.is_floor_factor.ensures c.if-not-is_floor_factor.false) (no 7 _ _ (told-no c.is_cluster_size.ensures c.if-not-is_cluster_size.true)))
 
 returns-4 : tie.Need-returns
 returns-4 c =
     let b = c.before in
-    yes 3 _ _ (told-yes b.before.before.before.before.before.is_rate.ensures b.before.before.before.before.if-not-is_rate.false)
-    (yes 5 _ _ (told-yes b.before.before.before.is_floor_factor.ensures b.before.before.if-not-is_floor_factor.false)
-    (yes 7 _ _ (told-yes b.before.is_cluster_size.ensures b.if-not-is_cluster_size.false) (value c.shared.ensures)))
+    yes 3 _ _ (told-yes b.is_rate.ensures b.if-not-is_rate.false)
+    (yes 5 _ _ (told-yes b.is_floor_factor.ensures b.if-not-is_floor_factor.false)
+    (yes 7 _ _ (told-yes b.is_cluster_size.ensures b.if-not-is_cluster_size.false) (value c.shared.ensures)))
 
 pub share_spec : {M : Type 1} → statement M
 share_spec =

@@ -22,10 +22,10 @@ unfolding shared
 even v n e t = rw (sym (ap (λ (z : Float). lt z (add binary64 v.own v.others)) zero_is) ∙ t) (ap (div binary64 v.limit) e)
 
 returns : tie.Need-returns-then-total
-returns c = by-demand _ _ c.before.before.before.before.before.before.before.u64_to_f64-n.ensures c.before.before.before.before.if-total.true
+returns c = by-demand _ _ c.u64_to_f64-n.ensures c.if-total.true
 
 returns-2 : tie.Need-returns-else-total
-returns-2 c = even _ _ c.before.before.before.u64_to_f64-n.ensures c.if-total.false
+returns-2 c = even _ _ c.u64_to_f64-n.ensures c.if-total.false
 
 pub shared_spec : {M : Type 1} → statement M
 shared_spec = tie.close (tie.spec (λ c κs. search rules) returns returns-2)

@@ -31,20 +31,20 @@ returns : tie.Need-returns-then-time_constant-eq0
 returns c = no-constant _ _ c.if-time_constant-eq0.true
 
 returns-2 : tie.Need-returns-then-q-ge37
-returns-2 c = late _ _ c.before.if-time_constant-eq0.false c.if-q-ge37.true
+returns-2 c = late _ _ c.if-time_constant-eq0.false c.if-q-ge37.true
 
 ratio-requires : tie.Need-ratio-y-requires
-ratio-requires c κs = mod-lt _ (pos_of_ne-zero c.before.if-time_constant-eq0.false)
+ratio-requires c κs = mod-lt _ (pos_of_ne-zero c.if-time_constant-eq0.false)
 
 series-requires : tie.Need-series-requires
-series-requires c κs = small _ _ _ (mod-lt _ (pos_of_ne-zero c.before.before.if-time_constant-eq0.false)) c.ratio-y.ensures
+series-requires c κs = small _ _ _ (mod-lt _ (pos_of_ne-zero c.if-time_constant-eq0.false)) c.ratio-y.ensures
 
 returns-3 : tie.Need-returns
 returns-3 c =
     let p = c.before in
     let s = p.before in
     let r = s.before in
-    worked-out _ _ _ _ _ _ r.before.before.if-time_constant-eq0.false r.before.if-q-ge37.false r.ratio-y.ensures s.series.ensures.0 p.power.ensures.0 c.scaled_product.ensures
+    worked-out _ _ _ _ _ _ r.if-time_constant-eq0.false r.if-q-ge37.false r.ratio-y.ensures s.series.ensures.0 p.power.ensures.0 c.scaled_product.ensures
 
 pub decay_weight_spec : {M : Type 1} → statement M
 decay_weight_spec = tie.close (tie.spec returns (λ c. search rules) returns-2 (λ c. search rules) ratio-requires series-requires (λ c κs. search rules) (λ c κs. search rules) returns-3)

@@ -39,7 +39,7 @@ scaled-product-requires c κs = (omega arith, omega arith)
 
 loop-again : tie.Need-loop-preserved invariant-loop decreases-loop
 loop-again c =
-    let i = c.before.before.loop.invariant in
+    let i = c.loop.invariant in
     (omega arith, scaled-le _ _ i.1 c.scaled_product-p.ensures, step _ _ _ i.2 c.scaled_product-p.ensures)
 
 done : (p q i : ℕ) → i ≤ q → q ≤ i → p ≡ power i → p ≡ power q
@@ -49,7 +49,7 @@ done p q i h k e =
 
 returns : tie.Need-returns invariant-loop decreases-loop
 returns c =
-    let i = c.before.loop.invariant in
+    let i = c.loop.invariant in
     (done _ _ _ i.0 c.loop-test.false i.2, i.1)
 
 pub power_spec : {M : Type 1} → statement M

@@ -15,7 +15,7 @@ positive : {r c : ℕ} → r < c → zero < c
 positive h = omega arith
 
 mul-second : tie.Need-overflow_mul-second
-mul-second c = omega (arith, mod-lt (c.before.args.r * 2 ^ 26) (positive c.before.requires))
+mul-second c = omega (arith, mod-lt (c.args.r * 2 ^ 26) (positive c.requires))
 
 mul-result : tie.Need-overflow_mul-result
 mul-result c =
@@ -28,7 +28,7 @@ add-result c =
     omega (arith, quotient-lt s.requires (pow_pos 52) (both s.args.r s.args.c s.requires))
 
 returns : tie.Need-returns-then-c-le274877906944
-returns c = quotient (both c.before.args.r c.before.args.c c.before.requires)
+returns c = quotient (both c.args.r c.args.c c.requires)
 
 pub ratio_spec : {M : Type 1} → statement M
 ratio_spec = tie.close (tie.spec (λ c. search rules) (λ c. search rules) mul-second (λ c. search rules) mul-result (λ c. search rules) add-result returns (λ c κs. search rules) (λ c. search rules))

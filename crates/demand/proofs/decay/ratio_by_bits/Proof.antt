@@ -32,21 +32,21 @@ loop-holds : tie.Need-loop-init invariant-loop decreases-loop
 loop-holds c = (omega arith, c.requires, omega arith, c.requires, none _ _ c.requires)
 
 add-y : tie.Need-overflow_add-y invariant-loop decreases-loop
-add-y c = omega (arith, small _ _ c.before.before.loop.invariant.2 c.before.before.loop.invariant.0)
+add-y c = omega (arith, small _ _ c.loop.invariant.2 c.loop.invariant.0)
 
 add-y-2 : tie.Need-overflow_add-y-else-rest-c invariant-loop decreases-loop
-add-y-2 c = omega (arith, small _ _ c.before.before.loop.invariant.2 c.before.before.loop.invariant.0)
+add-y-2 c = omega (arith, small _ _ c.loop.invariant.2 c.loop.invariant.0)
 
 add-y-3 : tie.Need-overflow_add-y-else-rest-c-2 invariant-loop decreases-loop
-add-y-3 c = omega (arith, small _ _ c.before.before.loop.invariant.2 c.before.before.loop.invariant.0)
+add-y-3 c = omega (arith, small _ _ c.loop.invariant.2 c.loop.invariant.0)
 
 loop-again : tie.Need-loop-preserved invariant-loop decreases-loop
 loop-again c =
     let l = c.before.before in
     let i = l.loop.invariant in
     ⊎_elim
-    (λ w. rw (w.1, w.2) (kept _ _ _ _ _ c.before.loop-test.true i.3 (bit-clear _ _ _ _ _ w.0.taken i.4)))
-    (λ w. rw (w.1, w.2) (kept _ _ _ _ _ c.before.loop-test.true i.3 (bit-set _ _ _ _ _ w.0.left i.4)))
+    (λ w. rw (w.1, w.2) (kept _ _ _ _ _ c.loop-test.true i.3 (bit-clear _ _ _ _ _ w.0.taken i.4)))
+    (λ w. rw (w.1, w.2) (kept _ _ _ _ _ c.loop-test.true i.3 (bit-set _ _ _ _ _ w.0.left i.4)))
     c.if-rest-c.branch
 
 done : (r c y rest i : ℕ) → i ≤ 52 → 52 ≤ i → Divided r (2 ^ i) c y rest → y ≡ r * 2 ^ 52 / c
@@ -56,7 +56,7 @@ done r c y rest i h k d =
 
 returns : tie.Need-returns invariant-loop decreases-loop
 returns c =
-    let i = c.before.loop.invariant in
+    let i = c.loop.invariant in
     done _ _ _ _ _ i.0 c.loop-test.false i.4
 
 pub ratio_by_bits_spec : {M : Type 1} → statement M

@@ -17,7 +17,7 @@ loop-holds c = (omega arith, omega arith, omega arith, start _)
 
 returns : tie.Need-returns-then-term-eq0 invariant-loop-j decreases-loop-j
 returns c =
-    let i = c.before.before.loop-j.invariant in
+    let i = c.loop-j.invariant in
     (settled _ _ _ _ i.0 i.3 c.if-term-eq0.true, i.2)
 
 next-term-requires : tie.Need-next_term-odd-requires invariant-loop-j decreases-loop-j
@@ -31,12 +31,12 @@ loop-again c = (
   omega arith,
   omega arith,
   omega arith,
-  step _ _ _ _ _ _ c.before.before.before.before.loop-j.invariant.3 c.before.next_term-odd.ensures.0 c.next_term-term.ensures.0,
+  step _ _ _ _ _ _ c.loop-j.invariant.3 c.next_term-odd.ensures.0 c.next_term-term.ensures.0,
 )
 
 returns-2 : tie.Need-returns invariant-loop-j decreases-loop-j
 returns-2 c =
-    let i = c.before.loop-j.invariant in
+    let i = c.loop-j.invariant in
     (whole_sum _ _ _ _ i.0 c.loop-j-test.false i.3, i.2)
 
 pub series_spec : {M : Type 1} → statement M

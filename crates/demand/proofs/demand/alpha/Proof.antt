@@ -21,7 +21,7 @@ sub_parts : tie.Need-overflow_sub-parts
 sub_parts c = subst (λ (d : ℕ). d ≤ S) (sym c.decay_weight-parts.ensures) (weight-le _ _)
 
 returns : tie.Need-returns
-returns c = divided _ _ _ _ c.before.decay_weight-parts.ensures c.u64_to_f64.ensures
+returns c = divided _ _ _ _ c.decay_weight-parts.ensures c.u64_to_f64.ensures
 
 pub alpha_spec : {M : Type 1} → statement M
 alpha_spec = tie.close (tie.spec (λ c κs. search rules) sub_parts (λ c κs. search rules) returns)

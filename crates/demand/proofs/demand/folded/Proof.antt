@@ -12,7 +12,7 @@ unfolding folded
 by-alpha rate n e c a x ea k = k ∙ ap (λ (v : Float). folded_by v rate n e) ea
 
 returns : tie.Need-returns
-returns c = by-alpha _ _ _ _ _ _ c.before.alpha.ensures c.folded_by.ensures
+returns c = by-alpha _ _ _ _ _ _ c.alpha.ensures c.folded_by.ensures
 
 pub folded_spec : {M : Type 1} → statement M
 folded_spec = tie.close (tie.spec (λ c κs. search rules) (λ c κs. search rules) returns)

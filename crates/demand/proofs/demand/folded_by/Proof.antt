@@ -15,7 +15,7 @@ worked-out a rate n e x y ex ey =
     λ i. add binary64 (mul binary64 a (div binary64 (ey i) (div binary64 (ex i) (billion-is i)))) (mul binary64 (sub binary64 (one-is i) a) rate)
 
 returns : tie.Need-returns
-returns c = worked-out _ _ _ _ _ _ c.before.u64_to_f64-elapsed_secs.ensures c.u64_to_f64.ensures
+returns c = worked-out _ _ _ _ _ _ c.u64_to_f64-elapsed_secs.ensures c.u64_to_f64.ensures
 
 pub folded_by_spec : {M : Type 1} → statement M
 folded_by_spec = tie.close (tie.spec (λ c κs. search rules) (λ c κs. search rules) returns)

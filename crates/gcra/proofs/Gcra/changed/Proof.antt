@@ -7,20 +7,19 @@ use Rattle.gcra.proofs.Gcra.changed.Statement.{statement}
 use Rattle.gcra.proofs.Gcra.changed.Tie as tie
 
 returns : tie.Need-returns-then-same
-returns c = same-keeps _ _ _ (sym c.before.same.ensures ∙ c.if-same.true)
+returns c = same-keeps _ _ _ (sym c.same.ensures ∙ c.if-same.true)
 
 returns-2 : tie.Need-returns-in-Unset
 returns-2 c =
-    let s = c.before.before.before.before.before.args in
-    other-carries s.self s.quota s.now (sym c.before.before.before.same.ensures ∙ c.before.before.if-same.false)
-    (carried-unset s.self.tat s.self.quota s.quota s.now c.enum_told.given.1)
+    let s = c.args in
+    other-carries s.self s.quota s.now (sym c.same.ensures ∙ c.if-same.false)
+    (carried-unset s.self.tat s.self.quota s.quota s.now c.in-Unset.is)
 
 returns-3 : tie.Need-returns-in-At
 returns-3 c =
-    let s = c.before.before.before.before.before.before.before.args in
-    let t = c.before.before.tat.given in
-    other-carries s.self s.quota s.now (sym c.before.before.before.before.before.same.ensures ∙ c.before.before.before.before.if-same.false)
-    (ap At c.carry_tat.ensures ∙ carried-at s.self.tat t.0.0 s.self.quota s.quota s.now t.1)
+    let s = c.args in
+    other-carries s.self s.quota s.now (sym c.same.ensures ∙ c.if-same.false)
+    (ap At c.carry_tat.ensures ∙ carried-at s.self.tat c.in-At.at s.self.quota s.quota s.now c.in-At.is)
 
 pub changed_spec : {M : Type 1} → statement M
 changed_spec =

@@ -14,10 +14,10 @@ attempted : (c : tie.After-attempt-s)
 attempted c = cc
 
 returns : tie.Need-returns-then-is_allow
-returns c = checked-allow _ _ _ (attempted c.before.before) (sym c.before.is_allow.ensures ∙ c.if-is_allow.true)
+returns c = checked-allow _ _ _ (attempted c.before.before) (sym c.is_allow.ensures ∙ c.if-is_allow.true)
 
 returns-2 : tie.Need-returns-else-is_allow
-returns-2 c = checked-deny _ _ _ (attempted c.before.before) (sym c.before.is_allow.ensures ∙ c.if-is_allow.false)
+returns-2 c = checked-deny _ _ _ (attempted c.before.before) (sym c.is_allow.ensures ∙ c.if-is_allow.false)
 
 pub checked_spec : {M : Type 1} → statement M
 checked_spec =

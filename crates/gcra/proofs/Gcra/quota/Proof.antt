@@ -8,11 +8,11 @@ use Rattle.gcra.proofs.Gcra.quota.Tie as tie
 
 returns : tie.Need-returns-then-not-is_valid
 unfolding gcra_quota
-returns c = alone-no 2 _ (told-no c.before.is_valid.ensures c.if-not-is_valid.true)
+returns c = alone-no 2 _ (told-no c.is_valid.ensures c.if-not-is_valid.true)
 
 returns-2 : tie.Need-returns
 unfolding gcra_quota
-returns-2 c = alone-yes 2 _ (told-yes c.before.is_valid.ensures c.if-not-is_valid.false)
+returns-2 c = alone-yes 2 _ (told-yes c.is_valid.ensures c.if-not-is_valid.false)
 
 pub quota_spec : {M : Type 1} → statement M
 quota_spec = tie.close (tie.spec (λ c κs. search rules) returns returns-2)

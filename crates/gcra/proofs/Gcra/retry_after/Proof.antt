@@ -20,31 +20,31 @@ decided : (c : tie.After-attempt-s) → c.attempt-s.result.decision ≡ decision
 decided c = stepped-decision (start c).args.self (start c).args.now c.attempt-s.result (cc)
 
 valid : (c : tie.After-attempt-s) → valid_quota unit_nanos (start c).args.self.quota ≡ true
-valid c = told-yes c.before.before.before.before.is_valid.ensures c.before.before.before.if-not-is_valid.false
+valid c = told-yes c.is_valid.ensures c.if-not-is_valid.false
 
 returns : tie.Need-returns-then-not-is_valid
 unfolding gcra_retry_after
-returns c = alone-no 2 _ (told-no c.before.is_valid.ensures c.if-not-is_valid.true)
+returns c = alone-no 2 _ (told-no c.is_valid.ensures c.if-not-is_valid.true)
 
 sub-t14 : tie.Need-overflow_sub-result
 unfolding decision
 sub-t14 c =
-    let s = c.before.before.before in
+    let s = c.before in
     let a = (start s).args in
-    omega (arith, (deny-is (pace_of a.self.quota) (tat_at a.self.tat a.now) a.now (sym (decided s) ∙ c.before.decision.given.1)).0)
+    omega (arith, (deny-is (pace_of a.self.quota) (tat_at a.self.tat a.now) a.now (sym (decided s) ∙ c.in-Deny.is)).0)
 
 returns-2 : tie.Need-returns-in-Allow
 unfolding gcra_retry_after retry_after answer
 returns-2 c =
-    let s = c.before.before in
-    let e = sym (decided s) ∙ c.enum_told.given.1 in
+    let s = c.before in
+    let e = sym (decided s) ∙ c.in-Allow.is in
     rw (valid s, e)
 
 returns-3 : tie.Need-returns-in-Deny
 unfolding gcra_retry_after retry_after answer
 returns-3 c =
-    let s = c.before.before.before in
-    let e = sym (decided s) ∙ c.before.decision.given.1 in
+    let s = c.before in
+    let e = sym (decided s) ∙ c.in-Deny.is in
     rw (valid s, e)
 
 pub retry_after_spec : {M : Type 1} → statement M

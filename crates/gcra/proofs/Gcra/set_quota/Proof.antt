@@ -25,15 +25,15 @@ module _ (g : Gcra) (q : Quota) (now : ℕ) where
   sets y e = record { set = alone-yes 2 tt y; left = e ∙ alone-changed 2 g (set_quota g q now) y }
 
 returns : tie.Need-returns-then-not-is_valid
-returns c = refuses _ _ _ (rw (told-no c.before.is_valid.ensures c.if-not-is_valid.true))
+returns c = refuses _ _ _ (rw (told-no c.is_valid.ensures c.if-not-is_valid.true))
 
 returns-2 : tie.Need-returns-then-not-is_valid-2
-returns-2 c = refuses-new _ _ _ (told-no c.before.is_valid-2.ensures c.if-not-is_valid-2.true)
+returns-2 c = refuses-new _ _ _ (told-no c.is_valid-2.ensures c.if-not-is_valid-2.true)
 
 returns-3 : tie.Need-returns
 returns-3 c =
-    let o = told-yes c.before.before.before.before.is_valid.ensures c.before.before.before.if-not-is_valid.false in
-    let n = told-yes c.before.before.is_valid-2.ensures c.before.if-not-is_valid-2.false in
+    let o = told-yes c.is_valid.ensures c.if-not-is_valid.false in
+    let n = told-yes c.is_valid-2.ensures c.if-not-is_valid-2.false in
     sets _ _ _ (and_intro _ _ o n) c.changed.ensures
 
 pub set_quota_spec : {M : Type 1} → statement M

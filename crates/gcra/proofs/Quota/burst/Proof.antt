@@ -8,11 +8,11 @@ use Rattle.gcra.proofs.Quota.burst.Tie as tie
 
 returns : tie.Need-returns-then-not-is_valid
 unfolding quota_burst
-returns c = alone-no 2 _ (told-no c.before.is_valid.ensures c.if-not-is_valid.true)
+returns c = alone-no 2 _ (told-no c.is_valid.ensures c.if-not-is_valid.true)
 
 returns-2 : tie.Need-returns
 unfolding quota_burst
-returns-2 c = alone-yes 2 _ (told-yes c.before.before.is_valid.ensures c.before.if-not-is_valid.false)
+returns-2 c = alone-yes 2 _ (told-yes c.is_valid.ensures c.if-not-is_valid.false)
 
 pub burst_spec : {M : Type 1} → statement M
 burst_spec = tie.close (tie.spec (λ c κs. search rules) returns (λ c. search rules) returns-2)

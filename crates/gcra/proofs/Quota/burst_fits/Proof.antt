@@ -4,10 +4,10 @@ use Rattle.gcra.proofs.Quota.burst_fits.Statement.{statement}
 use Rattle.gcra.proofs.Quota.burst_fits.Tie as tie
 
 returns : tie.Need-returns-then-burst-ge1
-returns c = rw (le-leb 1 c.before.args.burst c.if-burst-ge1.true)
+returns c = rw (le-leb 1 c.args.burst c.if-burst-ge1.true)
 
 returns-2 : tie.Need-returns-else-burst-ge1
-returns-2 c = rw (lt-leb 1 c.before.args.burst c.if-burst-ge1.false)
+returns-2 c = rw (lt-leb 1 c.args.burst c.if-burst-ge1.false)
 
 pub burst_fits_spec : {M : Type 1} → statement M
 burst_fits_spec = tie.close (tie.spec returns returns-2)

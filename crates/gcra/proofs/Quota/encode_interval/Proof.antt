@@ -5,14 +5,14 @@ use Rattle.gcra.proofs.Quota.encode_interval.Statement.{statement}
 use Rattle.gcra.proofs.Quota.encode_interval.Tie as tie
 
 returns : tie.Need-returns-then-nanos-lt-VALUES
-returns c = first-unit _ _ c.before.div_ceil-nanos.ensures c.if-nanos-lt-VALUES.true
+returns c = first-unit _ _ c.div_ceil-nanos.ensures c.if-nanos-lt-VALUES.true
 
 returns-2 : tie.Need-returns-then-coarser-lt-VALUES
-returns-2 c = second-unit _ _ c.before.before.before.div_ceil-nanos.ensures c.before.before.if-nanos-lt-VALUES.false c.before.div_ceil-coarser.ensures c.if-coarser-lt-VALUES.true
+returns-2 c = second-unit _ _ c.div_ceil-nanos.ensures c.if-nanos-lt-VALUES.false c.div_ceil-coarser.ensures c.if-coarser-lt-VALUES.true
 
 returns-3 : tie.Need-returns
 returns-3 c =
-    third-unit _ _ c.before.before.before.before.div_ceil-nanos.ensures c.before.before.before.if-nanos-lt-VALUES.false c.before.before.div_ceil-coarser.ensures c.before.if-coarser-lt-VALUES.false
+    third-unit _ _ c.div_ceil-nanos.ensures c.if-nanos-lt-VALUES.false c.div_ceil-coarser.ensures c.if-coarser-lt-VALUES.false
     c.div_ceil.ensures
 
 pub encode_interval_spec : {M : Type 1} → statement M

@@ -8,8 +8,8 @@ use Rattle.gcra.proofs.Quota.interval_of.Tie as tie
 
 mul-result : tie.Need-overflow_mul-result
 mul-result c =
-    let w = c.before.args.packed in
-    record { fits = rw c.unit_nanos.ensures (value-small _ c.before.requires (value_of w) (unit_of w) (omega arith)) }
+    let w = c.args.packed in
+    record { fits = rw c.unit_nanos.ensures (value-small _ c.requires (value_of w) (unit_of w) (omega arith)) }
 
 returns : tie.Need-returns
 returns c = cc

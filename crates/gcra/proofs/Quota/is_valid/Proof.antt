@@ -9,29 +9,29 @@ use Rattle.gcra.proofs.Quota.is_valid.Tie as tie
 
 returns : tie.Need-returns-then-interval-lt1
 unfolding valid_quota
-returns c = rw (lt-leb 1 c.before.args.self.interval c.if-interval-lt1.true)
+returns c = rw (lt-leb 1 c.args.self.interval c.if-interval-lt1.true)
 
 returns-2 : tie.Need-returns-then-max_interval-interval
 unfolding valid_quota
 returns-2 c =
-    let s = c.before.before.before.args in
+    let s = c.args in
     rw (
-      le-leb 1 s.self.interval c.before.before.if-interval-lt1.false,
-      lt-leb s.self.interval (max_interval s.units) (rw c.before.max_interval.ensures at c.if-max_interval-interval.true),
+      le-leb 1 s.self.interval c.if-interval-lt1.false,
+      lt-leb s.self.interval (max_interval s.units) (rw c.max_interval.ensures at c.if-max_interval-interval.true),
     )
 
 returns-3 : tie.Need-returns-then-not-burst_fits
 unfolding valid_quota
-returns-3 c = rw (told-no c.before.burst_fits.ensures c.if-not-burst_fits.true, and-false)
+returns-3 c = rw (told-no c.burst_fits.ensures c.if-not-burst_fits.true, and-false)
 
 returns-4 : tie.Need-returns
 unfolding valid_quota
 returns-4 c =
-    let s = c.before.before.before.before.before.before.args in
+    let s = c.args in
     rw (
-      le-leb 1 s.self.interval c.before.before.before.before.before.if-interval-lt1.false,
-      le-leb s.self.interval (max_interval s.units) (rw c.before.before.before.before.max_interval.ensures at c.before.before.before.if-max_interval-interval.false),
-      told-yes c.before.before.burst_fits.ensures c.before.if-not-burst_fits.false,
+      le-leb 1 s.self.interval c.if-interval-lt1.false,
+      le-leb s.self.interval (max_interval s.units) (rw c.max_interval.ensures at c.if-max_interval-interval.false),
+      told-yes c.burst_fits.ensures c.if-not-burst_fits.false,
       c.rounded.ensures,
     )
 

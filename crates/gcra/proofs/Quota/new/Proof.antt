@@ -11,8 +11,8 @@ use Rattle.questions.proofs.Tests.{told-no, told-yes}
 use Rattle.gcra.proofs.Quota.new.Statement.{statement}
 use Rattle.gcra.proofs.Quota.new.Tie as tie
 
-rate-above : (c : tie.Else-rate_per_sec-eq0) → ltb 0 c.before.args.rate-per-sec ≡ true
-rate-above c = lt-ltb 0 c.before.args.rate-per-sec (pos_of_ne-zero c.if-rate_per_sec-eq0.false)
+rate-above : (c : tie.Else-rate_per_sec-eq0) → ltb 0 c.args.rate_per_sec ≡ true
+rate-above c = lt-ltb 0 c.args.rate_per_sec (pos_of_ne-zero c.if-rate_per_sec-eq0.false)
 
 returns : tie.Need-returns-then-rate_per_sec-eq0
 unfolding quota_new answer
@@ -20,16 +20,16 @@ returns c = rw c.if-rate_per_sec-eq0.true
 
 returns-2 : tie.Need-returns-then-not-burst_fits
 unfolding quota_new answer
-returns-2 c = rw (rate-above c.before.before, told-no c.before.burst_fits.ensures c.if-not-burst_fits.true)
+returns-2 c = rw (rate-above c.before.before, told-no c.burst_fits.ensures c.if-not-burst_fits.true)
 
 returns-3 : tie.Need-returns
 unfolding quota_new answer
 returns-3 c =
     rw (
       rate-above c.before.before.before.before,
-      told-yes c.before.before.before.burst_fits.ensures c.before.before.if-not-burst_fits.false,
+      told-yes c.burst_fits.ensures c.if-not-burst_fits.false,
       c.with_interval.ensures,
-      c.before.div_ceil-interval.ensures,
+      c.div_ceil-interval.ensures,
     )
 
 pub new_spec : {M : Type 1} → statement M

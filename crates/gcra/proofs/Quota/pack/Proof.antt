@@ -10,14 +10,14 @@ use Rattle.gcra.proofs.Quota.pack.Tie as tie
 
 returns : tie.Need-returns-then-not-is_valid
 unfolding quota_pack
-returns c = alone-no 2 _ (told-no c.before.is_valid.ensures c.if-not-is_valid.true)
+returns c = alone-no 2 _ (told-no c.is_valid.ensures c.if-not-is_valid.true)
 
 pack-in-requires : tie.Need-pack_in-requires
-pack-in-requires c κs = let v = valid-quota _ _ (told-yes c.before.is_valid.ensures c.if-not-is_valid.false) in (units-accepted, v.most, v.burst.most)
+pack-in-requires c κs = let v = valid-quota _ _ (told-yes c.is_valid.ensures c.if-not-is_valid.false) in (units-accepted, v.most, v.burst.most)
 
 returns-2 : tie.Need-returns
 unfolding quota_pack
-returns-2 c = rw c.pack_in.ensures (alone-yes 2 _ (told-yes c.before.before.is_valid.ensures c.before.if-not-is_valid.false))
+returns-2 c = rw c.pack_in.ensures (alone-yes 2 _ (told-yes c.is_valid.ensures c.if-not-is_valid.false))
 
 pub pack_spec : {M : Type 1} → statement M
 pack_spec = tie.close (tie.spec (λ c κs. search rules) returns pack-in-requires returns-2)

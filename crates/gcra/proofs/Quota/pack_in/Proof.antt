@@ -10,7 +10,7 @@ use Rattle.gcra.proofs.Quota.pack_in.Tie as tie
 -- the value is below 2^40, and the unit's code below 3
 sizes : (c : tie.After-encode_interval-e) → (c.encode_interval-e.result.value < 2 ^ 40) × (c.encode_interval-e.result.unit < 3)
 sizes c =
-    let t = encode-takes _ _ c.before.requires.0 c.before.requires.1 in
+    let t = encode-takes _ _ c.requires.0 c.requires.1 in
     rw c.encode_interval-e.ensures (t.fits, t.code)
 
 mul-result : tie.Need-overflow_mul-result

@@ -10,13 +10,13 @@ use Rattle.gcra.proofs.Quota.per_second.Tie as tie
 
 returns : tie.Need-returns-then-not-burst_fits
 unfolding quota_per_second
-returns c = alone-no 4 _ (told-no c.before.burst_fits.ensures c.if-not-burst_fits.true)
+returns c = alone-no 4 _ (told-no c.burst_fits.ensures c.if-not-burst_fits.true)
 
 returns-2 : tie.Need-returns
 unfolding quota_per_second per_second
 returns-2 c =
-    rw (c.with_interval.ensures, c.before.quotient_nanos-interval.ensures, c.before.before.ceil.ensures, second_is)
-    (alone-yes 4 _ (told-yes c.before.before.before.before.burst_fits.ensures c.before.before.before.if-not-burst_fits.false))
+    rw (c.with_interval.ensures, c.quotient_nanos-interval.ensures, c.ceil.ensures, second_is)
+    (alone-yes 4 _ (told-yes c.burst_fits.ensures c.if-not-burst_fits.false))
 
 pub per_second_spec : {M : Type 1} → statement M
 per_second_spec =

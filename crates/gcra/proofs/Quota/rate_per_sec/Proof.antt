@@ -10,11 +10,11 @@ use Rattle.gcra.proofs.Quota.rate_per_sec.Tie as tie
 
 returns : tie.Need-returns-then-not-is_valid
 unfolding quota_rate
-returns c = alone-no 2 _ (told-no c.before.is_valid.ensures c.if-not-is_valid.true)
+returns c = alone-no 2 _ (told-no c.is_valid.ensures c.if-not-is_valid.true)
 
 returns-2 : tie.Need-returns
 unfolding quota_rate rate_per_sec
-returns-2 c = rw (second_is, c.u64_to_f64.ensures) (alone-yes 2 _ (told-yes c.before.before.is_valid.ensures c.before.if-not-is_valid.false))
+returns-2 c = rw (second_is, c.u64_to_f64.ensures) (alone-yes 2 _ (told-yes c.is_valid.ensures c.if-not-is_valid.false))
 
 pub rate_per_sec_spec : {M : Type 1} → statement M
 rate_per_sec_spec = tie.close (tie.spec (λ c κs. search rules) returns (λ c κs. search rules) returns-2)

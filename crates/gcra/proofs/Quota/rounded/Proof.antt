@@ -15,7 +15,7 @@ small u n a l e w h k = rw (k, h) (value-small u a (encode u n).value (encode u 
 mul-result : tie.Need-overflow_mul-result
 mul-result c =
     let s = c.before.before.before in
-    record { fits = small _ _ s.requires.0 s.requires.1 _ _ c.before.before.encode_interval-e.ensures c.before.unit_nanos.ensures }
+    record { fits = small _ _ s.requires.0 s.requires.1 _ _ c.encode_interval-e.ensures c.unit_nanos.ensures }
 
 returns : tie.Need-returns
 unfolding rounded

@@ -4,7 +4,7 @@ use Rattle.gcra.proofs.Quota.same.Statement.{statement}
 use Rattle.gcra.proofs.Quota.same.Tie as tie
 
 returns : tie.Need-returns-then-self-other
-returns c = rw (eq-eqb _ _ c.before.before.if-self-other.true)
+returns c = rw (eq-eqb _ _ c.if-self-other.true)
 
 returns-2 : tie.Need-returns-else-self-other
 returns-2 c = rw (ne_eqb _ _ c.if-self-other.false)

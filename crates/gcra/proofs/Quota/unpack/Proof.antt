@@ -8,11 +8,11 @@ use Rattle.gcra.proofs.Quota.unpack.Tie as tie
 
 returns : tie.Need-returns-then-not-unpacks
 unfolding quota_unpack
-returns c = alone-no 14 _ (told-no c.before.unpacks.ensures c.if-not-unpacks.true)
+returns c = alone-no 14 _ (told-no c.unpacks.ensures c.if-not-unpacks.true)
 
 returns-2 : tie.Need-returns
 unfolding quota_unpack
-returns-2 c = rw c.unpack_in.ensures (alone-yes 14 _ (told-yes c.before.before.unpacks.ensures c.before.if-not-unpacks.false))
+returns-2 c = rw c.unpack_in.ensures (alone-yes 14 _ (told-yes c.unpacks.ensures c.if-not-unpacks.false))
 
 pub unpack_spec : {M : Type 1} → statement M
 unpack_spec = tie.close (tie.spec (λ c κs. search rules) returns (λ c κs. search rules) returns-2)

@@ -28,7 +28,7 @@ abbrev start : tie.Else-not-fits invariant-loop-i decreases-loop-i → tie.Start
 start c = c.before.before.before
 
 fit : (c : tie.Else-not-fits invariant-loop-i decreases-loop-i) → fits (length (start c).args.hot.now) 6 (start c).args.n ≡ true
-fit c = told-yes c.before.fits.ensures c.if-not-fits.false
+fit c = told-yes c.fits.ensures c.if-not-fits.false
 
 room : (c : tie.Else-not-fits invariant-loop-i decreases-loop-i) → (start c).args.n * 6 ≤ length (start c).args.hot.now
 room c = fits_le _ 6 _ (fit c)
@@ -37,13 +37,13 @@ room c = fits_le _ 6 _ (fit c)
 asked : (c : tie.Else-not-fits invariant-loop-i decreases-loop-i) → let s = (start c).args in are_records are_entry_words (records 6 s.n s.hot.now) ≡ (fits (length s.hot.now) 6 s.n && (exact words entry (records 6 s.n s.hot.now) && valid_entries (entries s.n s.hot.now)))
 asked c =
     let s = (start c).args in
-    scanned-is-asked s.n s.hot.now (fit c) (all_words s.hot.now (λ i. omega (arith, c.before.before.shared_slice_known-1.given i)))
+    scanned-is-asked s.n s.hot.now (fit c) (all_words s.hot.now (λ i. omega (arith, c.shared_slice_known-1.given i)))
 
-bound : (c : tie.In-loop-i invariant-loop-i decreases-loop-i) → c.before.loop-i.i * 6 + 6 ≤ length (start c.before.before).args.hot.now
+bound : (c : tie.In-loop-i invariant-loop-i decreases-loop-i) → c.loop-i.i * 6 + 6 ≤ length (start c.before.before).args.hot.now
 bound c = omega (arith, c.loop-i-test.true, room c.before.before)
 
 returns : tie.Need-returns-then-not-fits invariant-loop-i decreases-loop-i
-returns c = stop _ _ (told-no c.before.fits.ensures c.if-not-fits.true)
+returns c = stop _ _ (told-no c.fits.ensures c.if-not-fits.true)
 
 loop-holds : tie.Need-loop-i-init invariant-loop-i decreases-loop-i
 loop-holds c = scan-start _ _ _ _
@@ -59,25 +59,25 @@ returns-2 c =
     let l = c.before.before in
     let e = l.before.before in
     let s = (start e).args in
-    scan-order are_entry_words 6 s.n s.hot.now (omega arith) (room e) l.before.loop-i.i l.loop-i-test.true (told-no c.before.follows.ensures c.if-not-follows.true)
+    scan-order are_entry_words 6 s.n s.hot.now (omega arith) (room e) l.loop-i.i l.loop-i-test.true (told-no c.follows.ensures c.if-not-follows.true)
     ∙ asked e
 
 is-entry-requires : tie.Need-is_entry-requires invariant-loop-i decreases-loop-i
 is-entry-requires c κs = omega (arith, bound c.before.before)
 
 -- the words of the turn are those of its record
-record-told : (c : tie.After-is_entry invariant-loop-i decreases-loop-i) → let l = c.before.before.before in let s = (start l.before.before).args in c.is_entry.result ≡ are_entry_words (get_or (records 6 s.n s.hot.now) l.before.loop-i.i [])
+record-told : (c : tie.After-is_entry invariant-loop-i decreases-loop-i) → let l = c.before.before.before in let s = (start l.before.before).args in c.is_entry.result ≡ are_entry_words (get_or (records 6 s.n s.hot.now) l.loop-i.i [])
 record-told c =
     let l = c.before.before.before in
     let s = (start l.before.before).args in
-    c.is_entry.ensures ∙ record-entry s.n s.hot.now l.before.loop-i.i l.loop-i-test.true
+    c.is_entry.ensures ∙ record-entry s.n s.hot.now l.loop-i.i l.loop-i-test.true
 
 returns-3 : tie.Need-returns-then-not-is_entry invariant-loop-i decreases-loop-i
 returns-3 c =
     let l = c.before.before.before.before in
     let e = l.before.before in
     let s = (start e).args in
-    scan-record are_entry_words 6 s.n s.hot.now (omega arith) (room e) l.before.loop-i.i l.loop-i-test.true (told-no (record-told c.before) c.if-not-is_entry.true)
+    scan-record are_entry_words 6 s.n s.hot.now (omega arith) (room e) l.loop-i.i l.loop-i-test.true (told-no (record-told c.before) c.if-not-is_entry.true)
     ∙ asked e
 
 add-i : tie.Need-overflow_add-i invariant-loop-i decreases-loop-i
@@ -91,13 +91,13 @@ loop-again c =
     let f = c.before.before in
     let l = f.before.before in
     let s = (start l.before.before).args in
-    scan_step are_entry_words 6 s.n s.hot.now l.before.loop-i.i l.before.loop-i.invariant l.loop-i-test.true (told-yes f.before.follows.ensures f.if-not-follows.false) (told-yes (record-told c.before) c.if-not-is_entry.false)
+    scan_step are_entry_words 6 s.n s.hot.now l.loop-i.i l.loop-i.invariant l.loop-i-test.true (told-yes f.follows.ensures f.if-not-follows.false) (told-yes (record-told c.before) c.if-not-is_entry.false)
 
 returns-4 : tie.Need-returns invariant-loop-i decreases-loop-i
 returns-4 c =
     let e = c.before.before in
     let s = (start e).args in
-    scan-done are_entry_words 6 s.n s.hot.now (omega arith) (room e) c.before.loop-i.i c.before.loop-i.invariant c.loop-i-test.false
+    scan-done are_entry_words 6 s.n s.hot.now (omega arith) (room e) c.loop-i.i c.loop-i.invariant c.loop-i-test.false
     ∙ asked e
 
 pub are_valid_spec : {M : Type 1} → statement M

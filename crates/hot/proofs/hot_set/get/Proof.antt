@@ -12,12 +12,12 @@ use Rattle.hot.proofs.hot_set.get.Statement.{statement}
 use Rattle.hot.proofs.hot_set.get.Tie as tie
 
 abbrev start : tie.In-At → tie.Start
-start c = c.before.before.before.before.before
+start c = c.before.before.before
 
-found : (c : tie.In-At) → At c.before.i.given.0.0 ≡ find_in 6 1 (start c).args.n (start c).args.key 0 (start c).args.hot.now
-found c = sym c.before.i.given.1 ∙ c.before.before.before.find.ensures
+found : (c : tie.In-At) → At c.in-At.i ≡ find_in 6 1 (start c).args.n (start c).args.key 0 (start c).args.hot.now
+found c = sym c.in-At.is ∙ c.find.ensures
 
-within : (c : tie.In-At) → c.before.i.given.0.0 * 6 + 6 ≤ length (start c).args.hot.now
+within : (c : tie.In-At) → c.in-At.i * 6 + 6 ≤ length (start c).args.hot.now
 within c = (at-within (start c).args.n (start c).args.hot.now (start c).requires (start c).args.key _ (found c)).1
 
 mul-of-words : tie.Need-overflow_mul-i
@@ -30,10 +30,10 @@ returns : tie.Need-returns-in-At
 returns c = let s = start c.before in ap some c.of_words.ensures ∙ got-at s.args.n s.args.hot.now s.pre s.args.key _ (found c.before)
 
 returns-2 : tie.Need-returns-in-Gap
-returns-2 c = let s = c.before.before.before.before in got-gap s.args.n s.args.hot.now s.requires s.args.key _ (sym c.enum_told.given.1 ∙ c.before.before.find.ensures)
+returns-2 c = let s = c.before.before.before in got-gap s.args.n s.args.hot.now s.requires s.args.key _ (sym c.in-Gap.is ∙ c.find.ensures)
 
 returns-3 : tie.Need-returns-in-Unfit
-returns-3 c = let s = c.before.before.before.before in never-unfit s.args.n s.args.hot.now s.requires s.args.key (sym c.enum-told2.given.1 ∙ c.before.before.find.ensures)
+returns-3 c = let s = c.before.before.before in never-unfit s.args.n s.args.hot.now s.requires s.args.key (sym c.in-Unfit.is ∙ c.find.ensures)
 
 pub get_spec : {M : Type 1} → statement M
 get_spec =

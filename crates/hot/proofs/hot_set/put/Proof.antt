@@ -8,26 +8,26 @@ use Rattle.hot.proofs.hot_set.put.Tie as tie
 returns : tie.Need-returns-in-At
 returns c =
     let o = c.before.before in
-    let i = o.before.before.before.before in
-    let f = i.before.before in
+    let i = o.before.before.before in
+    let f = i.before in
     let w = f.before.before in
     let s = w.before.before in
-    o.overwrite.ensures.1 ∙ put-at s.args.n s.args.hot.now s.requires.0 s.args.entry _ w.words-r.ensures _ (sym i.i.given.1 ∙ f.find.ensures)
+    o.overwrite.ensures.1 ∙ put-at s.args.n s.args.hot.now s.requires.0 s.args.entry _ w.words-r.ensures _ (sym i.in-At.is ∙ f.find.ensures)
 
 returns-2 : tie.Need-returns-in-Gap
 returns-2 c =
     let o = c.before.before in
-    let i = o.before.before.before.before in
-    let f = i.before.before in
+    let i = o.before.before.before in
+    let f = i.before in
     let w = f.before.before in
     let s = w.before.before in
-    o.insert.ensures.1 ∙ put-gap s.args.n s.args.hot.now s.requires.0 s.args.entry _ w.words-r.ensures _ s.requires.1 (sym i.i2.given.1 ∙ f.find.ensures)
+    o.insert.ensures.1 ∙ put-gap s.args.n s.args.hot.now s.requires.0 s.args.entry _ w.words-r.ensures _ s.requires.1 (sym i.in-Gap.is ∙ f.find.ensures)
 
 returns-3 : tie.Need-returns-in-Unfit
 returns-3 c =
-    let f = c.before.before in
+    let f = c.before in
     let s = f.before.before.before.before in
-    never-unfit s.args.n s.args.hot.now s.requires.0 s.args.entry.key (sym c.enum_told.given.1 ∙ f.find.ensures)
+    never-unfit s.args.n s.args.hot.now s.requires.0 s.args.entry.key (sym c.in-Unfit.is ∙ f.find.ensures)
 
 pub put_spec : {M : Type 1} → statement M
 put_spec =

@@ -8,22 +8,22 @@ use Rattle.hot.proofs.hot_set.remove.Tie as tie
 returns : tie.Need-returns-in-At
 returns c =
     let o = c.before.before in
-    let i = o.before.before.before in
-    let f = i.before.before in
+    let i = o.before.before in
+    let f = i.before in
     let s = f.before.before.before in
-    o.remove.ensures.1 ∙ removed-at s.args.n s.args.hot.now s.requires s.args.key _ (sym i.i.given.1 ∙ f.find.ensures)
+    o.remove.ensures.1 ∙ removed-at s.args.n s.args.hot.now s.requires s.args.key _ (sym i.in-At.is ∙ f.find.ensures)
 
 returns-2 : tie.Need-returns-in-Gap
 returns-2 c =
-    let f = c.before.before in
+    let f = c.before in
     let s = f.before.before.before in
-    removed-none s.args.n s.args.hot.now s.requires s.args.key _ (sym c.enum_told.given.1 ∙ f.find.ensures)
+    removed-none s.args.n s.args.hot.now s.requires s.args.key _ (sym c.in-Gap.is ∙ f.find.ensures)
 
 returns-3 : tie.Need-returns-in-Unfit
 returns-3 c =
-    let f = c.before.before in
+    let f = c.before in
     let s = f.before.before.before in
-    never-unfit s.args.n s.args.hot.now s.requires s.args.key (sym c.enum-told2.given.1 ∙ f.find.ensures)
+    never-unfit s.args.n s.args.hot.now s.requires s.args.key (sym c.in-Unfit.is ∙ f.find.ensures)
 
 pub remove_spec : {M : Type 1} → statement M
 remove_spec =

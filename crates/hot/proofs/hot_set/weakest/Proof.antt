@@ -16,11 +16,11 @@ abbrev decreases-loop-i : tie.decreases-loop-i
 decreases-loop-i hot n least₀ i₀ least i = n - i
 
 -- the two records that a turn reads are within the words
-sizes : (c : tie.In-loop-i invariant-loop-i decreases-loop-i) → (c.before.loop-i.i * 6 + 6 ≤ length c.before.before.before.args.hot.now) × (c.before.loop-i.least * 6 + 6 ≤ length c.before.before.before.args.hot.now)
-sizes c = let f = c.before.before.before.requires.0.fit in let l = c.loop-i-test.true in let m = c.before.loop-i.invariant.passed in (omega arith, omega arith)
+sizes : (c : tie.In-loop-i invariant-loop-i decreases-loop-i) → (c.loop-i.i * 6 + 6 ≤ length c.args.hot.now) × (c.loop-i.least * 6 + 6 ≤ length c.args.hot.now)
+sizes c = let f = c.requires.0.fit in let l = c.loop-i-test.true in let m = c.loop-i.invariant.passed in (omega arith, omega arith)
 
-last : (c : tie.After-loop-i invariant-loop-i decreases-loop-i) → c.before.loop-i.least * 6 + 6 ≤ length c.before.before.before.args.hot.now
-last c = let f = c.before.before.before.requires.0.fit in let w = c.before.loop-i.invariant.within in let m = c.before.loop-i.invariant.passed in omega arith
+last : (c : tie.After-loop-i invariant-loop-i decreases-loop-i) → c.loop-i.least * 6 + 6 ≤ length c.args.hot.now
+last c = let f = c.requires.0.fit in let w = c.loop-i.invariant.within in let m = c.loop-i.invariant.passed in omega arith
 
 loop-holds : tie.Need-loop-i-init invariant-loop-i decreases-loop-i
 loop-holds c = let s = c.before in weakest-start s.args.n s.args.hot.now s.requires.0 s.requires.1
@@ -60,10 +60,10 @@ loop-again c =
     let t = c.before in
     let l = t.before.before.before in
     let s = l.before.before.before in
-    let i = l.before.loop-i.i in
+    let i = l.loop-i.i in
     ⊎_elim
-    (λ w. subst (λ (m : ℕ). Weakest s.args.n s.args.hot.now m (i + 1)) (sym w.1) (weakest-next s.args.n s.args.hot.now s.requires.0 _ i l.before.loop-i.invariant l.loop-i-test.true (sym t.total_less.ensures ∙ w.0.taken)))
-    (λ w. subst (λ (m : ℕ). Weakest s.args.n s.args.hot.now m (i + 1)) (sym w.1) (weakest-same s.args.n s.args.hot.now s.requires.0 _ i l.before.loop-i.invariant l.loop-i-test.true (sym t.total_less.ensures ∙ w.0.left)))
+    (λ w. subst (λ (m : ℕ). Weakest s.args.n s.args.hot.now m (i + 1)) (sym w.1) (weakest-next s.args.n s.args.hot.now s.requires.0 _ i l.loop-i.invariant l.loop-i-test.true (sym t.total_less.ensures ∙ w.0.taken)))
+    (λ w. subst (λ (m : ℕ). Weakest s.args.n s.args.hot.now m (i + 1)) (sym w.1) (weakest-same s.args.n s.args.hot.now s.requires.0 _ i l.loop-i.invariant l.loop-i-test.true (sym t.total_less.ensures ∙ w.0.left)))
     c.if-total_less.branch
 
 mul-of-words : tie.Need-overflow_mul-least-2 invariant-loop-i decreases-loop-i
@@ -76,7 +76,7 @@ returns : tie.Need-returns invariant-loop-i decreases-loop-i
 returns c =
     let l = c.before in
     let s = l.before.before.before in
-    weakest-done s.args.n s.args.hot.now s.requires.0 _ _ _ l.before.loop-i.invariant l.loop-i-test.false c.of_words.ensures
+    weakest-done s.args.n s.args.hot.now s.requires.0 _ _ _ l.loop-i.invariant l.loop-i-test.false c.of_words.ensures
 
 pub weakest_spec : {M : Type 1} → statement M
 weakest_spec =

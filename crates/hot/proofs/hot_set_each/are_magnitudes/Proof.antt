@@ -26,19 +26,19 @@ returns : tie.Need-returns-then-not-is_magnitude invariant-loop-i decreases-loop
 returns c =
     let l = c.before.before.before.before in
     let s = l.before.before in
-    let h = c.before.before.before.loop-i-test.true in
+    let h = c.loop-i-test.true in
     sym (sym l.loop-i.invariant.1
     ∙ all-stop magnitude _ (take s.args.n s.args.demands.now) l.loop-i.i (omega (arith, length-take-le s.args.n s.args.demands.now s.requires))
-    (ap magnitude (get_or-take s.args.n s.args.demands.now l.loop-i.i _ h) ∙ sym c.before.is_magnitude.ensures ∙ c.if-not-is_magnitude.true))
+    (ap magnitude (get_or-take s.args.n s.args.demands.now l.loop-i.i _ h) ∙ sym c.is_magnitude.ensures ∙ c.if-not-is_magnitude.true))
 
 loop-again : tie.Need-loop-i-preserved invariant-loop-i decreases-loop-i
 loop-again c =
     let l = c.before.before.before.before in
     let s = l.before.before in
-    let h = c.before.before.before.loop-i-test.true in (
+    let h = c.loop-i-test.true in (
       omega arith,
       all-next magnitude _ (take s.args.n s.args.demands.now) l.loop-i.i (omega (arith, length-take-le s.args.n s.args.demands.now s.requires))
-          (ap magnitude (get_or-take s.args.n s.args.demands.now l.loop-i.i _ h) ∙ sym c.before.is_magnitude.ensures ∙ c.if-not-is_magnitude.false)
+          (ap magnitude (get_or-take s.args.n s.args.demands.now l.loop-i.i _ h) ∙ sym c.is_magnitude.ensures ∙ c.if-not-is_magnitude.false)
           ∙ l.loop-i.invariant.1,
     )
 

@@ -10,12 +10,12 @@ use Rattle.image.proofs.judge.cap_of.Statement.{statement}
 use Rattle.image.proofs.judge.cap_of.Tie as tie
 
 returns : tie.Need-returns-then-flag-eq0
-returns c = sym (ap (λ (f : ℕ). cap_from f c.before.args.word) c.if-flag-eq0.true)
+returns c = sym (ap (λ (f : ℕ). cap_from f c.args.word) c.if-flag-eq0.true)
 
 returns-2 : tie.Need-returns
 returns-2 c =
     ap (λ (x : Float). some x) c.from_bits.ensures
-    ∙ cap-set c.before.before.args.flag c.before.before.args.word c.before.if-flag-eq0.false
+    ∙ cap-set c.args.flag c.args.word c.if-flag-eq0.false
 
 pub cap_of_spec : {M : Type 1} → statement M
 cap_of_spec = tie.close (tie.spec returns (λ c κs. search rules) returns-2)

@@ -29,13 +29,13 @@ abbrev found : tie.Start → Sections
 found s = s.args.found
 
 few : (e : tie.Else-not-are_few) → FewFound (found (begun e))
-few e = few-says _ (told-yes e.before.are_few.ensures e.if-not-are_few.false)
+few e = few-says _ (told-yes e.are_few.ensures e.if-not-are_few.false)
 
 -- the end, as it was looked for
 end_is : (n : tie.After-is_end) → let s = begun n.before.before in n.is_end.result ≡ is_end (count_in (found s)) (drop (found s).contested.end (bytes s))
 end_is n =
     let s = begun n.before.before in
-    n.is_end.ensures ∙ ap (λ (k : ℕ). is_end k (drop (found s).contested.end (bytes s))) n.before.count_in.ensures
+    n.is_end.ensures ∙ ap (λ (k : ℕ). is_end k (drop (found s).contested.end (bytes s))) n.count_in.ensures
 
 -- the limiter of kind 1's words
 abbrev counted : tie.After-limiter_of-limiter → tie.Else-not-are_few
@@ -45,7 +45,7 @@ reads : (l : tie.After-limiter_of-limiter) → let s = begun (counted l) in Read
 reads l =
     let s = begun (counted l) in
     subst (λ (ws : List ℕ). Reads ws (found s) l.limiter_of-limiter.result)
-    (words-read (bytes s) (found s) s.pre (few (counted l)) (replicate 13 0) _ (length-replicate {A = ℕ} 13 0) l.before.before.read_table.ensures)
+    (words-read (bytes s) (found s) s.pre (few (counted l)) (replicate 13 0) _ (length-replicate {A = ℕ} 13 0) l.read_table.ensures)
     l.limiter_of-limiter.ensures
 
 -- the settings' words beside those that were read
@@ -57,11 +57,11 @@ same-is a =
     let l = made a in
     let s = begun (counted l) in
     a.are_same.ensures
-    ∙ (λ i. same (a.before.before.before.settings_words-again.ensures i)
-    (words-read (bytes s) (found s) s.pre (few (counted l)) (replicate 13 0) _ (length-replicate {A = ℕ} 13 0) l.before.before.read_table.ensures i))
+    ∙ (λ i. same (a.settings_words-again.ensures i)
+    (words-read (bytes s) (found s) s.pre (few (counted l)) (replicate 13 0) _ (length-replicate {A = ℕ} 13 0) l.read_table.ensures i))
 
 returns : tie.Need-returns-then-not-are_few
-returns c = alone-no 13 _ (no-few _ _ c.before.before.before.requires (told-no c.before.are_few.ensures c.if-not-are_few.true))
+returns c = alone-no 13 _ (no-few _ _ c.requires (told-no c.are_few.ensures c.if-not-are_few.true))
 
 count-in-requires : tie.Need-count_in-requires
 count-in-requires c κs = few c
@@ -94,7 +94,7 @@ returns-4 c =
     let l = made t.before in
     let e = counted l in
     alone-no 13 _ (no-limiter _ _ (begun e).pre (few e) l.limiter_of-limiter.result (reads l) (told-yes (same-is t.before) t.if-not-are_same.false)
-    (told-no c.before.has_valid_limiter.ensures c.if-not-has_valid_limiter.true))
+    (told-no c.has_valid_limiter.ensures c.if-not-has_valid_limiter.true))
 
 has-valid-peers-requires : tie.Need-has_valid_peers-requires
 has-valid-peers-requires c κs =
@@ -107,7 +107,7 @@ returns-5 c =
     let l = made t.before in
     let e = counted l in
     alone-no 13 _ (no-peers _ _ (begun e).pre (few e) l.limiter_of-limiter.result (reads l) (told-yes (same-is t.before) t.if-not-are_same.false)
-    (told-no c.before.has_valid_peers.ensures c.if-not-has_valid_peers.true))
+    (told-no c.has_valid_peers.ensures c.if-not-has_valid_peers.true))
 
 returns-6 : tie.Need-returns
 returns-6 c =
@@ -122,10 +122,10 @@ returns-6 c =
     ((λ i. record { limiter = l.limiter_of-limiter.result; peers = c.peers_of-peers.ensures i })
     ∙ values-read _ _ s.pre (few e) l.limiter_of-limiter.result (reads l) q)
     ∙ alone-yes 13 _
-    (is-image _ _ s.pre (few e) l.limiter_of-limiter.result (reads l) q (all-bytes (bytes s) (λ i. omega (arith, e.before.before.shared_slice_known-1.given i)))
-    (told-yes (end_is l.before.before.before.before.before) l.before.before.before.before.if-not-is_end.left)
-    (told-yes k.before.has_valid_limiter.ensures k.if-not-has_valid_limiter.false)
-    (told-yes p.before.has_valid_peers.ensures p.if-not-has_valid_peers.false))
+    (is-image _ _ s.pre (few e) l.limiter_of-limiter.result (reads l) q (all-bytes (bytes s) (λ i. omega (arith, e.shared_slice_known-1.given i)))
+    (told-yes (end_is l.before.before.before.before.before) l.if-not-is_end.left)
+    (told-yes k.has_valid_limiter.ensures k.if-not-has_valid_limiter.false)
+    (told-yes p.has_valid_peers.ensures p.if-not-has_valid_peers.false))
 
 pub judge_spec : {M : Type 1} → statement M
 judge_spec =

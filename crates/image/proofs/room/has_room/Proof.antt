@@ -9,13 +9,13 @@ use Rattle.image.proofs.room.has_room.Statement.{statement}
 use Rattle.image.proofs.room.has_room.Tie as tie
 
 returns : tie.Need-returns-then-not-begins
-returns c = room-unread _ _ _ _ _ _ _ (told-no c.before.begins.ensures c.if-not-begins.true)
+returns c = room-unread _ _ _ _ _ _ _ (told-no c.begins.ensures c.if-not-begins.true)
 
 record-word-requires : tie.Need-record_word-table_size-requires
-record-word-requires c κs = omega (arith, begins-room 1 0 _ (told-yes c.before.begins.ensures c.if-not-begins.false))
+record-word-requires c κs = omega (arith, begins-room 1 0 _ (told-yes c.begins.ensures c.if-not-begins.false))
 
 record-word-requires-2 : tie.Need-record_word-hot_set_size-requires
-record-word-requires-2 c κs = omega (arith, begins-room 1 0 _ (told-yes c.before.before.begins.ensures c.before.if-not-begins.false))
+record-word-requires-2 c κs = omega (arith, begins-room 1 0 _ (told-yes c.begins.ensures c.if-not-begins.false))
 
 returns-2 : tie.Need-returns-then-not-have_room
 returns-2 c =
@@ -23,7 +23,7 @@ returns-2 c =
     let o = h.before in
     let t = o.before in
     let e = t.before in
-    room-short _ _ _ _ _ _ _ (told-yes e.before.begins.ensures e.if-not-begins.false) t.record_word-table_size.ensures o.record_word-hot_set_size.ensures
+    room-short _ _ _ _ _ _ _ (told-yes e.begins.ensures e.if-not-begins.false) t.record_word-table_size.ensures o.record_word-hot_set_size.ensures
     (told-no h.have_room.ensures c.if-not-have_room.true)
 
 returns-3 : tie.Need-returns
@@ -34,7 +34,7 @@ returns-3 c =
     let t = o.before in
     let e = t.before in
     c.peers_fit.ensures
-    ∙ room-peers _ _ _ _ _ _ _ (told-yes e.before.begins.ensures e.if-not-begins.false) t.record_word-table_size.ensures o.record_word-hot_set_size.ensures
+    ∙ room-peers _ _ _ _ _ _ _ (told-yes e.begins.ensures e.if-not-begins.false) t.record_word-table_size.ensures o.record_word-hot_set_size.ensures
     (told-yes h.have_room.ensures y.if-not-have_room.false)
 
 pub has_room_spec : {M : Type 1} → statement M

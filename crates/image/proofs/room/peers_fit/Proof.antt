@@ -14,13 +14,13 @@ returns c = stop _ _ (lt-leb _ _ c.if-peers-lt-PEERS_SIZE.true)
 
 returns-2 : tie.Need-returns-then-snapshot_keys-lt-SNAPSHOT_KEYS_SIZE
 unfolding have_room
-returns-2 c = goes _ _ false (le-leb _ _ c.before.if-peers-lt-PEERS_SIZE.false) (stop _ _ (lt-leb _ _ c.if-snapshot_keys-lt-SNAPSHOT_KEYS_SIZE.true))
+returns-2 c = goes _ _ false (le-leb _ _ c.if-peers-lt-PEERS_SIZE.false) (stop _ _ (lt-leb _ _ c.if-snapshot_keys-lt-SNAPSHOT_KEYS_SIZE.true))
 
 returns-3 : tie.Need-returns
 unfolding have_room
 returns-3 c =
-    let last = leb 49152 c.before.before.args.contested in
-    goes _ _ last (le-leb _ _ c.before.if-peers-lt-PEERS_SIZE.false) (goes _ last last (le-leb _ _ c.if-snapshot_keys-lt-SNAPSHOT_KEYS_SIZE.false) refl)
+    let last = leb 49152 c.args.contested in
+    goes _ _ last (le-leb _ _ c.if-peers-lt-PEERS_SIZE.false) (goes _ last last (le-leb _ _ c.if-snapshot_keys-lt-SNAPSHOT_KEYS_SIZE.false) refl)
 
 pub peers_fit_spec : {M : Type 1} → statement M
 peers_fit_spec = tie.close (tie.spec returns returns-2 returns-3)

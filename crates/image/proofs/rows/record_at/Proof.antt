@@ -13,10 +13,10 @@ abbrev first : tie.Else-from-at-ne71 → tie.Else-from-at-ne82
 first c = c.before.before
 
 returns : tie.Need-returns-then-from-lt-HEAD
-returns c = let s = c.before.before.args in none-short s.at s.from.now (omega (arith, c.if-from-lt-HEAD.true))
+returns c = let s = c.args in none-short s.at s.from.now (omega (arith, c.if-from-lt-HEAD.true))
 
 returns-2 : tie.Need-returns-then-from-at
-returns-2 c = let s = c.before.before.before.args in none-short s.at s.from.now (omega (arith, c.if-from-at.true, c.before.if-from-lt-HEAD.false))
+returns-2 c = let s = c.args in none-short s.at s.from.now (omega (arith, c.if-from-at.true, c.if-from-lt-HEAD.false))
 
 returns-3 : tie.Need-returns-then-from-at-ne82
 returns-3 c = let s = (start c.before.before).args in none_first s.at s.from.now c.if-from-at-ne82.true

@@ -12,13 +12,13 @@ use Rattle.image.proofs.rows.record_of.Statement.{statement}
 use Rattle.image.proofs.rows.record_of.Tie as tie
 
 abbrev start : tie.In-Is → tie.Start
-start c = c.before.before.before.before
+start c = c.before.before
 
 -- the count that was answered
-answered : (c : tie.In-Is) → some c.before.n.given.0.0 ≡ kind_words (start c).args.kind
-answered c = sym (ap words_told c.before.n.given.1) ∙ c.before.before.before.word_count.ensures
+answered : (c : tie.In-Is) → some c.in-Is.n ≡ kind_words (start c).args.kind
+answered c = sym (ap words_told c.in-Is.is) ∙ c.word_count.ensures
 
-few : (c : tie.In-Is) → c.before.n.given.0.0 ≤ 22
+few : (c : tie.In-Is) → c.in-Is.n ≤ 22
 few c = omega (arith, count-few (start c).args.kind, (kind-count (start c).args.kind _ (answered c)).1)
 
 returns : tie.Need-returns-then-len-at
@@ -28,9 +28,9 @@ returns c =
 
 returns-2 : tie.Need-returns-in-NoKind
 returns-2 c =
-    let w = c.before.before in
+    let w = c.before in
     let s = w.before in
-    no-record-of s.args.kind s.args.at s.args.len (no_kind s.args.kind (sym (ap words_told c.enum_told.given.1) ∙ w.word_count.ensures))
+    no-record-of s.args.kind s.args.at s.args.len (no_kind s.args.kind (sym (ap words_told c.in-NoKind.is) ∙ w.word_count.ensures))
 
 returns-3 : tie.Need-returns-else-len-at
 returns-3 c =

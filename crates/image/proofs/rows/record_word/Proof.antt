@@ -11,7 +11,7 @@ use Rattle.image.proofs.rows.record_word.Tie as tie
 
 returns : tie.Need-returns
 returns c =
-    let s = c.before.before.args in
+    let s = c.args in
     c.word_at.ensures ∙ ap (λ (l : List ℕ). number (take 8 l)) (sym (drop-drop (3 + 8 * s.i) s.at s.from.now))
 
 pub record_word_spec : {M : Type 1} → statement M

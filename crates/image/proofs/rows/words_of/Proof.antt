@@ -9,15 +9,15 @@ use Rattle.image.proofs.rows.words_of.Tie as tie
 
 returns : tie.Need-returns-in-NoKind
 returns c =
-    let w = c.before.before in
+    let w = c.before in
     let s = w.before in
-    contradiction (sym s.requires ∙ no_kind s.args.kind (sym (ap words_told c.enum_told.given.1) ∙ w.word_count.ensures))
+    contradiction (sym s.requires ∙ no_kind s.args.kind (sym (ap words_told c.in-NoKind.is) ∙ w.word_count.ensures))
 
 returns-2 : tie.Need-returns-in-Is
 returns-2 c =
-    let n = c.before in
-    let w = n.before.before in
-    (kind-count w.before.args.kind _ (sym (ap words_told n.n.given.1) ∙ w.word_count.ensures)).1
+    let n = c in
+    let w = n.before in
+    (kind-count w.args.kind _ (sym (ap words_told n.in-Is.is) ∙ w.word_count.ensures)).1
 
 pub words_of_spec : {M : Type 1} → statement M
 words_of_spec = tie.close (tie.spec (λ c κs. search rules) (λ c. search rules) (λ c. search rules) returns returns-2)

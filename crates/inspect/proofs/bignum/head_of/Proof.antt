@@ -22,16 +22,16 @@ abbrev decreases-loop-k : tie.decreases-loop-k
 decreases-loop-k n from word₀ k₀ word k = 19 - k
 
 mul-word : tie.Need-overflow_mul-word invariant-loop-k decreases-loop-k
-mul-word c = omega (arith, at_most 18 c.before.loop-k.k (omega arith))
+mul-word c = omega (arith, at_most 18 c.loop-k.k (omega arith))
 
 add-word : tie.Need-overflow_add-word invariant-loop-k decreases-loop-k
-add-word c = omega (arith, at_most 18 c.before.before.loop-k.k (omega arith))
+add-word c = omega (arith, at_most 18 c.loop-k.k (omega arith))
 
 loop-again : tie.Need-loop-k-preserved invariant-loop-k decreases-loop-k
-loop-again c = (search rules, omega (arith, ten-times c.before.before.loop-k.k))
+loop-again c = (search rules, omega (arith, ten-times c.loop-k.k))
 
 returns : tie.Need-returns invariant-loop-k decreases-loop-k
-returns c = omega (arith, at_most 19 c.before.before.loop-k.k (omega arith))
+returns c = omega (arith, at_most 19 c.loop-k.k (omega arith))
 
 pub head_of_spec : {M : Type 1} → statement M
 head_of_spec =

@@ -6,7 +6,7 @@ use Rattle.inspect.proofs.decimal.put_first.Statement.{statement}
 use Rattle.inspect.proofs.decimal.put_first.Tie as tie
 
 slice-aggregate-put : tie.Need-slice_bounds-put-end
-slice-aggregate-put c = sym (length-take-le _ _ c.before.before.if-s-count.false)
+slice-aggregate-put c = sym (length-take-le _ _ c.if-s-count.false)
 
 pub put_first_spec : {M : Type 1} → statement M
 put_first_spec =

@@ -7,7 +7,7 @@ use Rattle.inspect.proofs.decimal.put_pointed.Statement.{statement}
 use Rattle.inspect.proofs.decimal.put_pointed.Tie as tie
 
 slice-aggregate-put : tie.Need-slice_bounds-put-end
-slice-aggregate-put c = sym (length-take-le _ _ (le_of_lt c.before.before.if-digits-whole.false))
+slice-aggregate-put c = sym (length-take-le _ _ (le_of_lt c.if-digits-whole.false))
 
 pub put_pointed_spec : {M : Type 1} → statement M
 put_pointed_spec =

@@ -11,7 +11,7 @@ slice-aggregate-digits : tie.Need-slice_bounds-digits-end
 slice-aggregate-digits c = simp length-take (omega arith)
 
 slice-aggregate-put-digits : tie.Need-slice_bounds-put_digits-end
-slice-aggregate-put-digits c = sym (length-take-le _ _ c.before.before.without_zeros-kept.ensures)
+slice-aggregate-put-digits c = sym (length-take-le _ _ c.without_zeros-kept.ensures)
 
 pub put_text_spec : {M : Type 1} → statement M
 put_text_spec =

@@ -9,8 +9,8 @@ use Rattle.limiter.proofs.Cap.is_valid.Tie as tie
 
 returns-2 : tie.Need-returns-in-At
 returns-2 c =
-    let x = c.before.self.given.0.0 in
-    not-nan x c.known-told.given.0.1 ∙ ap (λ (k : Cap). valid_cap (cap_of k)) (sym c.before.self.given.1)
+    let x = c.in-At.x in
+    not-nan x c.known_told-1.given.0.1 ∙ ap (λ (k : Cap). valid_cap (cap_of k)) (sym c.in-At.is)
 
 pub is_valid_spec : {M : Type 1} → statement M
 is_valid_spec = tie.close (tie.spec (λ c. search rules) (λ c. search rules) (λ c. search rules) returns-2)

@@ -12,9 +12,9 @@ returns c = let b = c.before in let a = b.before in one-here _ _ _ _ _ a.ask-her
 returns-2 : tie.Need-returns-then-there-eq1
 returns-2 c =
     let b = c.before.before in
-    let s = b.before.before.before.before.before.before.before.before.args in
+    let s = b.args in
     let t = tables s.keys.now s.hot.now s.shadows.now in
-    one-there (have_room s.self.config (lengths t)) (is_valid (units_in s.self) s.self t) _ _ (cluster_questions s.cluster-size) b.ask-there.result
+    one-there (have_room s.self.config (lengths t)) (is_valid (units_in s.self) s.self t) _ _ (cluster_questions s.cluster_size) b.ask-there.result
     b.ask-there.ensures c.if-there-eq1.true
 
 returns-3 : tie.Need-returns-then-here-ne0

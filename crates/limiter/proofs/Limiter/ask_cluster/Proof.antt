@@ -16,7 +16,7 @@ abbrev before : tie.Start → List Question
 before s = state_questions s.args.self (tables s.args.keys.now s.args.hot.now s.args.shadows.now)
 
 abbrev others : tie.Start → List Question
-others s = cluster_questions s.args.cluster-size
+others s = cluster_questions s.args.cluster_size
 
 returns : tie.Need-returns-then-no-ne0
 returns c =
@@ -29,7 +29,7 @@ returns-2 c =
     let o = c.before.before in
     let s = o.before.before.before.before in
     c.ask_cluster.ensures
-    ∙ first_rest (before s) (others s) (passed_none (before s) _ (lit< tt, (lit< tt, tt)) o.ask-no.ensures c.before.if-no-ne0.false)
+    ∙ first_rest (before s) (others s) (passed_none (before s) _ (lit< tt, (lit< tt, tt)) o.ask-no.ensures c.if-no-ne0.false)
 
 pub ask_cluster_spec : {M : Type 1} → statement M
 ask_cluster_spec = tie.close (tie.spec (λ c κs. search rules) returns (λ c κs. search rules) returns-2)

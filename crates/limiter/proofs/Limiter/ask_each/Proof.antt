@@ -21,7 +21,7 @@ use Rattle.limiter.proofs.Limiter.ask_each.Tie as tie
 abbrev before : tie.Start → List Question
 before s =
     state_questions s.args.self (tables s.args.keys.now s.args.hot.now s.args.shadows.now) ++ cluster_questions
-    s.args.cluster-size
+    s.args.cluster_size
 
 abbrev last : tie.Start → List Question
 last s = (16 asks leb (3 * s.args.count) (length s.args.out.now)) ∷ []
@@ -31,34 +31,34 @@ start e = e.before.before.before.before.before.before.before
 
 -- the list is long enough
 long : (e : tie.Else-not-fits) → let s = start e in fits (length s.args.list.now) 2 s.args.count ≡ true
-long e = told-yes e.before.fits-2.ensures e.if-not-fits.false
+long e = told-yes e.fits-2.ensures e.if-not-fits.false
 
 -- question 16 where the others pass
 rest : (e : tie.Else-no-ne0) {m : ℕ} → let s = start e.before.before in
     m ≡ first_no (last s)
     → m ≡ first_no
     (each_asked s.args.self (tables s.args.keys.now s.args.hot.now s.args.shadows.now) s.args.list.now s.args.count
-    s.args.cluster-size s.args.out.now)
+    s.args.cluster_size s.args.out.now)
 rest e h =
     let s = start e.before.before in
     first-yes 1 _ (long e.before.before)
     (h ∙ first_rest (before s) (last s)
-    (passed_none (before s) _ (lit< tt, (lit< tt, (lit< tt, tt))) e.before.ask_cluster-no.ensures e.if-no-ne0.false))
+    (passed_none (before s) _ (lit< tt, (lit< tt, (lit< tt, tt))) e.ask_cluster-no.ensures e.if-no-ne0.false))
 
 returns : tie.Need-returns-then-not-fits
-returns c = first-no 1 _ (told-no c.before.fits-2.ensures c.if-not-fits.true)
+returns c = first-no 1 _ (told-no c.fits-2.ensures c.if-not-fits.true)
 
 returns-2 : tie.Need-returns-then-no-ne0
 returns-2 c =
     let e = c.before.before in
     let s = start e in
-    first-yes 1 _ (long e) (first_more (before s) (last s) _ c.before.ask_cluster-no.ensures c.if-no-ne0.true)
+    first-yes 1 _ (long e) (first_more (before s) (last s) _ c.ask_cluster-no.ensures c.if-no-ne0.true)
 
 returns-3 : tie.Need-returns-then-not-fits-2
-returns-3 c = rest c.before.before (first-no 16 _ (sym (each-room _ _) ∙ told-no c.before.fits3.ensures c.if-not-fits-2.true))
+returns-3 c = rest c.before.before (first-no 16 _ (sym (each-room _ _) ∙ told-no c.fits3.ensures c.if-not-fits-2.true))
 
 returns-4 : tie.Need-returns
-returns-4 c = rest c.before.before (first-yes 16 _ (sym (each-room _ _) ∙ told-yes c.before.fits3.ensures c.if-not-fits-2.false) first-none)
+returns-4 c = rest c.before.before (first-yes 16 _ (sym (each-room _ _) ∙ told-yes c.fits3.ensures c.if-not-fits-2.false) first-none)
 
 pub ask_each_spec : {M : Type 1} → statement M
 ask_each_spec =

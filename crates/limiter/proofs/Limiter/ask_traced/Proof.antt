@@ -18,7 +18,7 @@ abbrev before : tie.Start → List Question
 before s = state_questions s.args.self (tables s.args.keys.now s.args.hot.now s.args.shadows.now)
 
 abbrev others : tie.Start → Option Limit → List Question
-others s shadow = both_limit_questions s.args.limit shadow ++ cluster_questions s.args.cluster-size
+others s shadow = both_limit_questions s.args.limit shadow ++ cluster_questions s.args.cluster_size
 
 abbrev start : tie.Else-no-ne0 → tie.Start
 start e = e.before.before.before.before.before
@@ -26,27 +26,27 @@ start e = e.before.before.before.before.before
 -- the others where questions 1 and 2 pass
 rest : (e : tie.Else-no-ne0) (shadow : Option Limit) → let s = start e in first_no (others s shadow) ≡ first_no (before s ++ others s shadow)
 rest e shadow = let s = start e in
-    first_rest (before s) (others s shadow) (passed_none (before s) _ (lit< tt, (lit< tt, tt)) e.before.ask-no.ensures e.if-no-ne0.false)
+    first_rest (before s) (others s shadow) (passed_none (before s) _ (lit< tt, (lit< tt, tt)) e.ask-no.ensures e.if-no-ne0.false)
 
 returns : tie.Need-returns-then-no-ne0
 returns c =
     let s = c.before.before.before.before.before in
-    first_more (before s) (others s (shadow_limit s.args.shadow)) _ c.before.ask-no.ensures c.if-no-ne0.true
+    first_more (before s) (others s (shadow_limit s.args.shadow)) _ c.ask-no.ensures c.if-no-ne0.true
 
 returns-2 : tie.Need-returns-in-Unset
 returns-2 c =
     let t = c.before in
-    let e = t.before.before in
+    let e = t.before in
     let s = start e in
-    c.ask_limit.ensures ∙ rest e none ∙ sym (ap (λ (x : Option Limit). first_no (before s ++ others s x)) (ap shadow_limit t.enum_told.given.1))
+    c.ask_limit.ensures ∙ rest e none ∙ sym (ap (λ (x : Option Limit). first_no (before s ++ others s x)) (ap shadow_limit t.in-Unset.is))
 
 returns-3 : tie.Need-returns-in-Of
 returns-3 c =
-    let t = c.before.before in
-    let e = t.before.before in
+    let t = c.before in
+    let e = t.before in
     let s = start e in
-    c.ask_limits.ensures ∙ rest e (some t.shadow.given.0.0)
-    ∙ sym (ap (λ (x : Option Limit). first_no (before s ++ others s x)) (ap shadow_limit t.shadow.given.1))
+    c.ask_limits.ensures ∙ rest e (some t.in-Of.tried)
+    ∙ sym (ap (λ (x : Option Limit). first_no (before s ++ others s x)) (ap shadow_limit t.in-Of.is))
 
 pub ask_traced_spec : {M : Type 1} → statement M
 ask_traced_spec =

@@ -16,22 +16,22 @@ lent s = tables s.args.keys.now s.args.hot.now s.args.shadows.now
 
 -- the questions past 2 that come before those of the key
 abbrev others : tie.Start → List Question
-others s = cluster_questions s.args.cluster-size
+others s = cluster_questions s.args.cluster_size
 
 abbrev start : tie.Else-no-ne0 → tie.Start
 start e = e.before.before.before.before.before.before
 
 asked : (e : tie.Else-no-ne0) → let s = start e in Passed s.args.self (lent s) (others s)
-asked e = let s = start e in passed s.args.self (lent s) (others s) _ (lit< tt, tt) e.before.ask_cluster-no.ensures e.if-no-ne0.false
+asked e = let s = start e in passed s.args.self (lent s) (others s) _ (lit< tt, tt) e.ask_cluster-no.ensures e.if-no-ne0.false
 
 returns : tie.Need-returns-then-no-ne0
 returns c =
     let s = c.before.before.before.before.before.before in
     let x = here s.args.self (lent s) in
-    refused-before (key_decision (units_in s.args.self) x s.args.key (own_limit x) s.args.reading s.args.cluster-size) s.args.self (lent s)
+    refused-before (key_decision (units_in s.args.self) x s.args.key (own_limit x) s.args.reading s.args.cluster_size) s.args.self (lent s)
     (state_questions s.args.self (lent s) ++ others s)
-    (check_key_questions (units_in s.args.self) x s.args.key s.args.reading s.args.cluster-size)
-    (check_in (units_in s.args.self) x s.args.key (own_limit x) s.args.reading s.args.cluster-size) _ c.before.ask_cluster-no.ensures c.if-no-ne0.true
+    (check_key_questions (units_in s.args.self) x s.args.key s.args.reading s.args.cluster_size)
+    (check_in (units_in s.args.self) x s.args.key (own_limit x) s.args.reading s.args.cluster_size) _ c.ask_cluster-no.ensures c.if-no-ne0.true
 
 check-key-requires : tie.Need-check_key-requires
 unfolding state_of
@@ -48,7 +48,7 @@ returns-2 c =
     let e = k.before.before.before.before in
     let s = start e in
     checks-lifted s.args.self (lent s) (others s) (asked e) s.args.key s.args.self.config.limit s.args.reading
-    s.args.cluster-size _ k.check_key.result k.check_key.ensures
+    s.args.cluster_size _ k.check_key.result k.check_key.ensures
 
 pub check_spec : {M : Type 1} → statement M
 check_spec = tie.close (tie.spec (λ c κs. search rules) (λ c. search rules) returns check-key-requires (λ c. search rules) returns-2)

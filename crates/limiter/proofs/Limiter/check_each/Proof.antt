@@ -13,17 +13,17 @@ abbrev start : tie.Else-no-ne0 → tie.Start
 start e = e.before.before.before.before.before.before.before.before.before
 
 asked : (e : tie.Else-no-ne0)
-    → let s = start e in Asked s.args.self (lent s) s.args.list.now s.args.count s.args.cluster-size s.args.out.now
+    → let s = start e in Asked s.args.self (lent s) s.args.list.now s.args.count s.args.cluster_size s.args.out.now
 asked e =
     let s = start e in
-    asked-passed s.args.self (lent s) s.args.list.now s.args.count s.args.cluster-size s.args.out.now _
-    e.before.ask_each-no.ensures e.if-no-ne0.false
+    asked-passed s.args.self (lent s) s.args.list.now s.args.count s.args.cluster_size s.args.out.now _
+    e.ask_each-no.ensures e.if-no-ne0.false
 
 returns : tie.Need-returns-then-no-ne0
 returns c =
     let s = c.before.before.before.before.before.before.before.before.before in
-    each-refused s.args.self (lent s) s.args.list.now s.args.count s.args.cluster-size s.args.out.now _
-    c.before.ask_each-no.ensures c.if-no-ne0.true
+    each-refused s.args.self (lent s) s.args.list.now s.args.count s.args.cluster_size s.args.out.now _
+    c.ask_each-no.ensures c.if-no-ne0.true
 
 check-pairs-requires : tie.Need-check_pairs-requires
 check-pairs-requires c κs = (asked c.before.before).ready
@@ -33,7 +33,7 @@ returns-2 c =
     let k = c.before.before.before.before in
     let e = k.before.before.before in
     let s = start e in
-    each_lifted s.args.self (lent s) s.args.list.now s.args.count s.args.cluster-size s.args.out.now (asked e)
+    each_lifted s.args.self (lent s) s.args.list.now s.args.count s.args.cluster_size s.args.out.now (asked e)
     k.check_pairs.result _ _ k.check_pairs.ensures
 
 pub check_each_spec : {M : Type 1} → statement M

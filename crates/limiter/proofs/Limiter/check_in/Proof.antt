@@ -16,21 +16,21 @@ lent s = tables s.args.keys.now s.args.hot.now s.args.shadows.now
 abbrev start : tie.Else-no-ne0 → tie.Start
 start e = e.before.before.before.before.before.before
 
-asked : (e : tie.Else-no-ne0) → let s = start e in Passed s.args.self (lent s) (limit_asked s.args.limit s.args.cluster-size)
-asked e = let s = start e in limit-passed s.args.self (lent s) s.args.limit s.args.cluster-size _ e.before.ask_limit-no.ensures e.if-no-ne0.false
+asked : (e : tie.Else-no-ne0) → let s = start e in Passed s.args.self (lent s) (limit_asked s.args.limit s.args.cluster_size)
+asked e = let s = start e in limit-passed s.args.self (lent s) s.args.limit s.args.cluster_size _ e.ask_limit-no.ensures e.if-no-ne0.false
 
 returns : tie.Need-returns-then-no-ne0
 returns c =
     let s = c.before.before.before.before.before.before in
     let x = here s.args.self (lent s) in
-    refused-before (key_decision (units_in s.args.self) x s.args.key s.args.limit s.args.reading s.args.cluster-size) s.args.self (lent s)
-    (state_questions s.args.self (lent s) ++ limit_asked s.args.limit s.args.cluster-size)
-    (key_questions x (checked_key s.args.reading none (entry (units_in s.args.self) x s.args.key s.args.limit s.args.reading s.args.cluster-size)))
-    (check_in (units_in s.args.self) x s.args.key s.args.limit s.args.reading s.args.cluster-size) _ c.before.ask_limit-no.ensures c.if-no-ne0.true
+    refused-before (key_decision (units_in s.args.self) x s.args.key s.args.limit s.args.reading s.args.cluster_size) s.args.self (lent s)
+    (state_questions s.args.self (lent s) ++ limit_asked s.args.limit s.args.cluster_size)
+    (key_questions x (checked_key s.args.reading none (entry (units_in s.args.self) x s.args.key s.args.limit s.args.reading s.args.cluster_size)))
+    (check_in (units_in s.args.self) x s.args.key s.args.limit s.args.reading s.args.cluster_size) _ c.ask_limit-no.ensures c.if-no-ne0.true
 
 check-key-requires : tie.Need-check_key-requires
 unfolding state_of
-check-key-requires c κs = let s = start c.before in limit-ready s.args.self (lent s) s.args.limit s.args.cluster-size (asked c.before)
+check-key-requires c κs = let s = start c.before in limit-ready s.args.self (lent s) s.args.limit s.args.cluster_size (asked c.before)
 
 returns-2 : tie.Need-returns
 unfolding state_of
@@ -38,7 +38,7 @@ returns-2 c =
     let k = c.before.before in
     let e = k.before.before in
     let s = start e in
-    checks-lifted s.args.self (lent s) _ (asked e) s.args.key s.args.limit s.args.reading s.args.cluster-size _
+    checks-lifted s.args.self (lent s) _ (asked e) s.args.key s.args.limit s.args.reading s.args.cluster_size _
     k.check_key.result k.check_key.ensures
 
 pub check_in_spec : {M : Type 1} → statement M

@@ -23,37 +23,37 @@ start e = e.before.before.before.before.before.before.before
 
 -- the questions before those of the key are passed
 abbrev PassedWith : tie.Start → Option Limit → Type 0
-PassedWith s shadow = Passed s.args.self (lent s) (both_limit_questions s.args.limit shadow ++ cluster_questions s.args.cluster-size)
+PassedWith s shadow = Passed s.args.self (lent s) (both_limit_questions s.args.limit shadow ++ cluster_questions s.args.cluster_size)
 
 asked : (e : tie.Else-no-ne0) → let s = start e in PassedWith s (shadow_limit s.args.shadow)
 asked e =
     let s = start e in
-    traced-passed s.args.self (lent s) s.args.key s.args.limit s.args.reading s.args.cluster-size
-    (shadow_limit s.args.shadow) _ e.before.ask_traced-no.ensures e.if-no-ne0.false
+    traced-passed s.args.self (lent s) s.args.key s.args.limit s.args.reading s.args.cluster_size
+    (shadow_limit s.args.shadow) _ e.ask_traced-no.ensures e.if-no-ne0.false
 
 returns : tie.Need-returns-then-no-ne0
 returns c =
     let s = c.before.before.before.before.before.before.before in
-    traced-refused s.args.self (lent s) s.args.key s.args.limit s.args.reading s.args.cluster-size
-    (shadow_limit s.args.shadow) _ c.before.ask_traced-no.ensures c.if-no-ne0.true
+    traced-refused s.args.self (lent s) s.args.key s.args.limit s.args.reading s.args.cluster_size
+    (shadow_limit s.args.shadow) _ c.ask_traced-no.ensures c.if-no-ne0.true
 
 trace-none-requires : tie.Need-trace_none-requires
 trace-none-requires c κs =
     let m = c.before.before in
-    let e = m.before.before in
+    let e = m.before in
     let s = start e in
-    let p = subst (PassedWith s) (ap shadow_limit m.enum_told.given.1) (asked e) in (
+    let p = subst (PassedWith s) (ap shadow_limit m.in-Unset.is) (asked e) in (
       ready s.args.self (lent s) p.room p.ok,
-      (shadows-ready s.args.self (lent s) p.room p.ok, burst-passed s.args.limit s.args.cluster-size p.rest),
+      (shadows-ready s.args.self (lent s) p.room p.ok, burst-passed s.args.limit s.args.cluster_size p.rest),
     )
 
 trace-with-requires : tie.Need-trace_with-requires
 trace-with-requires c κs =
-    let m = c.before.before.before in
-    let e = m.before.before in
+    let m = c.before.before in
+    let e = m.before in
     let s = start e in
-    let tried = m.shadow.given.0.0 in
-    let p : PassedWith s (some tried) = subst (PassedWith s) (ap shadow_limit m.shadow.given.1) (asked e) in
+    let tried = m.in-Of.tried in
+    let p : PassedWith s (some tried) = subst (PassedWith s) (ap shadow_limit m.in-Of.is) (asked e) in
     let g : Given s.args.key s.args.limit s.args.reading =
     record {
       key_word = word_of s.fits.key.fits;
@@ -65,8 +65,8 @@ trace-with-requires c κs =
       (
         shadows-ready s.args.self (lent s) p.room p.ok,
         (
-          bursts-passed s.args.limit tried s.args.cluster-size p.rest,
-          traced-room s.args.self (lent s) s.args.key s.args.reading s.args.limit tried s.args.cluster-size p g,
+          bursts-passed s.args.limit tried s.args.cluster_size p.rest,
+          traced-room s.args.self (lent s) s.args.key s.args.reading s.args.limit tried s.args.cluster_size p g,
         ),
       ),
     )
@@ -75,19 +75,19 @@ returns-2 : tie.Need-returns-in-Unset
 returns-2 c =
     let o = c.before.before.before.before in
     let m = o.before.before.before in
-    let e = m.before.before in
+    let e = m.before in
     let s = start e in
-    traced-done s.args.self (lent s) s.args.key s.args.limit s.args.reading s.args.cluster-size (shadow_limit s.args.shadow) _
-    (ap shadow_limit m.enum_told.given.1) (asked e) o.trace_none.result _ _ o.trace_none.ensures
+    traced-done s.args.self (lent s) s.args.key s.args.limit s.args.reading s.args.cluster_size (shadow_limit s.args.shadow) _
+    (ap shadow_limit m.in-Unset.is) (asked e) o.trace_none.result _ _ o.trace_none.ensures
 
 returns-3 : tie.Need-returns-in-Of
 returns-3 c =
     let o = c.before.before.before.before in
-    let m = o.before.before.before.before in
-    let e = m.before.before in
+    let m = o.before.before.before in
+    let e = m.before in
     let s = start e in
-    traced-done s.args.self (lent s) s.args.key s.args.limit s.args.reading s.args.cluster-size (shadow_limit s.args.shadow) _
-    (ap shadow_limit m.shadow.given.1) (asked e) o.trace_with.result _ _ o.trace_with.ensures
+    traced-done s.args.self (lent s) s.args.key s.args.limit s.args.reading s.args.cluster_size (shadow_limit s.args.shadow) _
+    (ap shadow_limit m.in-Of.is) (asked e) o.trace_with.result _ _ o.trace_with.ensures
 
 pub check_in_traced_spec : {M : Type 1} → statement M
 check_in_traced_spec =

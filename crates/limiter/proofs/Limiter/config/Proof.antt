@@ -19,10 +19,10 @@ start o = o.before.before.before.before
 
 -- questions 1 and 2 are passed
 asked : (e : tie.Else-no-ne0) → let s = start e.before in Passed s.args.self (lent s) []
-asked e = let s = start e.before in past s.args.self (lent s) _ e.before.ask-no.ensures e.if-no-ne0.false
+asked e = let s = start e.before in past s.args.self (lent s) _ e.ask-no.ensures e.if-no-ne0.false
 
 returns : tie.Need-returns-then-no-ne0
-returns c = let s = start c.before in answer-no _ (state_questions s.args.self (lent s)) _ c.before.ask-no.ensures c.if-no-ne0.true
+returns c = let s = start c.before in answer-no _ (state_questions s.args.self (lent s)) _ c.ask-no.ensures c.if-no-ne0.true
 
 returns-2 : tie.Need-returns
 returns-2 c = let e = c.before in let s = start e.before in tells s.args.self (lent s) (asked e) _ _ refl

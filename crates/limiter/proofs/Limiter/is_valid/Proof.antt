@@ -21,8 +21,8 @@ scanned : (c : tie.After-shared_slice_known-3-1) → let s = c.before.before.bef
 scanned c =
     let s = c.before.before.before in
     scanned-is-valid (units_in s.args.self) (units-of-accepted (settings_of s.args.self)) s.args.self (words s) s.requires
-    (all_words s.args.keys.now (λ i. omega (arith, c.before.before.shared_slice_known-1.given i)))
-    (all_words s.args.hot.now (λ i. omega (arith, c.before.shared_slice_known-2-1.given i)))
+    (all_words s.args.keys.now (λ i. omega (arith, c.shared_slice_known-1.given i)))
+    (all_words s.args.hot.now (λ i. omega (arith, c.shared_slice_known-2-1.given i)))
     (all_words s.args.shadows.now (λ i. omega (arith, c.shared_slice_known-3-1.given i)))
 
 abbrev start : tie.Else-not-has_valid_settings → tie.Start
@@ -30,14 +30,14 @@ start e = e.before.before.before.before.before
 
 -- the settings are valid, so the room is that of the sizes
 sized : (e : tie.Else-not-has_valid_settings) → valid_settings (settings_of (start e).args.self) ≡ true
-sized e = told-yes e.before.has_valid_settings.ensures e.if-not-has_valid_settings.false
+sized e = told-yes e.has_valid_settings.ensures e.if-not-has_valid_settings.false
 
 roomy : (e : tie.Else-not-has_valid_settings) → Roomy (start e).args.self.config (words (start e))
 roomy e = room_says (start e).args.self (words (start e)) (start e).requires (sized e)
 
 returns : tie.Need-returns-then-not-has_valid_settings
 unfolding is_scanned
-returns c = stop _ _ (told-no c.before.has_valid_settings.ensures c.if-not-has_valid_settings.true) ∙ scanned c.before.before
+returns c = stop _ _ (told-no c.has_valid_settings.ensures c.if-not-has_valid_settings.true) ∙ scanned c.before.before
 
 are-keys-requires : tie.Need-are_keys-requires
 are-keys-requires c κs = (roomy c.before).keys
@@ -46,7 +46,7 @@ returns-2 : tie.Need-returns-then-not-are_keys
 unfolding is_scanned units_for
 returns-2 c =
     let e = c.before.before.before in
-    goes _ _ false (sized e) (stop _ _ (told-no c.before.are_keys.ensures c.if-not-are_keys.true)) ∙ scanned e.before.before
+    goes _ _ false (sized e) (stop _ _ (told-no c.are_keys.ensures c.if-not-are_keys.true)) ∙ scanned e.before.before
 
 -- the keys are valid, so the others can be looked up in them
 abbrev before-keys : tie.Else-not-are_keys → tie.Else-not-has_valid_settings
@@ -54,7 +54,7 @@ before-keys f = f.before.before.before
 
 passed : (f : tie.Else-not-are_keys) → let s = (start (before-keys f)).args in are_keys (units_in s.self) s.self.config.table_size (records 22 s.self.keys s.keys.now) ≡ true
 unfolding units_for
-passed f = told-yes f.before.are_keys.ensures f.if-not-are_keys.false
+passed f = told-yes f.are_keys.ensures f.if-not-are_keys.false
 
 ready : (f : tie.Else-not-are_keys) → let s = (start (before-keys f)).args in KeysReady s.self.keys s.keys.now
 ready f =
@@ -70,7 +70,7 @@ unfolding is_scanned
 returns-3 c =
     let f = c.before.before in
     let e = before-keys f in
-    goes _ _ false (sized e) (goes _ _ false (passed f) (stop _ _ (told-no c.before.are_hot.ensures c.if-not-are_hot.true))) ∙ scanned e.before.before
+    goes _ _ false (sized e) (goes _ _ false (passed f) (stop _ _ (told-no c.are_hot.ensures c.if-not-are_hot.true))) ∙ scanned e.before.before
 
 are-shadows-requires : tie.Need-are_shadows-requires
 are-shadows-requires c κs = let f = c.before.before in (ready f, (roomy (before-keys f)).shadows)
@@ -81,7 +81,7 @@ returns-4 c =
     let g = c.before in
     let f = g.before.before in
     let e = before-keys f in
-    goes _ _ _ (sized e) (goes _ _ _ (passed f) (goes _ _ _ (told-yes g.before.are_hot.ensures g.if-not-are_hot.false) c.are_shadows.ensures)) ∙ scanned e.before.before
+    goes _ _ _ (sized e) (goes _ _ _ (passed f) (goes _ _ _ (told-yes g.are_hot.ensures g.if-not-are_hot.false) c.are_shadows.ensures)) ∙ scanned e.before.before
 
 pub is_valid_spec : {M : Type 1} → statement M
 is_valid_spec =

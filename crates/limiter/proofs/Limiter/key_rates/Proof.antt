@@ -22,10 +22,10 @@ start o = o.before.before.before.before
 
 -- questions 1 and 2 are passed
 asked : (e : tie.Else-no-ne0) → let s = start e.before in Passed s.args.self (lent s) []
-asked e = let s = start e.before in past s.args.self (lent s) _ e.before.ask-no.ensures e.if-no-ne0.false
+asked e = let s = start e.before in past s.args.self (lent s) _ e.ask-no.ensures e.if-no-ne0.false
 
 returns : tie.Need-returns-then-no-ne0
-returns c = let s = start c.before in answer-no _ (state_questions s.args.self (lent s)) _ c.before.ask-no.ensures c.if-no-ne0.true
+returns c = let s = start c.before in answer-no _ (state_questions s.args.self (lent s)) _ c.ask-no.ensures c.if-no-ne0.true
 
 find-key-requires : tie.Need-find_key-requires
 find-key-requires c κs = let s = start c.before in let p = asked c in ready s.args.self (lent s) p.room p.ok
@@ -33,25 +33,25 @@ find-key-requires c κs = let s = start c.before in let p = asked c in ready s.a
 rates-of-requires : tie.Need-rates_of-requires
 unfolding units_for
 rates-of-requires c κs =
-    let k = c.before.before in
-    let f = k.before.before in
+    let k = c.before in
+    let f = k.before in
     let s = start f.before.before in
     let p = asked f.before in
-    found-valid s.args.self s.args.keys.now (ready s.args.self (lent s) p.room p.ok) s.args.key _ f.find_key.ensures _ k.state.given.1
+    found-valid s.args.self s.args.keys.now (ready s.args.self (lent s) p.room p.ok) s.args.key _ f.find_key.ensures _ k.in-Is.is
 
 returns-2 : tie.Need-returns-in-Untracked
 returns-2 c =
-    let f = c.before.before in
+    let f = c.before in
     let s = start f.before.before in
-    tells-untracked s.args.self (lent s) (asked f.before) s.args.key _ f.find_key.ensures (rates_of (parameters_of (settings_of s.args.self))) c.enum_told.given.1
+    tells-untracked s.args.self (lent s) (asked f.before) s.args.key _ f.find_key.ensures (rates_of (parameters_of (settings_of s.args.self))) c.in-Untracked.is
 
 returns-3 : tie.Need-returns-in-Is
 returns-3 c =
-    let k = c.before.before.before in
-    let f = k.before.before in
+    let k = c.before.before in
+    let f = k.before in
     let s = start f.before.before in
-    tells-key s.args.self (lent s) (asked f.before) s.args.key _ f.find_key.ensures (rates_of (parameters_of (settings_of s.args.self))) _ k.state.given.1 _
-    (c.rates_of.ensures ∙ ap (λ (x : Parameters). rates_of x (key_record k.state.given.0.0)) c.before.parameters_of.ensures)
+    tells-key s.args.self (lent s) (asked f.before) s.args.key _ f.find_key.ensures (rates_of (parameters_of (settings_of s.args.self))) _ k.in-Is.is _
+    (c.rates_of.ensures ∙ ap (λ (x : Parameters). rates_of x (key_record k.in-Is.state)) c.parameters_of.ensures)
 
 pub key_rates_spec : {M : Type 1} → statement M
 key_rates_spec =

@@ -19,26 +19,26 @@ start o = o.before.before.before.before
 
 -- questions 1 and 2 are passed
 asked : (e : tie.Else-no-ne0) → let s = start e.before in Passed s.args.self (lent s) []
-asked e = let s = start e.before in past s.args.self (lent s) _ e.before.ask-no.ensures e.if-no-ne0.false
+asked e = let s = start e.before in past s.args.self (lent s) _ e.ask-no.ensures e.if-no-ne0.false
 
 returns : tie.Need-returns-then-no-ne0
-returns c = let s = start c.before in answer-no _ (state_questions s.args.self (lent s)) _ c.before.ask-no.ensures c.if-no-ne0.true
+returns c = let s = start c.before in answer-no _ (state_questions s.args.self (lent s)) _ c.ask-no.ensures c.if-no-ne0.true
 
 find-key-requires : tie.Need-find_key-requires
 find-key-requires c κs = let s = start c.before in let p = asked c in ready s.args.self (lent s) p.room p.ok
 
 returns-2 : tie.Need-returns-in-Untracked
 returns-2 c =
-    let f = c.before.before in
+    let f = c.before in
     let s = start f.before.before in
-    tells-untracked s.args.self (lent s) (asked f.before) s.args.key _ f.find_key.ensures (λ (k : KeyRecord). k.limit) c.enum_told.given.1
+    tells-untracked s.args.self (lent s) (asked f.before) s.args.key _ f.find_key.ensures (λ (k : KeyRecord). k.limit) c.in-Untracked.is
 
 returns-3 : tie.Need-returns-in-Is
 returns-3 c =
-    let x = c.before.before in
-    let f = x.before.before in
+    let x = c.before in
+    let f = x.before in
     let s = start f.before.before in
-    tells-key s.args.self (lent s) (asked f.before) s.args.key _ f.find_key.ensures (λ (k : KeyRecord). k.limit) _ x.state.given.1 _ refl
+    tells-key s.args.self (lent s) (asked f.before) s.args.key _ f.find_key.ensures (λ (k : KeyRecord). k.limit) _ x.in-Is.is _ refl
 
 pub limit_spec : {M : Type 1} → statement M
 limit_spec =

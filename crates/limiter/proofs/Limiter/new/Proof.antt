@@ -13,12 +13,12 @@ abbrev asked : tie.After-ask-no → List Question
 asked o = let s = o.before.before.before.before in new_questions s.args.config (tables s.args.keys.now s.args.hot.now s.args.shadows.now)
 
 returns : tie.Need-returns-then-no-ne0
-returns c = answer-no _ (asked c.before) _ c.before.ask-no.ensures c.if-no-ne0.true
+returns c = answer-no _ (asked c.before) _ c.ask-no.ensures c.if-no-ne0.true
 
 returns-2 : tie.Need-returns
 returns-2 c =
     let qs = asked c.before in
-    answer-passed _ qs (passed_none qs _ (lit< tt, (lit< tt, (lit< tt, (lit< tt, (lit< tt, tt))))) c.before.ask-no.ensures c.if-no-ne0.false)
+    answer-passed _ qs (passed_none qs _ (lit< tt, (lit< tt, (lit< tt, (lit< tt, (lit< tt, tt))))) c.ask-no.ensures c.if-no-ne0.false)
 
 pub new_spec : {M : Type 1} → statement M
 new_spec = tie.close (tie.spec (λ c κs. search rules) returns returns-2)

@@ -19,7 +19,7 @@ start o = o.before.before.before.before
 
 -- questions 1 and 2 are passed
 asked : (e : tie.Else-no-ne0) → let s = start e.before in Passed s.args.self (lent s) []
-asked e = let s = start e.before in past s.args.self (lent s) _ e.before.ask-no.ensures e.if-no-ne0.false
+asked e = let s = start e.before in past s.args.self (lent s) _ e.ask-no.ensures e.if-no-ne0.false
 
 returns : tie.Need-returns-then-no-ne0
 returns c =
@@ -36,7 +36,7 @@ returns-2 c =
     let p = asked e in
     record {
       answered = answer-passed _ qs p.all;
-      limiter = c.with_cap.ensures ∙ cap-set s.args.self (lent s) p s.args.cap _ c.before.stored.ensures ∙ changed-passed _ _ qs p.all;
+      limiter = c.with_cap.ensures ∙ cap-set s.args.self (lent s) p s.args.cap _ c.stored.ensures ∙ changed-passed _ _ qs p.all;
     }
 
 pub set_cap_spec : {M : Type 1} → statement M

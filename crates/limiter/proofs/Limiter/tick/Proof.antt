@@ -23,10 +23,10 @@ abbrev lent : tie.Start → LimiterTables
 lent s = tables s.args.keys.now s.args.hot.now s.args.shadows.now
 
 abbrev asks : tie.Start → List Question
-asks s = state_questions s.args.self (lent s) ++ cluster_questions s.args.cluster-size
+asks s = state_questions s.args.self (lent s) ++ cluster_questions s.args.cluster_size
 
 abbrev after : tie.Start → LimiterState
-after s = tick (parameters_of (settings_of s.args.self)) (units_in s.args.self) s.args.reading s.args.cluster-size (here s.args.self (lent s))
+after s = tick (parameters_of (settings_of s.args.self)) (units_in s.args.self) s.args.reading s.args.cluster_size (here s.args.self (lent s))
 
 abbrev start : tie.After-ask_cluster-no → tie.Start
 start c = c.before.before.before.before.before.before.before
@@ -37,10 +37,10 @@ returns c =
     let s = start k in
     ticking-no (asks s) (after s) s.args.self (lent s) k.ask_cluster-no.result k.ask_cluster-no.ensures c.if-no-ne0.true
 
-asked : (e : tie.Else-no-ne0) → let s = start e.before in Passed s.args.self (lent s) (cluster_questions s.args.cluster-size)
+asked : (e : tie.Else-no-ne0) → let s = start e.before in Passed s.args.self (lent s) (cluster_questions s.args.cluster_size)
 asked e =
-    let s = start e.before in passed s.args.self (lent s) (cluster_questions s.args.cluster-size) _ (lit< tt, tt)
-    e.before.ask_cluster-no.ensures e.if-no-ne0.false
+    let s = start e.before in passed s.args.self (lent s) (cluster_questions s.args.cluster_size) _ (lit< tt, tt)
+    e.ask_cluster-no.ensures e.if-no-ne0.false
 
 pass-one-requires : tie.Need-pass_one-passed-requires
 pass-one-requires c κs =
@@ -59,7 +59,7 @@ finish-tick-requires c κs =
     let s = start e.before in
     let p = asked e in
     let l = s.args.self in
-    let n = s.args.cluster-size in
+    let n = s.args.cluster_size in
     finishing l (lent s) p.room p.ok (parameters_of (settings_of l)) (no_others n) s.args.reading n k.pass_one-passed.result _ _ _
     (k.pass_one-passed.ensures (no_others n) (none_elsewhere (units_in l) l.keys s.args.keys.now (few_keys l (lent s) p.room p.ok).0)) _ (omega arith)
     (size-passed n p.rest)
@@ -72,7 +72,7 @@ returns-2 c =
     let s = start e.before in
     let p = asked e in
     let l = s.args.self in
-    let n = s.args.cluster-size in
+    let n = s.args.cluster_size in
     let h = k.pass_one-passed.ensures (no_others n) (none_elsewhere (units_in l) l.keys s.args.keys.now (few_keys l (lent s) p.room p.ok).0) in
     ticking-done (asks s) (after s) l (lent s) d.finish_tick-limiter.result _ p.all
     (ticked l (lent s) p.room p.ok (parameters_of (settings_of l)) (no_others n) s.args.reading n k.pass_one-passed.result _ _ _ h true _ (even-share l n _ _)

@@ -19,16 +19,16 @@ abbrev lent : tie.Start → LimiterTables
 lent s = tables s.args.keys.now s.args.hot.now s.args.shadows.now
 
 abbrev theirs : tie.Start → PeerTables
-theirs s = peer-state.tables s.args.peer-table.now s.args.snapshot-keys.now s.args.contested.now
+theirs s = peer-state.tables s.args.peer_table.now s.args.snapshot-keys.now s.args.contested.now
 
 abbrev others : tie.Start → Others
-others s = peers_others (settings_of s.args.self) (peer-state.state_of s.args.peers (theirs s)) s.args.cluster-size
+others s = peers_others (settings_of s.args.self) (peer-state.state_of s.args.peers (theirs s)) s.args.cluster_size
 
 abbrev start : tie.After-shared_slice_known-3-1 → tie.Start
 start c = c.before.before.before.before.before.before
 
-asked : (s : tie.Start) → BothPassed s.args.self (lent s) s.args.peers (theirs s) s.args.cluster-size
-asked s = both-passed s.args.self (lent s) s.args.peers (theirs s) s.args.cluster-size s.requires
+asked : (s : tie.Start) → BothPassed s.args.self (lent s) s.args.peers (theirs s) s.args.cluster_size
+asked s = both-passed s.args.self (lent s) s.args.peers (theirs s) s.args.cluster_size s.requires
 
 abbrev told : tie.After-hot_elsewhere_of_each → tie.After-shared_slice_known-3-1
 told c = c.before.before.before
@@ -54,12 +54,12 @@ finish-tick-requires c κs =
     let s = start e in
     let p = asked s in
     let l = s.args.self in
-    let n = s.args.cluster-size in
+    let n = s.args.cluster_size in
     finishing l (lent s) p.room p.ok (parameters_of (settings_of l)) (others s) s.args.reading n k.pass_one-passed.result _ _ _
     (k.pass_one-passed.ensures (others s)
     (told-elsewhere s.args.peers (theirs s) p.peers (units_in l) l.keys s.args.keys.now _ _ _ b.hot_elsewhere_of_each.ensures
     (lent-keys l (lent s) p.room p.ok).fit (few_keys l (lent s) p.room p.ok).0))
-    _ (omega (arith, c.before.before.before.before.before.totals2.given)) p.size
+    _ (omega (arith, c.totals2.given)) p.size
 
 abbrev ended : tie.After-slice_known-7-1 → tie.After-finish_tick
 ended c = c.before.before.before.before
@@ -69,7 +69,7 @@ over c = c.before.before.before.before.before.before.before
 
 same_length : tie.Need-shape_of-keys
 same_length c =
-    omega (arith, c.before.before.before.keys2.given, (over (ended c)).before.before.before.before.before.before.before.keys.given)
+    omega (arith, c.keys2.given, (over (ended c)).before.before.before.before.before.before.before.keys.given)
 
 same-length-2 : tie.Need-shape_of-hot
 same-length-2 c = omega (arith, (over (ended c)).before.before.before.before.before.hot.given)
@@ -85,7 +85,7 @@ returns c =
     let s = start e in
     let p = asked s in
     let l = s.args.self in
-    let n = s.args.cluster-size in
+    let n = s.args.cluster_size in
     let now = s.args.reading in
     let h = k.pass_one-passed.ensures (others s)
     (told-elsewhere s.args.peers (theirs s) p.peers (units_in l) l.keys s.args.keys.now _ _ _ b.hot_elsewhere_of_each.ensures

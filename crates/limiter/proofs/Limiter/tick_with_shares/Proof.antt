@@ -21,14 +21,14 @@ abbrev lent : tie.Start → LimiterTables
 lent s = tables s.args.keys.now s.args.hot.now s.args.shadows.now
 
 abbrev theirs : tie.Start → PeerTables
-theirs s = peer-state.tables s.args.peer-table.now s.args.snapshot-keys.now s.args.contested.now
+theirs s = peer-state.tables s.args.peer_table.now s.args.snapshot-keys.now s.args.contested.now
 
 abbrev asks : tie.Start → List Question
-asks s = both_questions s.args.self (lent s) s.args.peers (theirs s) ++ cluster_questions s.args.cluster-size
+asks s = both_questions s.args.self (lent s) s.args.peers (theirs s) ++ cluster_questions s.args.cluster_size
 
 abbrev after : tie.Start → LimiterState
 after s =
-    tick_with_shares (parameters_of (settings_of s.args.self)) (units_in s.args.self) (peer-state.state_of s.args.peers (theirs s)) s.args.reading s.args.cluster-size (here s.args.self (lent s))
+    tick_with_shares (parameters_of (settings_of s.args.self)) (units_in s.args.self) (peer-state.state_of s.args.peers (theirs s)) s.args.reading s.args.cluster_size (here s.args.self (lent s))
 
 abbrev start : tie.After-ask_both-no → tie.Start
 start c = c.before.before.before.before.before.before.before.before.before.before
@@ -41,7 +41,7 @@ returns c =
 
 -- every question is answered 'yes'
 all_passed : (e : tie.Else-no-ne0) → passes (asks (start e.before)) ≡ true
-all_passed e = passed_none (asks (start e.before)) _ (lit< tt, (lit< tt, (lit< tt, tt))) e.before.ask_both-no.ensures e.if-no-ne0.false
+all_passed e = passed_none (asks (start e.before)) _ (lit< tt, (lit< tt, (lit< tt, tt))) e.ask_both-no.ensures e.if-no-ne0.false
 
 tick-asked-requires : tie.Need-tick_asked-limiter-requires
 tick-asked-requires c κs = all_passed c.before.before.before

@@ -12,7 +12,7 @@ ask-meter-requires : tie.Need-ask_meter-asked-requires
 unfolding units_for
 ask-meter-requires c κs =
     let s = c.before.before.before in
-    entry-quota s.args.limiter s.args.keys.now s.requires.0 s.args.key s.args.limit s.args.reading s.args.cluster-size
+    entry-quota s.args.limiter s.args.keys.now s.requires.0 s.args.key s.args.limit s.args.reading s.args.cluster_size
     s.requires.1 _ c.entry-found.ensures
 
 raise-requires : tie.Need-raise-raised-requires
@@ -20,11 +20,11 @@ raise-requires c κs =
     let m = c.before.before in
     let o = m.before in
     let s = o.before.before.before in
-    let q = entry-quota s.args.limiter s.args.keys.now s.requires.0 s.args.key s.args.limit s.args.reading s.args.cluster-size
+    let q = entry-quota s.args.limiter s.args.keys.now s.requires.0 s.args.key s.args.limit s.args.reading s.args.cluster_size
     s.requires.1 _ o.entry-found.ensures in (
       s.requires.0,
       (
-        entry-placed s.args.limiter s.args.keys.now s.requires.0 s.args.key s.args.limit s.args.reading s.args.cluster-size
+        entry-placed s.args.limiter s.args.keys.now s.requires.0 s.args.key s.args.limit s.args.reading s.args.cluster_size
             s.requires.1 _ o.entry-found.ensures,
         ap (λ (g : Gcra). valid_quota (units_in s.args.limiter) g.quota) m.ask_meter-asked.ensures.1
             ∙ ap (valid_quota (units_in s.args.limiter)) (check-quota o.entry-found.result.state.gcra s.args.reading) ∙ q,
@@ -38,7 +38,7 @@ returns c =
     let m = d.before.before in
     let o = m.before in
     let s = o.before.before.before in
-    check-acts s.args.limiter s.args.keys.now s.requires.0 s.args.key s.args.limit s.args.reading s.args.cluster-size
+    check-acts s.args.limiter s.args.keys.now s.requires.0 s.args.key s.args.limit s.args.reading s.args.cluster_size
     s.requires.1 _ o.entry-found.ensures
     _ _ _ _ _ _ _ m.ask_meter-asked.ensures.0 m.ask_meter-asked.ensures.1 d.denied.ensures c.decided.ensures refl x.raise-raised.ensures
 

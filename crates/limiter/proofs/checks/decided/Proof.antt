@@ -7,10 +7,10 @@ use Rattle.limiter.proofs.checks.decided.Statement.{statement}
 use Rattle.limiter.proofs.checks.decided.Tie as tie
 
 returns : tie.Need-returns-then-no-ne0
-returns c = answered-no c.before.args.no c.before.args.decision c.if-no-ne0.true
+returns c = answered-no c.args.no c.args.decision c.if-no-ne0.true
 
 returns-2 : tie.Need-returns
-returns-2 c = sym (ap (λ (m : ℕ). answered m c.before.args.decision) c.if-no-ne0.false)
+returns-2 c = sym (ap (λ (m : ℕ). answered m c.args.decision) c.if-no-ne0.false)
 
 pub decided_spec : {M : Type 1} → statement M
 decided_spec = tie.close (tie.spec returns returns-2)

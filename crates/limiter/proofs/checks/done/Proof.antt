@@ -5,7 +5,7 @@ use Rattle.limiter.proofs.checks.done.Statement.{statement}
 use Rattle.limiter.proofs.checks.done.Tie as tie
 
 returns : tie.Need-returns-then-no-ne0
-returns c = answered-no c.before.args.no tt c.if-no-ne0.true
+returns c = answered-no c.args.no tt c.if-no-ne0.true
 
 pub done_spec : {M : Type 1} → statement M
 done_spec = tie.close (tie.spec returns (λ c. search rules))

@@ -13,16 +13,16 @@ use Rattle.limiter.proofs.checks.entry.Statement.{statement}
 use Rattle.limiter.proofs.checks.entry.Tie as tie
 
 abbrev start : tie.In-At → tie.Start
-start c = c.before.before.before.before.before
+start c = c.before.before.before
 
 found : (c : tie.In-At)
-    → At c.before.place.given.0.0 ≡ find_in 22 1 (start c).args.limiter.keys (start c).args.key 0 (start c).args.keys.now
-found c = sym c.before.place.given.1 ∙ c.before.before.before.find.ensures
+    → At c.in-At.place ≡ find_in 22 1 (start c).args.limiter.keys (start c).args.key 0 (start c).args.keys.now
+found c = sym c.in-At.is ∙ c.find.ensures
 
-readable : (c : tie.In-At) → Readable (c.before.place.given.0.0 * 22) (start c).args.keys.now
+readable : (c : tie.In-At) → Readable (c.in-At.place * 22) (start c).args.keys.now
 readable c =
     let s = start c in
-    readable-found s.args.limiter s.args.keys.now s.pre s.args.key c.before.place.given.0.0 (found c)
+    readable-found s.args.limiter s.args.keys.now s.pre s.args.key c.in-At.place (found c)
 
 mul-of-words : tie.Need-overflow_mul-place
 mul-of-words c = omega (arith, (readable c).within)
@@ -36,29 +36,29 @@ returns c =
     let k = c.before.before in
     let s = start k in
     record {
-      state = c.limited.ensures ∙ ap (limited s.args.limit) c.before.of_words-known.ensures
+      state = c.limited.ensures ∙ ap (limited s.args.limit) c.of_words-known.ensures
           ∙ entered-found s.args.limiter s.args.keys.now s.pre s.args.key _ (found k) s.args.limit s.args.reading
-          s.args.cluster-size;
+          s.args.cluster_size;
       place = found k;
     }
 
 returns-2 : tie.Need-returns-in-Gap
 returns-2 c =
-    let g = c.before.before in
-    let s = g.before.before.before.before in
-    let e = sym g.place2.given.1 ∙ g.before.before.find.ensures in
+    let g = c.before in
+    let s = g.before.before.before in
+    let e = sym g.in-Gap.is ∙ g.find.ensures in
     record {
       state = c.new_key.ensures
           ∙ entered-new s.args.limiter s.args.keys.now s.requires s.args.key _ e s.args.limit s.args.reading
-          s.args.cluster-size;
+          s.args.cluster_size;
       place = e;
     }
 
 returns-3 : tie.Need-returns-in-Unfit
 returns-3 c =
-    let f = c.before.before.before in
+    let f = c.before.before in
     let s = f.before.before in
-    never-unfit-key s.args.limiter s.args.keys.now s.requires s.args.key (sym c.before.enum_told.given.1 ∙ f.find.ensures)
+    never-unfit-key s.args.limiter s.args.keys.now s.requires s.args.key (sym c.in-Unfit.is ∙ f.find.ensures)
 
 pub entry_spec : {M : Type 1} → statement M
 entry_spec =

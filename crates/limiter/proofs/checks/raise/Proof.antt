@@ -14,7 +14,7 @@ use Rattle.limiter.proofs.checks.raise.Tie as tie
 
 -- the key's record after the call
 abbrev after : tie.Start → KeyRecord
-after s = raised s.args.attempts s.args.denials s.args.shadow-denials s.args.gcra (key_record s.args.entry.state)
+after s = raised s.args.attempts s.args.denials s.args.shadow_denials s.args.gcra (key_record s.args.entry.state)
 
 returns : tie.Need-returns-then-no-ne0
 returns c =
@@ -24,15 +24,15 @@ returns c =
     (o.ask_key-no.ensures
     ∙ ap first_no
     (questions-are s.args.limiter s.args.keys.now s.requires.0 s.args.entry s.requires.1.0 s.args.attempts s.args.denials
-    s.args.shadow-denials s.args.gcra))
+    s.args.shadow_denials s.args.gcra))
     c.if-no-ne0.true
 
 raised-requires : tie.Need-raised-requires
 raised-requires c κs =
     let o = c.before.before in
     let s = o.before.before in
-    (place-passed s.args.limiter s.args.entry s.args.attempts s.args.denials s.args.shadow-denials _ o.ask_key-no.ensures
-    c.before.if-no-ne0.false).1
+    (place-passed s.args.limiter s.args.entry s.args.attempts s.args.denials s.args.shadow_denials _ o.ask_key-no.ensures
+    c.if-no-ne0.false).1
 
 put-requires : tie.Need-put-requires
 put-requires c κs =
@@ -44,8 +44,8 @@ put-requires c κs =
         subst (λ (j : ℕ). Placed s.args.limiter s.args.keys.now j s.args.entry.tracked s.args.entry.place)
             (sym (ap (λ (k : KeyRecord). k.key) r.raised.ensures)) s.requires.1.0,
         (
-          (place-passed s.args.limiter s.args.entry s.args.attempts s.args.denials s.args.shadow-denials _
-              e.before.ask_key-no.ensures e.if-no-ne0.false).0,
+          (place-passed s.args.limiter s.args.entry s.args.attempts s.args.denials s.args.shadow_denials _
+              e.ask_key-no.ensures e.if-no-ne0.false).0,
           ap (λ (k : KeyRecord). valid_quota (units_in s.args.limiter) k.gcra.quota) r.raised.ensures ∙ s.requires.1.1,
         ),
       ),
@@ -62,7 +62,7 @@ returns-2 c =
     (o.ask_key-no.ensures
     ∙ ap first_no
     (questions-are s.args.limiter s.args.keys.now s.requires.0 s.args.entry s.requires.1.0 s.args.attempts s.args.denials
-    s.args.shadow-denials s.args.gcra))
+    s.args.shadow_denials s.args.gcra))
     e.if-no-ne0.false _ _
     (subst (λ (k : KeyRecord). Puts s.args.limiter s.args.keys.now k p.put.result p.put.new.1.0) r.raised.ensures
     p.put.ensures)

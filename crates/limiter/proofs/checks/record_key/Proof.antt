@@ -11,9 +11,9 @@ raise-requires c κs =
     let s = o.before.before.before in (
       s.requires.0,
       (
-        entry-placed s.args.limiter s.args.keys.now s.requires.0 s.args.key s.args.limit s.args.reading s.args.cluster-size
+        entry-placed s.args.limiter s.args.keys.now s.requires.0 s.args.key s.args.limit s.args.reading s.args.cluster_size
             s.requires.1 _ o.entry-found.ensures,
-        entry-quota s.args.limiter s.args.keys.now s.requires.0 s.args.key s.args.limit s.args.reading s.args.cluster-size
+        entry-quota s.args.limiter s.args.keys.now s.requires.0 s.args.key s.args.limit s.args.reading s.args.cluster_size
             s.requires.1 _ o.entry-found.ensures,
       ),
     )
@@ -23,7 +23,7 @@ returns c =
     let x = c.before.before.before.before in
     let o = x.before.before.before.before in
     let s = o.before.before.before in
-    record-acts s.args.limiter s.args.keys.now s.requires.0 s.args.key s.args.limit s.args.reading s.args.cluster-size
+    record-acts s.args.limiter s.args.keys.now s.requires.0 s.args.key s.args.limit s.args.reading s.args.cluster_size
     s.requires.1 _ o.entry-found.ensures
     s.args.tally _ _ _ _ c.done.ensures refl x.raise-raised.ensures
 

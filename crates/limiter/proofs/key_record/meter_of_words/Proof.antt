@@ -5,7 +5,7 @@ use Rattle.limiter.proofs.key_record.meter_of_words.Statement.{statement}
 use Rattle.limiter.proofs.key_record.meter_of_words.Tie as tie
 
 returns : tie.Need-returns
-returns c = rw (meter-at, c.before.before.before.unpacked-quota.ensures, c.tat_of-tat.ensures)
+returns c = rw (meter-at, c.unpacked-quota.ensures, c.tat_of-tat.ensures)
 
 pub meter_of_words_spec : {M : Type 1} → statement M
 meter_of_words_spec =

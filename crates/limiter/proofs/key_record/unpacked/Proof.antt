@@ -15,17 +15,17 @@ use Rattle.limiter.specs.Steps.KeySteps.{units}
 returns : tie.Need-returns-in-Is
 unfolding quota_unpack
 returns c =
-    let o = c.before.before.before in
-    let w = o.before.args.packed in
-    given_is ((14 asks unpacks w) ∷ []) _ (unpack units w) o.unpack.ensures (sym (ap quota_answer c.before.quota.given.1))
+    let o = c.before in
+    let w = o.args.packed in
+    given_is ((14 asks unpacks w) ∷ []) _ (unpack units w) o.unpack.ensures (sym (ap quota_answer c.in-Is.is))
 
 returns-2 : tie.Need-returns-in-No
 unfolding quota_unpack passes
 returns-2 c =
-    let o = c.before.before in
-    let w = o.before.args.packed in
-    never-refused ((14 asks unpacks w) ∷ []) _ (unpack units w) (and_intro (unpacks w) true o.before.requires refl) o.unpack.ensures
-    (sym (ap quota_answer c.enum_told.given.1))
+    let o = c.before in
+    let w = o.args.packed in
+    never-refused ((14 asks unpacks w) ∷ []) _ (unpack units w) (and_intro (unpacks w) true o.requires refl) o.unpack.ensures
+    (sym (ap quota_answer c.in-No.is))
 
 pub unpacked_spec : {M : Type 1} → statement M
 unpacked_spec = tie.close (tie.spec (λ c κs. search rules) (λ c. search rules) (λ c. search rules) returns returns-2)

@@ -8,7 +8,7 @@ use Rattle.limiter.proofs.many_checks.answer_words.Statement.{statement}
 use Rattle.limiter.proofs.many_checks.answer_words.Tie as tie
 
 returns : tie.Need-returns-in-No
-returns c = sym (ap (λ (a : CheckAnswer). answer_words (check_answer a)) c.before.answer.given.1)
+returns c = sym (ap (λ (a : CheckAnswer). answer_words (check_answer a)) c.in-No.is)
 
 pub answer_words_spec : {M : Type 1} → statement M
 answer_words_spec =

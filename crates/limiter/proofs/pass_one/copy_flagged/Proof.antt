@@ -15,7 +15,7 @@ decreases-loop-i from n stays to₀ kept₀ i₀ to kept i = n - i
 loop-again : tie.Need-loop-i-preserved invariant-loop-i decreases-loop-i
 loop-again c =
     let l = c.before.before in
-    let k = l.before.loop-i.invariant in
+    let k = l.loop-i.invariant in
     ⊎_elim (λ w. copy-next _ _ _ _ _ _ _ k l.loop-i-test.true w.0.taken w.2 w.3)
     (λ w. copy-skip _ _ _ _ _ _ _ k l.loop-i-test.true w.0.left w.1 w.2) c.if-stays-i.branch
 
@@ -26,12 +26,12 @@ copy_flagged_spec =
     invariant-loop-i
     decreases-loop-i
     (λ c. copy-none _ _ _ _ c.requires.0 c.requires.1 c.requires.2)
-    (λ c. omega (arith, c.before.before.loop-i.invariant.flags))
-    (λ c. omega (arith, c.before.before.before.before.loop-i.invariant.fit))
-    (λ c. let k = c.before.before.before.before.loop-i.invariant in omega (arith, copy-behind _ _ _ _ _ _ _ k, k.room))
-    (λ c. let k = c.before.before.before.before.loop-i.invariant in omega (arith, copy-behind _ _ _ _ _ _ _ k, k.room))
+    (λ c. omega (arith, c.loop-i.invariant.flags))
+    (λ c. omega (arith, c.loop-i.invariant.fit))
+    (λ c. let k = c.loop-i.invariant in omega (arith, copy-behind _ _ _ _ _ _ _ k, k.room))
+    (λ c. let k = c.loop-i.invariant in omega (arith, copy-behind _ _ _ _ _ _ _ k, k.room))
     (λ c. omega arith)
     (λ c. omega arith)
     loop-again
-    (λ c. c.before.loop-i.invariant.long)
-    (λ c. copy-all _ _ _ _ _ _ _ c.before.loop-i.invariant c.loop-i-test.false))
+    (λ c. c.loop-i.invariant.long)
+    (λ c. copy-all _ _ _ _ _ _ _ c.loop-i.invariant c.loop-i-test.false))

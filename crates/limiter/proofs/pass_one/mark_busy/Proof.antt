@@ -20,16 +20,16 @@ abbrev start : tie.In-loop-i invariant-loop-i decreases-loop-i → tie.Start inv
 start c = c.before.before.before.before.before
 
 -- the record is within the words
-inside : (c : tie.In-loop-i invariant-loop-i decreases-loop-i) → c.before.loop-i.i * 22 + 22 ≤ length (start c).args.keys.now
-inside c = omega (arith, row 22 (start c).args.n c.before.loop-i.i c.loop-i-test.true, (start c).requires.0.fit)
+inside : (c : tie.In-loop-i invariant-loop-i decreases-loop-i) → c.loop-i.i * 22 + 22 ≤ length (start c).args.keys.now
+inside c = omega (arith, row 22 (start c).args.n c.loop-i.i c.loop-i-test.true, (start c).requires.0.fit)
 
 loop-again : tie.Need-loop-i-preserved invariant-loop-i decreases-loop-i
 loop-again c =
     let l = c.before.before.before in
     let s = start l in
     let h = l.loop-i-test.true in
-    busy-more _ _ _ _ _ _ _ _ _ l.before.loop-i.invariant s.pre.1 h c.key_stays.result _
-    (lent_is units s.args.n s.args.keys.now l.before.loop-i.i h) c.key_stays.ensures
+    busy-more _ _ _ _ _ _ _ _ _ l.loop-i.invariant s.pre.1 h c.key_stays.result _
+    (lent_is units s.args.n s.args.keys.now l.loop-i.i h) c.key_stays.ensures
 
 pub mark_busy_spec : {M : Type 1} → statement M
 mark_busy_spec =
@@ -37,7 +37,7 @@ mark_busy_spec =
     (tie.spec
     invariant-loop-i
     decreases-loop-i
-    (λ c. fill_none _ _ _ c.before.before.before.requires.2)
+    (λ c. fill_none _ _ _ c.requires.2)
     (λ c. omega (arith, inside c))
     (λ c. omega (arith, inside c))
     (λ c. omega (arith, inside c))
@@ -46,9 +46,9 @@ mark_busy_spec =
     (λ c. omega (arith, inside c))
     (λ c. omega (arith, (start c.before.before).pre.1))
     (λ c κs. let l = c.before.before in lent_again _ _ _ _ l.loop-i-test.true (start l).requires.0)
-    (λ c. omega (arith, c.before.before.before.before.loop-i.invariant.fit))
+    (λ c. omega (arith, c.loop-i.invariant.fit))
     (λ c. omega arith)
     (λ c. omega arith)
     loop-again
-    (λ c. c.before.loop-i.invariant.long)
-    (λ c. busy-all _ _ _ _ _ _ _ _ _ c.before.loop-i.invariant c.loop-i-test.false))
+    (λ c. c.loop-i.invariant.long)
+    (λ c. busy-all _ _ _ _ _ _ _ _ _ c.loop-i.invariant c.loop-i-test.false))

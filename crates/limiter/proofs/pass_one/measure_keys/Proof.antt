@@ -23,10 +23,10 @@ loop-holds c =
 
 -- the record is within the words
 inside : (c : tie.In-loop-i invariant-loop-i decreases-loop-i)
-    → c.before.loop-i.i * 22 + 22 ≤ length c.before.before.before.before.before.before.before.args.keys.now
+    → c.loop-i.i * 22 + 22 ≤ length c.args.keys.now
 inside c =
     let s = c.before.before.before.before.before.before.before in
-    omega (arith, row 22 s.args.n c.before.loop-i.i c.loop-i-test.true, s.requires.0.0)
+    omega (arith, row 22 s.args.n c.loop-i.i c.loop-i-test.true, s.requires.0.0)
 
 abbrev read : tie.After-from_bits-rate invariant-loop-i decreases-loop-i → tie.In-loop-i invariant-loop-i decreases-loop-i
 read c = c.before.before
@@ -39,7 +39,7 @@ loop-again c =
     let x = c.before.before in
     let f = first x in
     let l = read f in
-    measure-more _ _ _ _ _ _ _ _ _ _ _ _ _ _ l.before.loop-i.inv l.loop-i-test.taken f.from_bits-rate.result x.from_bits.result
+    measure-more _ _ _ _ _ _ _ _ _ _ _ _ _ _ l.loop-i.inv l.loop-i-test.taken f.from_bits-rate.result x.from_bits.result
     f.from_bits-rate.ensures x.from_bits.ensures c.is_elsewhere.result c.is_elsewhere.ensures
 
 pub measure_keys_spec : {M : Type 1} → statement M
@@ -54,21 +54,21 @@ measure_keys_spec =
     (λ c. omega (arith, inside c))
     (λ c. omega (arith, inside c.before))
     (λ c κs. search rules)
-    (λ c. omega (arith, (read c).before.loop-i.invariant.demand_rates.fit))
-    (λ c. omega (arith, (read c).before.loop-i.invariant.demand_rates.fit))
+    (λ c. omega (arith, (read c).loop-i.invariant.demand_rates.fit))
+    (λ c. omega (arith, (read c).loop-i.invariant.demand_rates.fit))
     (λ c. omega (arith, inside (read c)))
     (λ c. omega (arith, inside (read c)))
     (λ c. omega (arith, inside (read c.before)))
     (λ c κs. search rules)
-    (λ c. omega (arith, (read (first c)).before.loop-i.inv.cold_rates.fit))
-    (λ c. omega (arith, (read (first c)).before.loop-i.inv.cold_rates.fit))
-    (λ c. omega (arith, (read (first c.before)).before.loop-i.inv.told))
+    (λ c. omega (arith, (read (first c)).before.loop.inv.cold_rates.fit))
+    (λ c. omega (arith, (read (first c)).before.loop.inv.cold_rates.fit))
+    (λ c. omega (arith, (read (first c.before)).before.loop.inv.told))
     (λ c κs. search rules)
-    (λ c. omega (arith, (read (first c.before.before)).before.loop-i.inv.elsewhere_flags.fit))
+    (λ c. omega (arith, (read (first c.before.before)).before.loop.inv.elsewhere_flags.fit))
     (λ c. omega arith)
     (λ c. omega arith)
     loop-again
-    (λ c. c.before.loop-i.invariant.demand_rates.long)
-    (λ c. c.before.loop-i.invariant.cold_rates.long)
-    (λ c. c.before.loop-i.invariant.elsewhere_flags.long)
-    (λ c. measure-all _ _ _ _ _ _ _ _ _ _ _ _ _ _ c.before.loop-i.invariant c.loop-i-test.false))
+    (λ c. c.loop-i.invariant.demand_rates.long)
+    (λ c. c.loop-i.invariant.cold_rates.long)
+    (λ c. c.loop-i.invariant.elsewhere_flags.long)
+    (λ c. measure-all _ _ _ _ _ _ _ _ _ _ _ _ _ _ c.loop-i.invariant c.loop-i-test.false))

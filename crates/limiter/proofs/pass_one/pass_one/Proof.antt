@@ -35,7 +35,7 @@ held : (c : tie.After-fold_keys) → LentKeys (units_in (start c).args.limiter) 
 unfolding units_for
 held c =
     let s = start c in
-    passing-lent (par c) s.args.limiter s.args.keys.now s.args.hot.now s.args.elsewhere.now s.args.reading s.args.cluster-size
+    passing-lent (par c) s.args.limiter s.args.keys.now s.args.hot.now s.args.elsewhere.now s.args.reading s.args.cluster_size
     s.pre (reads s) _ c.fold_keys.ensures
 
 update-hot-requires : tie.Need-update_hot-entries-requires
@@ -59,7 +59,7 @@ returns c =
     let f = folded u.before in
     let s = start f in
     passes (par f) s.args.limiter s.args.keys.now s.args.hot.now s.args.elsewhere.now s.args.reading
-    s.args.cluster-size s.pre (reads s) _ f.fold_keys.ensures _ (given f).parameters_of-par.ensures
+    s.args.cluster_size s.pre (reads s) _ f.fold_keys.ensures _ (given f).parameters_of-par.ensures
     (record { keys = d.drop_idle-left.result; hot = u.update_hot-entries.result }) _ _ _ _ _ u.update_hot-entries.ensures d.drop_idle-left.ensures
 
 pub pass_one_spec : {M : Type 1} → statement M
@@ -68,7 +68,7 @@ pass_one_spec =
     tie.close
     (tie.spec
     (λ c κs. search rules)
-    (λ c κs. c.before.before.before.before.before.before.requires.keys_lent)
+    (λ c κs. c.requires.keys_lent)
     (λ c. search rules)
     (λ c. search rules)
     update-hot-requires

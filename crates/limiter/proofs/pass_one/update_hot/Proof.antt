@@ -18,27 +18,27 @@ start c = c.before.before.before.before.before.before.before
 returns : tie.Need-returns-in-Is
 unfolding parameters_for units_for
 returns c =
-    let g = c.before in
-    let u = g.before.before.before.before.before.before in
+    let g = c in
+    let u = g.before.before.before.before.before in
     let m = measured u in
     let z = sized m in
     let s = start z in
     let p = s.pre in
-    each-done s.args.silent s.args.limiter s.args.reading s.args.cluster-size s.args.keys.now s.args.hot.now s.args.elsewhere.now
+    each-done s.args.silent s.args.limiter s.args.reading s.args.cluster_size s.args.keys.now s.args.hot.now s.args.elsewhere.now
     p.0.0 p.0.1 p.1.0 _ z.u64_to_f64-size.ensures _ _ _ m.measure_keys.ensures _ p.1.2 _ _ _ u.update_each.ensures _ refl
-    g.left.given.0.0 g.left.given.1
+    g.in-Is.left g.in-Is.is
 
 returns-2 : tie.Need-returns-in-No
 unfolding units_for
 returns-2 c =
-    let u = c.before.before.before.before.before.before in
+    let u = c.before.before.before.before.before in
     let m = measured u in
     let z = sized m in
     let s = start z in
     let p = s.pre in
-    each-never s.args.silent s.args.limiter s.args.reading s.args.cluster-size s.args.keys.now s.args.hot.now s.args.elsewhere.now
+    each-never s.args.silent s.args.limiter s.args.reading s.args.cluster_size s.args.keys.now s.args.hot.now s.args.elsewhere.now
     p.0.0 p.0.1 p.1.0 _ z.u64_to_f64-size.ensures _ _ _ m.measure_keys.ensures _ p.1.2 _ _ _ u.update_each.ensures _ refl _
-    c.enum_told.given.1
+    c.in-No.is
 
 pub update_hot_spec : {M : Type 1} → statement M
 update_hot_spec =

@@ -8,7 +8,7 @@ use Rattle.limiter.proofs.pass_two.cold_rate.Tie as tie
 returns : tie.Need-returns-then-not-elsewhere
 returns c =
     let u = c.before.before.before.before in
-    cold_is _ _ _ u.u64_to_f64-size.result c.min.result u.u64_to_f64-size.ensures (c.before.if-not-elsewhere.true) c.min.ensures
+    cold_is _ _ _ u.u64_to_f64-size.result c.min.result u.u64_to_f64-size.ensures (c.if-not-elsewhere.true) c.min.ensures
 
 returns-2 : tie.Need-returns
 returns-2 c =

@@ -38,16 +38,16 @@ loop-holds c =
 -- record i is within the words
 inside :
     (c : tie.In-loop-i invariant-loop-i decreases-loop-i)
-    → (c.before.loop-i.i * 22 + 22 ≤ length c.before.loop-i.keys) × (length c.before.loop-i.keys ≡ length (start c.before).args.keys.now)
+    → (c.loop-i.i * 22 + 22 ≤ length c.loop-i.keys) × (length c.loop-i.keys ≡ length (start c.before).args.keys.now)
 inside c =
-    let k = c.before.loop-i.invariant in
+    let k = c.loop-i.invariant in
     (map-inside _ _ _ _ _ _ k c.loop-i-test.true, map-long _ _ _ _ _ _ k)
 
 set-key-quota-requires : tie.Need-set_key_quota-requires invariant-loop-i decreases-loop-i
 set-key-quota-requires c κs =
     let t = c.before.before in
     let s = start t.before in
-    (lent_key _ _ _ _ _ _ t.before.loop-i.invariant s.pre.0 t.loop-i-test.true, s.pre.1, s.pre.3, s.pre.4)
+    (lent_key _ _ _ _ _ _ t.loop-i.invariant s.pre.0 t.loop-i-test.true, s.pre.1, s.pre.3, s.pre.4)
 
 loop-again : tie.Need-loop-i-preserved invariant-loop-i decreases-loop-i
 loop-again c =
@@ -55,7 +55,7 @@ loop-again c =
     let t = f.before.before.before in
     let s = start t.before in
     let a = s.args in
-    let l = t.before.loop-i in
+    let l = t.loop-i in
     let h = t.loop-i-test.true in
     let es = entries a.h a.hot.now in
     map_next _ _ _ _ _ _ l.invariant h _ _ refl
@@ -82,5 +82,5 @@ set_quotas_spec =
     (λ c. omega arith)
     (λ c. omega arith)
     loop-again
-    (λ c. map-long _ _ _ _ _ _ c.before.loop-i.invariant)
-    (λ c. map-all _ _ _ _ _ _ c.before.loop-i.invariant c.loop-i-test.false))
+    (λ c. map-long _ _ _ _ _ _ c.loop-i.invariant)
+    (λ c. map-all _ _ _ _ _ _ c.loop-i.invariant c.loop-i-test.false))

@@ -5,19 +5,19 @@ use Rattle.limiter.proofs.pass_two.share_of.Statement.{statement}
 use Rattle.limiter.proofs.pass_two.share_of.Tie as tie
 
 returns : tie.Need-returns-then-terms
-returns c = share-even _ _ _ _ c.u64_to_f64.result c.before.if-terms.true c.u64_to_f64.ensures
+returns c = share-even _ _ _ _ c.u64_to_f64.result c.if-terms.true c.u64_to_f64.ensures
 
 returns-2 : tie.Need-returns-in-Is
 returns-2 c =
-    let w = c.before in
-    let a = w.before.before in
-    share-by _ _ _ _ _ a.before.if-terms.false (share-given _ a.share.result _ a.share.ensures w.share.given.1)
+    let w = c in
+    let a = w.before in
+    share-by _ _ _ _ _ a.if-terms.false (share-given _ a.share.result _ a.share.ensures w.in-Is.is)
 
 returns-3 : tie.Need-returns-in-No
 returns-3 c =
-    let a = c.before.before in
+    let a = c.before in
     let s = a.before.before in
-    absurd (share-never _ a.share.result _ a.share.ensures c.enum_told.given.1 s.requires.0 s.requires.1.floor s.requires.1.size)
+    absurd (share-never _ a.share.result _ a.share.ensures c.in-No.is s.requires.0 s.requires.1.floor s.requires.1.size)
 
 pub share_of_spec : {M : Type 1} → statement M
 share_of_spec =

@@ -16,32 +16,32 @@ use Rattle.limiter.proofs.readers.find_key.Tie as tie
 abbrev start : tie.After-find → tie.Start
 start f = f.before.before
 
-found : (c : tie.In-At) → let s = start c.before.before.before in At c.before.place.given.0.0 ≡ find_in 22 1 s.args.limiter.keys s.args.key 0 s.args.keys.now
-found c = sym c.before.place.given.1 ∙ c.before.before.before.find.ensures
+found : (c : tie.In-At) → let s = start c.before in At c.in-At.place ≡ find_in 22 1 s.args.limiter.keys s.args.key 0 s.args.keys.now
+found c = sym c.in-At.is ∙ c.find.ensures
 
-readable : (c : tie.In-At) → Readable (c.before.place.given.0.0 * 22) (start c.before.before.before).args.keys.now
+readable : (c : tie.In-At) → Readable (c.in-At.place * 22) (start c.before).args.keys.now
 readable c =
-    let s = start c.before.before.before in
-    readable-found s.args.limiter s.args.keys.now s.pre s.args.key c.before.place.given.0.0 (found c)
+    let s = start c.before in
+    readable-found s.args.limiter s.args.keys.now s.pre s.args.key c.in-At.place (found c)
 
 returns : tie.Need-returns-in-At
 unfolding units_for
 returns c =
     let k = c.before in
-    let s = start k.before.before.before in
+    let s = start k.before in
     ap some c.of_words.ensures ∙ sym (ap first (those-key s.args.limiter s.args.keys.now s.pre s.args.key _ (found k)))
 
 returns-2 : tie.Need-returns-in-Gap
 returns-2 c =
-    let f = c.before.before in
+    let f = c.before in
     let s = start f in
-    sym (ap first (no_key s.args.limiter s.args.keys.now s.pre s.args.key _ (sym c.enum_told.given.1 ∙ f.find.ensures)))
+    sym (ap first (no_key s.args.limiter s.args.keys.now s.pre s.args.key _ (sym c.in-Gap.is ∙ f.find.ensures)))
 
 returns-3 : tie.Need-returns-in-Unfit
 returns-3 c =
-    let f = c.before.before in
+    let f = c.before in
     let s = start f in
-    never-unfit-key s.args.limiter s.args.keys.now s.pre s.args.key (sym c.enum-told2.given.1 ∙ f.find.ensures)
+    never-unfit-key s.args.limiter s.args.keys.now s.pre s.args.key (sym c.in-Unfit.is ∙ f.find.ensures)
 
 pub find_key_spec : {M : Type 1} → statement M
 find_key_spec =

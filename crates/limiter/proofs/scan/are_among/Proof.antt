@@ -18,10 +18,10 @@ abbrev start : tie.In-loop-i invariant-loop-i decreases-loop-i → tie.Start inv
 start l = l.before.before.before.before
 
 -- the record of a turn, and the key that is found for it, are within their tables
-inside : (l : tie.In-loop-i invariant-loop-i decreases-loop-i) → let s = (start l).args in l.before.loop-i.i * s.w + s.w ≤ length s.t.now
-inside l = let s = start l in omega (arith, row s.args.w s.args.n l.before.loop-i.i l.loop-i-test.true, s.pre.1)
+inside : (l : tie.In-loop-i invariant-loop-i decreases-loop-i) → let s = (start l).args in l.loop-i.i * s.w + s.w ≤ length s.t.now
+inside l = let s = start l in omega (arith, row s.args.w s.args.n l.loop-i.i l.loop-i-test.true, s.pre.1)
 
-key-inside : (c : tie.Else-m-j invariant-loop-i decreases-loop-i) → c.before.seek-j.result * 22 + 22 ≤ length (start c.before.before.before).args.keys.now
+key-inside : (c : tie.Else-m-j invariant-loop-i decreases-loop-i) → c.seek-j.result * 22 + 22 ≤ length (start c.before.before.before).args.keys.now
 key-inside c = omega (arith, c.if-m-j.false, (start c.before.before.before).pre.2)
 
 loop-holds : tie.Need-loop-i-init invariant-loop-i decreases-loop-i
@@ -44,7 +44,7 @@ returns c =
     let k = c.before in
     let l = k.before.before in
     let s = start l in
-    merge-out s.args.w s.args.n s.args.m s.args.t.now s.args.keys.now l.before.loop-i.i l.before.loop-i.j s.pre.0 l.before.loop-i.invariant l.loop-i-test.true k.seek-j.result k.seek-j.ensures c.if-m-j.true
+    merge-out s.args.w s.args.n s.args.m s.args.t.now s.args.keys.now l.loop-i.i l.loop-i.j s.pre.0 l.loop-i.invariant l.loop-i-test.true k.seek-j.result k.seek-j.ensures c.if-m-j.true
 
 mul-if2 : tie.Need-overflow_mul-j invariant-loop-i decreases-loop-i
 mul-if2 c = omega (arith, key-inside c)
@@ -61,16 +61,16 @@ returns-2 c =
     let k = e.before in
     let l = k.before.before in
     let s = start l in
-    merge-other s.args.w s.args.n s.args.m s.args.t.now s.args.keys.now l.before.loop-i.i l.before.loop-i.j s.pre.0 l.before.loop-i.invariant l.loop-i-test.true k.seek-j.result k.seek-j.ensures e.if-m-j.false c.if-keys-j.true
+    merge-other s.args.w s.args.n s.args.m s.args.t.now s.args.keys.now l.loop-i.i l.loop-i.j s.pre.0 l.loop-i.invariant l.loop-i-test.true k.seek-j.result k.seek-j.ensures e.if-m-j.false c.if-keys-j.true
 
 add-i : tie.Need-overflow_add-i invariant-loop-i decreases-loop-i
-add-i c = omega (arith, c.before.before.before.before.before.loop-i-test.true)
+add-i c = omega (arith, c.loop-i-test.true)
 
 add-j : tie.Need-overflow_add-j invariant-loop-i decreases-loop-i
-add-j c = omega (arith, c.before.before.if-m-j.false)
+add-j c = omega (arith, c.if-m-j.false)
 
 loop-less : tie.Need-loop-i-smaller invariant-loop-i decreases-loop-i
-loop-less c = omega (arith, c.before.before.before.before.before.loop-i-test.true)
+loop-less c = omega (arith, c.loop-i-test.true)
 
 loop-again : tie.Need-loop-i-preserved invariant-loop-i decreases-loop-i
 loop-again c =
@@ -78,12 +78,12 @@ loop-again c =
     let k = e.before in
     let l = k.before.before in
     let s = start l in
-    merge-next s.args.w s.args.n s.args.m s.args.t.now s.args.keys.now l.before.loop-i.i l.before.loop-i.j s.pre.0 l.before.loop-i.invariant l.loop-i-test.true k.seek-j.result k.seek-j.ensures e.if-m-j.false c.if-keys-j.false
+    merge-next s.args.w s.args.n s.args.m s.args.t.now s.args.keys.now l.loop-i.i l.loop-i.j s.pre.0 l.loop-i.invariant l.loop-i-test.true k.seek-j.result k.seek-j.ensures e.if-m-j.false c.if-keys-j.false
 
 returns-3 : tie.Need-returns invariant-loop-i decreases-loop-i
 returns-3 c =
     let s = c.before.before.before.before in
-    merge-ends s.args.w s.args.n s.args.m s.args.t.now s.args.keys.now c.before.loop-i.i c.before.loop-i.j s.requires.0 c.before.loop-i.invariant c.loop-i-test.false
+    merge-ends s.args.w s.args.n s.args.m s.args.t.now s.args.keys.now c.loop-i.i c.loop-i.j s.requires.0 c.loop-i.invariant c.loop-i-test.false
 
 pub are_among_spec : {M : Type 1} → statement M
 are_among_spec =

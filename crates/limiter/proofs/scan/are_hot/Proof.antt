@@ -13,22 +13,22 @@ use Rattle.limiter.proofs.scan.are_hot.Statement.{statement}
 use Rattle.limiter.proofs.scan.are_hot.Tie as tie
 
 -- what the call tells
-told : (c : tie.After-are_valid) → let s = c.before.before.before.before.args in c.are_valid.result ≡ are_records are_entry_words (records 6 s.n s.t.now)
+told : (c : tie.After-are_valid) → let s = c.args in c.are_valid.result ≡ are_records are_entry_words (records 6 s.n s.t.now)
 told c =
     let s = c.before.before.before.before in
     c.are_valid.ensures
-    ∙ entries-told s.args.n s.args.t.now (omega (arith, c.before.if-size-n.false, s.requires.1))
-    (all_words s.args.t.now (λ i. omega (arith, c.before.before.before.shared_slice_known-1.given i)))
+    ∙ entries-told s.args.n s.args.t.now (omega (arith, c.if-size-n.false, s.requires.1))
+    (all_words s.args.t.now (λ i. omega (arith, c.shared_slice_known-1.given i)))
 
 returns : tie.Need-returns-then-size-n
 returns c =
-    let s = c.before.before.before.args in
+    let s = c.args in
     too_many are_entry_words 6 s.n s.size s.m s.t.now s.keys.now c.if-size-n.true
 
 returns-2 : tie.Need-returns-then-not-are_valid
 returns-2 c =
     let few = c.before.before in
-    let s = few.before.before.before.args in
+    let s = few.args in
     not-records are_entry_words 6 s.n s.size s.m s.t.now s.keys.now few.if-size-n.false (told-no (told c.before) c.if-not-are_valid.true)
 
 are-among-requires : tie.Need-are_among-requires

@@ -7,15 +7,15 @@ use Rattle.limiter.proofs.scan.are_keys.Tie as tie
 use Rattle.limiter.specs.Steps.KeySteps.{units}
 
 returns : tie.Need-returns-then-size-n
-returns c = let s = c.before.before.args in too-many-keys units s.size s.n s.t.now c.if-size-n.true
+returns c = let s = c.args in too-many-keys units s.size s.n s.t.now c.if-size-n.true
 
 are-records-requires : tie.Need-are_records-requires
-are-records-requires c κs = ((omega arith, λ h. refl), omega (arith, c.if-size-n.false, c.before.before.requires))
+are-records-requires c κs = ((omega arith, λ h. refl), omega (arith, c.if-size-n.false, c.requires))
 
 returns-2 : tie.Need-returns
 returns-2 c =
     let e = c.before in
-    let s = e.before.before.args in
+    let s = e.args in
     c.are_records.ensures ∙ few_keys units s.size s.n s.t.now e.if-size-n.false
 
 pub are_keys_spec : {M : Type 1} → statement M

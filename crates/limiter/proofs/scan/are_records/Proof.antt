@@ -24,8 +24,8 @@ abbrev start : tie.In-loop-i invariant-loop-i decreases-loop-i → tie.Start inv
 start l = l.before.before.before
 
 -- the record of a turn is within the table
-inside : (l : tie.In-loop-i invariant-loop-i decreases-loop-i) → let s = (start l).args in l.before.loop-i.i * s.w + s.w ≤ length s.t.now
-inside l = omega (arith, row (start l).args.w (start l).args.n l.before.loop-i.i l.loop-i-test.true, (start l).requires.1)
+inside : (l : tie.In-loop-i invariant-loop-i decreases-loop-i) → let s = (start l).args in l.loop-i.i * s.w + s.w ≤ length s.t.now
+inside l = omega (arith, row (start l).args.w (start l).args.n l.loop-i.i l.loop-i-test.true, (start l).requires.1)
 
 some : (l : tie.In-loop-i invariant-loop-i decreases-loop-i) → 1 ≤ (start l).args.w
 some l = omega (arith, (start l).requires.0.0)
@@ -43,7 +43,7 @@ returns : tie.Need-returns-then-not-follows invariant-loop-i decreases-loop-i
 returns c =
     let l = c.before.before in
     let s = start l in
-    scan-order (are_words units) s.args.w s.args.n s.args.t.now (some l) s.pre.1 l.before.loop-i.i l.loop-i-test.true (told-no c.before.follows.ensures c.if-not-follows.true)
+    scan-order (are_words units) s.args.w s.args.n s.args.t.now (some l) s.pre.1 l.loop-i.i l.loop-i-test.true (told-no c.follows.ensures c.if-not-follows.true)
 
 add-is-record : tie.Need-overflow_add-at invariant-loop-i decreases-loop-i
 add-is-record c = omega (arith, inside c.before.before)
@@ -58,23 +58,23 @@ part-is-record-end : tie.Need-slice_bounds-is_record-end invariant-loop-i decrea
 part-is-record-end c = omega (arith, inside c.before.before)
 
 -- the lent words are those of the turn's record
-lent : (l : tie.In-loop-i invariant-loop-i decreases-loop-i) → let s = (start l).args in let i = l.before.loop-i.i in take (i * s.w + s.w - i * s.w) (drop (i * s.w) s.t.now) ≡ get_or (records s.w s.n s.t.now) i []
-lent l = let s = (start l).args in lent-record s.w s.n s.t.now l.before.loop-i.i l.loop-i-test.true
+lent : (l : tie.In-loop-i invariant-loop-i decreases-loop-i) → let s = (start l).args in let i = l.loop-i.i in take (i * s.w + s.w - i * s.w) (drop (i * s.w) s.t.now) ≡ get_or (records s.w s.n s.t.now) i []
+lent l = let s = (start l).args in lent-record s.w s.n s.t.now l.loop-i.i l.loop-i-test.true
 
 is-record-requires : tie.Need-is_record-requires invariant-loop-i decreases-loop-i
 is-record-requires c κs =
     let l = c.before.before.before in
     let s = start l in
-    rw (ap length (lent l) ∙ record-length s.args.w s.args.n s.args.t.now l.before.loop-i.i l.loop-i-test.true s.pre.1) s.pre.0
+    rw (ap length (lent l) ∙ record-length s.args.w s.args.n s.args.t.now l.loop-i.i l.loop-i-test.true s.pre.1) s.pre.0
 
-record-told : (c : tie.After-is_record invariant-loop-i decreases-loop-i) → let l = c.before.before.before.before in let s = (start l).args in c.is_record.result ≡ are_words units (get_or (records s.w s.n s.t.now) l.before.loop-i.i [])
+record-told : (c : tie.After-is_record invariant-loop-i decreases-loop-i) → let l = c.before.before.before.before in let s = (start l).args in c.is_record.result ≡ are_words units (get_or (records s.w s.n s.t.now) l.loop-i.i [])
 record-told c = c.is_record.ensures ∙ ap (are_words units) (lent c.before.before.before.before)
 
 returns-2 : tie.Need-returns-then-not-is_record invariant-loop-i decreases-loop-i
 returns-2 c =
     let l = c.before.before.before.before.before in
     let s = start l in
-    scan-record (are_words units) s.args.w s.args.n s.args.t.now (some l) s.pre.1 l.before.loop-i.i l.loop-i-test.true (told-no (record-told c.before) c.if-not-is_record.true)
+    scan-record (are_words units) s.args.w s.args.n s.args.t.now (some l) s.pre.1 l.loop-i.i l.loop-i-test.true (told-no (record-told c.before) c.if-not-is_record.true)
 
 add-i : tie.Need-overflow_add-i invariant-loop-i decreases-loop-i
 add-i c = let l = c.before.before.before.before.before in omega (arith, l.loop-i-test.true)
@@ -87,12 +87,12 @@ loop-again c =
     let e = c.before.before.before in
     let l = e.before.before in
     let s = start l in
-    scan_step (are_words units) s.args.w s.args.n s.args.t.now l.before.loop-i.i l.before.loop-i.invariant l.loop-i-test.true (told-yes e.before.follows.ensures e.if-not-follows.false) (told-yes (record-told c.before) c.if-not-is_record.false)
+    scan_step (are_words units) s.args.w s.args.n s.args.t.now l.loop-i.i l.loop-i.invariant l.loop-i-test.true (told-yes e.follows.ensures e.if-not-follows.false) (told-yes (record-told c.before) c.if-not-is_record.false)
 
 returns-3 : tie.Need-returns invariant-loop-i decreases-loop-i
 returns-3 c =
     let s = c.before.before.before in
-    scan-done (are_words units) s.args.w s.args.n s.args.t.now (omega (arith, s.requires.0.0)) s.requires.1 c.before.loop-i.i c.before.loop-i.invariant c.loop-i-test.false
+    scan-done (are_words units) s.args.w s.args.n s.args.t.now (omega (arith, s.requires.0.0)) s.requires.1 c.loop-i.i c.loop-i.invariant c.loop-i-test.false
 
 pub are_records_spec : {M : Type 1} → statement M
 are_records_spec =

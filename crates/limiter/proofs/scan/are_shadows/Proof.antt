@@ -10,17 +10,17 @@ use Rattle.limiter.proofs.scan.are_shadows.Tie as tie
 
 returns : tie.Need-returns-then-size-n
 returns c =
-    let s = c.before.before.before.args in
+    let s = c.args in
     too_many (are_words units) 4 s.n s.size s.m s.t.now s.keys.now c.if-size-n.true
 
 are-records-requires : tie.Need-are_records-requires
-are-records-requires c κs = ((omega arith, λ h. absurd (h refl)), omega (arith, c.if-size-n.false, c.before.before.before.requires.1))
+are-records-requires c κs = ((omega arith, λ h. absurd (h refl)), omega (arith, c.if-size-n.false, c.requires.1))
 
 returns-2 : tie.Need-returns-then-not-are_records
 returns-2 c =
     let few = c.before.before in
-    let s = few.before.before.before.args in
-    not-records (are_words units) 4 s.n s.size s.m s.t.now s.keys.now few.if-size-n.false (told-no c.before.are_records.ensures c.if-not-are_records.true)
+    let s = few.args in
+    not-records (are_words units) 4 s.n s.size s.m s.t.now s.keys.now few.if-size-n.false (told-no c.are_records.ensures c.if-not-are_records.true)
 
 are-among-requires : tie.Need-are_among-requires
 are-among-requires c κs =
@@ -33,7 +33,7 @@ returns-3 c =
     let e = c.before in
     let few = e.before.before in
     let s = few.before.before.before in
-    c.are_among.ensures ∙ by-merge (are_words units) 4 s.args.n s.args.size s.args.m s.args.t.now s.args.keys.now few.if-size-n.false (omega arith) (omega (arith, few.if-size-n.false, s.requires.1)) s.requires.0 (told-yes e.before.are_records.ensures e.if-not-are_records.false)
+    c.are_among.ensures ∙ by-merge (are_words units) 4 s.args.n s.args.size s.args.m s.args.t.now s.args.keys.now few.if-size-n.false (omega arith) (omega (arith, few.if-size-n.false, s.requires.1)) s.requires.0 (told-yes e.are_records.ensures e.if-not-are_records.false)
 
 pub are_shadows_spec : {M : Type 1} → statement M
 are_shadows_spec =

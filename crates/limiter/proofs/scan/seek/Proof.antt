@@ -17,7 +17,7 @@ abbrev start : tie.In-loop-j invariant-loop-j decreases-loop-j → tie.Start inv
 start l = l.before.before
 
 -- the key of a turn is within the table
-inside : (l : tie.In-loop-j invariant-loop-j decreases-loop-j) → l.before.loop-j.j * 22 + 22 ≤ length (start l).args.keys.now
+inside : (l : tie.In-loop-j invariant-loop-j decreases-loop-j) → l.loop-j.j * 22 + 22 ≤ length (start l).args.keys.now
 inside l = omega (arith, l.loop-j-test.true, (start l).requires)
 
 loop-holds : tie.Need-loop-j-init invariant-loop-j decreases-loop-j
@@ -36,24 +36,24 @@ returns : tie.Need-returns-then-id-keys invariant-loop-j decreases-loop-j
 returns c =
     let l = c.before.before in
     let s = (start l).args in
-    seek-stops s.m s.id s.from s.keys.now l.before.loop-j.j l.before.loop-j.invariant l.loop-j-test.true c.if-id-keys.true
+    seek-stops s.m s.id s.from s.keys.now l.loop-j.j l.loop-j.invariant l.loop-j-test.true c.if-id-keys.true
 
 add-j : tie.Need-overflow_add-j invariant-loop-j decreases-loop-j
-add-j c = omega (arith, c.before.before.loop-j-test.true)
+add-j c = omega (arith, c.loop-j-test.true)
 
 loop-less : tie.Need-loop-j-smaller invariant-loop-j decreases-loop-j
-loop-less c = omega (arith, c.before.before.loop-j-test.true)
+loop-less c = omega (arith, c.loop-j-test.true)
 
 loop-again : tie.Need-loop-j-preserved invariant-loop-j decreases-loop-j
 loop-again c =
     let l = c.before.before in
     let s = (start l).args in
-    seek-next s.m s.id s.from s.keys.now l.before.loop-j.j l.before.loop-j.invariant l.loop-j-test.true c.if-id-keys.false
+    seek-next s.m s.id s.from s.keys.now l.loop-j.j l.loop-j.invariant l.loop-j-test.true c.if-id-keys.false
 
 returns-2 : tie.Need-returns invariant-loop-j decreases-loop-j
 returns-2 c =
-    let s = c.before.before.args in
-    seek-ends s.m s.id s.from s.keys.now c.before.loop-j.j c.before.loop-j.invariant c.loop-j-test.false
+    let s = c.args in
+    seek-ends s.m s.id s.from s.keys.now c.loop-j.j c.loop-j.invariant c.loop-j-test.false
 
 pub seek_spec : {M : Type 1} → statement M
 seek_spec =

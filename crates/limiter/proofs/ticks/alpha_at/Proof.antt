@@ -12,7 +12,7 @@ returns c = let s = c.before.before in s.requires ∙ ap (λ (e : ℕ). alpha_of
 
 returns-2 : tie.Need-returns
 returns-2 c =
-    let s = c.before.before.before.args in
+    let s = c.args in
     ap (λ (x : Float). record { elapsed = s.elapsed; time_constant = s.known.time_constant; value = x }) c.alpha.ensures
 
 pub alpha_at_spec : {M : Type 1} → statement M

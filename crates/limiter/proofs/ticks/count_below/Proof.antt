@@ -20,14 +20,14 @@ loop-holds c = (c.requires, omega arith, omega arith, omega arith)
 
 loop-again : tie.Need-loop-i-preserved invariant-loop-i decreases-loop-i
 loop-again c =
-    let l = c.before.before.before.loop-i in
-    let t = c.before.before.loop-i-test.true in
+    let l = c.loop-i in
+    let t = c.loop-i-test.true in
     let k = l.invariant in
     ⊎_elim (λ w. (k.0, omega arith, omega arith, omega (arith, count-more _ _ k.0 _ _ _ t k.3 w.0.taken)))
     (λ w. (k.0, omega arith, omega arith, omega (arith, count_same _ _ k.0 _ _ _ t k.3 w.0.left))) c.if-ranks-i.branch
 
 returns : tie.Need-returns invariant-loop-i decreases-loop-i
-returns c = let k = c.before.loop-i.invariant in count-all _ _ k.0 _ _ _ k.1 c.loop-i-test.false k.3
+returns c = let k = c.loop-i.invariant in count-all _ _ k.0 _ _ _ k.1 c.loop-i-test.false k.3
 
 pub count_below_spec : {M : Type 1} → statement M
 count_below_spec =

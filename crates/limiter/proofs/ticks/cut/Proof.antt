@@ -18,13 +18,13 @@ loop-holds c = cut-start _ _
 loop-again : tie.Need-loop-low-preserved-then-count_below-most invariant-loop-low decreases-loop-low
 loop-again c =
     let b = c.before in
-    let l = b.before.before.loop-low in
+    let l = b.loop-low in
     cut_up _ _ _ _ _ l.invariant (omega arith) (omega (arith, b.count_below.ensures))
 
 loop-again-2 : tie.Need-loop-low-preserved invariant-loop-low decreases-loop-low
 loop-again-2 c =
     let b = c.before in
-    let l = b.before.before.loop-low in
+    let l = b.loop-low in
     cut_down _ _ _ _ _ l.invariant (omega arith) (omega arith) (omega (arith, b.count_below.ensures))
 
 pub cut_spec : {M : Type 1} → statement M
@@ -42,4 +42,4 @@ cut_spec =
     loop-again
     (λ c. omega arith)
     loop-again-2
-    (λ c. cut-done _ _ _ _ c.before.loop-low.invariant c.loop-low-test.false))
+    (λ c. cut-done _ _ _ _ c.loop-low.invariant c.loop-low-test.false))

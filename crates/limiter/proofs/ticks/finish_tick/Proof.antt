@@ -18,9 +18,9 @@ enforce-cap-requires c κs =
     let s = start k in
     let a = s.args in
     let m = k.before.before in (
-      quotas-lent a.limiter a.keys.now a.n a.hot.now a.h a.shadows.now a.elsewhere.now a.totals.now a.cluster-size
+      quotas-lent a.limiter a.keys.now a.n a.hot.now a.h a.shadows.now a.elsewhere.now a.totals.now a.cluster_size
           a.even a.reading s.pre _
-          (set-as a.limiter a.keys.now a.n a.hot.now a.h a.shadows.now a.elsewhere.now a.totals.now a.cluster-size
+          (set-as a.limiter a.keys.now a.n a.hot.now a.h a.shadows.now a.elsewhere.now a.totals.now a.cluster_size
           a.even a.reading s.pre _ m.cap_or_none.result m.cap_or_none.ensures k.set_quotas.ensures),
       s.pre.hot_lent,
       s.pre.keys_few,
@@ -35,9 +35,9 @@ keep-tracked-requires c κs =
     let a = s.args in
     let m = k.before.before in (
       s.pre.shadows_fit,
-      cap-lent a.limiter a.keys.now a.n a.hot.now a.h a.shadows.now a.elsewhere.now a.totals.now a.cluster-size
+      cap-lent a.limiter a.keys.now a.n a.hot.now a.h a.shadows.now a.elsewhere.now a.totals.now a.cluster_size
           a.even a.reading s.pre _
-          (set-as a.limiter a.keys.now a.n a.hot.now a.h a.shadows.now a.elsewhere.now a.totals.now a.cluster-size
+          (set-as a.limiter a.keys.now a.n a.hot.now a.h a.shadows.now a.elsewhere.now a.totals.now a.cluster_size
           a.even a.reading s.pre _ m.cap_or_none.result m.cap_or_none.ensures k.set_quotas.ensures)
           e.enforce_cap-left.result _ e.enforce_cap-left.ensures,
       s.pre.shadows_few,
@@ -52,9 +52,9 @@ returns c =
     let s = start k in
     let a = s.args in
     let m = k.before.before in
-    finished a.limiter a.keys.now a.n a.hot.now a.h a.shadows.now a.elsewhere.now a.totals.now a.cluster-size
+    finished a.limiter a.keys.now a.n a.hot.now a.h a.shadows.now a.elsewhere.now a.totals.now a.cluster_size
     a.even a.reading s.pre _
-    (set-as a.limiter a.keys.now a.n a.hot.now a.h a.shadows.now a.elsewhere.now a.totals.now a.cluster-size
+    (set-as a.limiter a.keys.now a.n a.hot.now a.h a.shadows.now a.elsewhere.now a.totals.now a.cluster_size
     a.even a.reading s.pre _ m.cap_or_none.result m.cap_or_none.ensures k.set_quotas.ensures)
     e.enforce_cap-left.result _ e.enforce_cap-left.ensures t.keep_tracked-tracked.result _ t.keep_tracked-tracked.ensures
 

@@ -23,10 +23,10 @@ abbrev demand : tie.Start → Estimate
 demand s = folded s.args.time_constant s.args.reading (key s).demand
 
 abbrev requests : tie.Start → Estimate
-requests s = folded s.args.denial-time-constant s.args.reading (key s).requests
+requests s = folded s.args.denial_time_constant s.args.reading (key s).requests
 
 abbrev denials : tie.Start → Estimate
-denials s = folded s.args.denial-time-constant s.args.reading (key s).denials
+denials s = folded s.args.denial_time_constant s.args.reading (key s).denials
 
 -- the words after each call
 first : (c : tie.After-fold_estimate-demand) → let s = start c.before in c.fold_estimate-demand.new.0 ≡ key_words units (with_estimates (key s) (demand s) (key s).requests (key s).denials (key s).shadow_denials)
@@ -41,7 +41,7 @@ second : (c : tie.After-fold_estimate-requests) → let s = start (one c.before)
 second c =
     let f = one c.before in
     let s = start f.before in
-    folded-7 units (key s) (demand s) (key s).requests (key s).denials (key s).shadow_denials _ (first f) (good s).requests _ _ s.args.denial-time-constant s.args.reading s.pre.1.denials_for c.fold_estimate-requests.ensures.1
+    folded-7 units (key s) (demand s) (key s).requests (key s).denials (key s).shadow_denials _ (first f) (good s).requests _ _ s.args.denial_time_constant s.args.reading s.pre.1.denials_for c.fold_estimate-requests.ensures.1
 
 abbrev two : tie.After-fold_estimate-arg-3-1 → tie.After-fold_estimate-requests
 two c = c.before.before.before
@@ -50,7 +50,7 @@ third : (c : tie.After-fold_estimate-denials) → let s = start (one (two c.befo
 third c =
     let f = two c.before in
     let s = start (one f.before).before in
-    folded-11 units (key s) (demand s) (requests s) (key s).denials (key s).shadow_denials _ (second f) (good s).denials _ _ s.args.denial-time-constant s.args.reading (f.fold_estimate-requests.ensures.0.0 ∙ s.pre.1.denials_for) c.fold_estimate-denials.ensures.1
+    folded-11 units (key s) (demand s) (requests s) (key s).denials (key s).shadow_denials _ (second f) (good s).denials _ _ s.args.denial_time_constant s.args.reading (f.fold_estimate-requests.ensures.0.0 ∙ s.pre.1.denials_for) c.fold_estimate-denials.ensures.1
 
 abbrev three : tie.After-fold_estimate-arg-4-1 → tie.After-fold_estimate-denials
 three c = c.before.before.before
@@ -96,7 +96,7 @@ returns c =
         denials_for = for;
         denials = h.fold_estimate-shadow_denials.ensures.0.1;
       },
-      folded-15 units (key s) (demand s) (requests s) (denials s) (key s).shadow_denials _ (third g) (good s).shadow_denials _ _ s.args.denial-time-constant s.args.reading
+      folded-15 units (key s) (demand s) (requests s) (denials s) (key s).shadow_denials _ (third g) (good s).shadow_denials _ _ s.args.denial_time_constant s.args.reading
           (g.fold_estimate-denials.ensures.0.0 ∙ f.fold_estimate-requests.ensures.0.0 ∙ s.pre.1.denials_for) h.fold_estimate-shadow_denials.ensures.1,
     )
 

@@ -26,14 +26,14 @@ loop-holds : tie.Need-loop-i-init invariant-loop-i decreases-loop-i
 loop-holds c =
     let s = c.before.before.before in
     let a = s.args in (
-      map-none 22 a.n _ a.keys.now (folded-wide units a.time_constant a.denial-time-constant a.reading a.n a.keys.now) (folded-many units a.time_constant a.denial-time-constant a.reading a.n a.keys.now) s.requires.fit,
-      first-alphas s.args.time_constant s.args.denial-time-constant _ _ c.before.first_alpha.ensures c.first_alpha-2.ensures,
+      map-none 22 a.n _ a.keys.now (folded-wide units a.time_constant a.denial_time_constant a.reading a.n a.keys.now) (folded-many units a.time_constant a.denial_time_constant a.reading a.n a.keys.now) s.requires.fit,
+      first-alphas s.args.time_constant s.args.denial_time_constant _ _ c.first_alpha.ensures c.first_alpha-2.ensures,
     )
 
 -- record i is within the words
-inside : (c : tie.In-loop-i invariant-loop-i decreases-loop-i) → (c.before.loop-i.i * 22 + 22 ≤ length c.before.loop-i.keys) × (length c.before.loop-i.keys ≡ length (start c.before).args.keys.now)
+inside : (c : tie.In-loop-i invariant-loop-i decreases-loop-i) → (c.loop-i.i * 22 + 22 ≤ length c.loop-i.keys) × (length c.loop-i.keys ≡ length (start c.before).args.keys.now)
 inside c =
-    let k = c.before.loop-i.invariant.0 in
+    let k = c.loop-i.invariant.0 in
     (map-inside _ _ _ _ _ _ k c.loop-i-test.true, map-long _ _ _ _ _ _ k)
 
 loop-again : tie.Need-loop-i-preserved invariant-loop-i decreases-loop-i
@@ -41,8 +41,8 @@ loop-again c =
     let f = c.before.before in
     let t = f.before.before in
     let s = start t.before in
-    let k = t.before.loop-i.invariant.0 in
-    (map_next _ _ _ _ _ _ k t.loop-i-test.true _ _ refl (f.fold_key-known.ensures.1 ∙ ap (folded_row units s.args.time_constant s.args.denial-time-constant s.args.reading) (map-here _ _ _ _ _ _ k t.loop-i-test.true) ∙ folded-at units s.args.time_constant s.args.denial-time-constant s.args.reading s.args.n s.args.keys.now t.before.loop-i.i t.loop-i-test.true), f.fold_key-known.ensures.0)
+    let k = t.loop-i.invariant.0 in
+    (map_next _ _ _ _ _ _ k t.loop-i-test.true _ _ refl (f.fold_key-known.ensures.1 ∙ ap (folded_row units s.args.time_constant s.args.denial_time_constant s.args.reading) (map-here _ _ _ _ _ _ k t.loop-i-test.true) ∙ folded-at units s.args.time_constant s.args.denial_time_constant s.args.reading s.args.n s.args.keys.now t.loop-i.i t.loop-i-test.true), f.fold_key-known.ensures.0)
 
 pub fold_keys_spec : {M : Type 1} → statement M
 fold_keys_spec =
@@ -59,9 +59,9 @@ fold_keys_spec =
     (λ c. omega (arith, inside c))
     (λ c. omega (arith, inside c))
     (λ c. omega (arith, inside c))
-    (λ c κs. let l = c.before.before.loop-i in (lent_key _ _ _ _ _ _ l.invariant.0 (start c.before.before).pre c.before.loop-i-test.true, l.invariant.1))
+    (λ c κs. let l = c.loop-i in (lent_key _ _ _ _ _ _ l.invariant.0 (start c.before.before).pre c.loop-i-test.true, l.invariant.1))
     (λ c. omega arith)
     (λ c. omega arith)
     loop-again
-    (λ c. map-long _ _ _ _ _ _ c.before.loop-i.invariant.0)
-    (λ c. map-all _ _ _ _ _ _ c.before.loop-i.invariant.0 c.loop-i-test.false))
+    (λ c. map-long _ _ _ _ _ _ c.loop-i.invariant.0)
+    (λ c. map-all _ _ _ _ _ _ c.loop-i.invariant.0 c.loop-i-test.false))

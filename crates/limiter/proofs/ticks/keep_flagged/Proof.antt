@@ -20,25 +20,25 @@ loop-holds c = let s = c.before.before in flag-none _ _ _ _ (omega (arith, s.req
 
 -- where record i and those kept stand
 inside : (c : tie.In-loop-i invariant-loop-i decreases-loop-i) →
-    let l = c.before.loop-i in
-    let s = c.before.before.before.before.args in
+    let l = c.loop-i in
+    let s = c.args in
     (l.auto ≤ l.i) × (l.auto * s.w ≤ l.i * s.w) × (l.i * s.w + s.w ≤ length l.t) × (length l.t ≡ length s.t.now)
 inside c =
-    let k = c.before.loop-i.invariant in
+    let k = c.loop-i.invariant in
     let h = flag-inside _ _ _ _ _ _ _ k c.loop-i-test.true in
     (h.0, h.1, h.2, flag-long _ _ _ _ _ _ _ k)
 
 loop-again : tie.Need-loop-i-preserved invariant-loop-i decreases-loop-i
 loop-again c =
     let l = c.before.before in
-    ⊎_elim (λ w. flag-copy _ _ _ _ _ _ _ l.before.loop-i.invariant l.loop-i-test.true w.0.taken (w.5 ∙ w.2.ensures.1) w.6)
-    (λ w. flag-skip _ _ _ _ _ _ _ l.before.loop-i.invariant l.loop-i-test.true w.0.left w.1 w.2) c.if-stays-i.branch
+    ⊎_elim (λ w. flag-copy _ _ _ _ _ _ _ l.loop-i.invariant l.loop-i-test.true w.0.taken (w.5 ∙ w.2.ensures.1) w.6)
+    (λ w. flag-skip _ _ _ _ _ _ _ l.loop-i.invariant l.loop-i-test.true w.0.left w.1 w.2) c.if-stays-i.branch
 
 same_length : tie.Need-shape_of-t invariant-loop-i decreases-loop-i
-same_length c = flag-long _ _ _ _ _ _ _ c.before.loop-i.invariant
+same_length c = flag-long _ _ _ _ _ _ _ c.loop-i.invariant
 
 returns : tie.Need-returns invariant-loop-i decreases-loop-i
-returns c = flag-all _ _ _ _ _ _ _ c.before.loop-i.invariant c.loop-i-test.false
+returns c = flag-all _ _ _ _ _ _ _ c.loop-i.invariant c.loop-i-test.false
 
 pub keep_flagged_spec : {M : Type 1} → statement M
 keep_flagged_spec =
@@ -47,7 +47,7 @@ keep_flagged_spec =
     invariant-loop-i
     decreases-loop-i
     loop-holds
-    (λ c. omega (arith, c.before.before.loop-i.invariant.flags))
+    (λ c. omega (arith, c.loop-i.invariant.flags))
     (λ c. omega (arith, inside c.before.before))
     (λ c. omega (arith, inside c.before.before.before))
     (λ c. omega (arith, inside c.before.before.before))

@@ -11,7 +11,7 @@ returns : tie.Need-returns
 returns c =
     let k = c.before.before in
     let m = k.before.before.before.before in
-    let s = m.before.before.before.before.before.args in
+    let s = m.args in
     kept_by 4 s.m (λ x. is_tracked (key_records units s.n s.keys.now) (shadow_key units x)) _ _ _ _ m.mark_tracked.ensures k.keep_flagged.ensures
 
 pub keep_tracked_spec : {M : Type 1} → statement M

@@ -29,7 +29,7 @@ returns-2 : tie.Need-returns
 returns-2 c =
     let e = c.before.before.before.before in
     let s = start e.before in
-    c.rate_place.ensures ∙ rank-cold units s.args.n s.args.keys.now s.args.i s.pre.2 s.args.time_constant _ (sym e.before.is_hot.ensures ∙ e.if-is_hot.false)
+    c.rate_place.ensures ∙ rank-cold units s.args.n s.args.keys.now s.args.i s.pre.2 s.args.time_constant _ (sym e.is_hot.ensures ∙ e.if-is_hot.false)
 
 pub key_rank_spec : {M : Type 1} → statement M
 key_rank_spec =
@@ -38,7 +38,7 @@ key_rank_spec =
     (λ c. omega (arith, inside c.before.before))
     (λ c. omega (arith, inside c.before.before))
     (λ c. omega (arith, inside c.before.before.before))
-    (λ c κs. c.before.before.before.requires.1)
+    (λ c κs. c.requires.1)
     returns
     (λ c. omega (arith, inside (start c.before)))
     (λ c. omega (arith, inside (start c.before)))

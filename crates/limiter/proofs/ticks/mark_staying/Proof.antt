@@ -15,13 +15,13 @@ abbrev decreases-loop-i : tie.decreases-loop-i
 decreases-loop-i ranks n limit room stays₀ left₀ i₀ stays left i = n - i
 
 loop-holds : tie.Need-loop-i-init invariant-loop-i decreases-loop-i
-loop-holds c = let p = c.before.before.requires in (p.0, fill_none _ _ _ p.1)
+loop-holds c = let p = c.requires in (p.0, fill_none _ _ _ p.1)
 
 loop-again : tie.Need-loop-i-preserved invariant-loop-i decreases-loop-i
 loop-again c =
     let g = c.before in
     let t = g.before.before in
-    let k = t.before.loop-i.invariant in
+    let k = t.loop-i.invariant in
     (k.0, mark-more _ _ k.0 _ _ _ _ _ _ _ g.goes.result k.1 t.loop-i-test.true g.goes.ensures c.Room-after.ensures)
 
 pub mark_staying_spec : {M : Type 1} → statement M
@@ -32,12 +32,12 @@ mark_staying_spec =
     decreases-loop-i
     loop-holds
     (λ c. omega arith)
-    (λ c. omega (arith, c.before.before.loop-i.invariant.0))
+    (λ c. omega (arith, c.loop-i.invariant.0))
     (λ c κs. search rules)
-    (λ c. omega (arith, c.before.before.before.loop-i.invariant.1.fit))
+    (λ c. omega (arith, c.loop-i.invariant.1.fit))
     (λ c κs. search rules)
     (λ c. omega arith)
     (λ c. omega arith)
     loop-again
-    (λ c. c.before.loop-i.invariant.1.long)
-    (λ c. let k = c.before.loop-i.invariant in mark-all _ _ k.0 _ _ _ _ _ _ k.1 c.loop-i-test.false))
+    (λ c. c.loop-i.invariant.1.long)
+    (λ c. let k = c.loop-i.invariant in mark-all _ _ k.0 _ _ _ _ _ _ k.1 c.loop-i-test.false))

@@ -30,16 +30,16 @@ abbrev start : tie.In-loop-i invariant-loop-i decreases-loop-i → tie.Start inv
 start c = c.before.before.before.before.before
 
 -- the record is within the words
-inside : (c : tie.In-loop-i invariant-loop-i decreases-loop-i) → c.before.loop-i.i * 4 + 4 ≤ length (start c).args.shadows.now
-inside c = omega (arith, row 4 (start c).args.m c.before.loop-i.i c.loop-i-test.true, (start c).requires.0)
+inside : (c : tie.In-loop-i invariant-loop-i decreases-loop-i) → c.loop-i.i * 4 + 4 ≤ length (start c).args.shadows.now
+inside c = omega (arith, row 4 (start c).args.m c.loop-i.i c.loop-i-test.true, (start c).requires.0)
 
 loop-holds : tie.Need-loop-i-init invariant-loop-i decreases-loop-i
-loop-holds c = fill_none _ _ _ c.before.before.before.requires.2
+loop-holds c = fill_none _ _ _ c.requires.2
 
 loop-again : tie.Need-loop-i-preserved invariant-loop-i decreases-loop-i
 loop-again c =
     let t = c.before.before in
-    let l = t.before.loop-i in
+    let l = t.loop-i in
     let a = (start t).args in
     let h = t.loop-i-test.true in
     fill_more c.is_tracked.result _ l.invariant h
@@ -48,8 +48,8 @@ loop-again c =
 
 returns : tie.Need-returns invariant-loop-i decreases-loop-i
 returns c =
-    let l = c.before.loop-i in
-    let a = c.before.before.before.before.before.args in
+    let l = c.loop-i in
+    let a = c.args in
     fill-all l.invariant c.loop-i-test.false (rows-done 4 (test a.n a.keys.now) a.m a.shadows.now l.i l.invariant.within c.loop-i-test.false)
 
 pub mark_tracked_spec : {M : Type 1} → statement M
@@ -63,9 +63,9 @@ mark_tracked_spec =
     (λ c. omega (arith, inside c))
     (λ c. omega (arith, inside c.before))
     (λ c κs. (start c.before).pre.1)
-    (λ c. omega (arith, c.before.before.before.loop-i.invariant.fit))
+    (λ c. omega (arith, c.loop-i.invariant.fit))
     (λ c. omega arith)
     (λ c. omega arith)
     loop-again
-    (λ c. c.before.loop-i.invariant.long)
+    (λ c. c.loop-i.invariant.long)
     returns)

@@ -24,20 +24,20 @@ abbrev decreases-loop-i : tie.decreases-loop-i
 decreases-loop-i keys n hot h time_constant ranks₀ i₀ ranks i = n - i
 
 loop-holds : tie.Need-loop-i-init invariant-loop-i decreases-loop-i
-loop-holds c = fill_none _ _ _ c.before.before.before.requires.2
+loop-holds c = fill_none _ _ _ c.requires.2
 
 loop-again : tie.Need-loop-i-preserved invariant-loop-i decreases-loop-i
 loop-again c =
     let t = c.before in
-    let l = t.before.loop-i in
-    let a = t.before.before.before.before.before.args in
+    let l = t.loop-i in
+    let a = t.args in
     fill_more c.key_rank.result _ l.invariant t.loop-i-test.true
     (rows-from 22 (rank a.h a.hot.now a.time_constant) a.n a.keys.now l.i t.loop-i-test.true c.key_rank.result c.key_rank.ensures)
 
 returns : tie.Need-returns invariant-loop-i decreases-loop-i
 returns c =
-    let l = c.before.loop-i in
-    let a = c.before.before.before.before.before.args in
+    let l = c.loop-i in
+    let a = c.args in
     fill-all l.invariant c.loop-i-test.false (rows-done 22 (rank a.h a.hot.now a.time_constant) a.n a.keys.now l.i l.invariant.within c.loop-i-test.false)
 
 pub rank_keys_spec : {M : Type 1} → statement M
@@ -48,10 +48,10 @@ rank_keys_spec =
     decreases-loop-i
     loop-holds
     (λ c κs. let s = c.before.before.before.before.before in (s.requires.0, s.requires.1, c.loop-i-test.true))
-    (λ c. omega (arith, c.before.before.loop-i.invariant.fit))
-    (λ c. omega (arith, c.before.before.loop-i.invariant.fit))
+    (λ c. omega (arith, c.loop-i.invariant.fit))
+    (λ c. omega (arith, c.loop-i.invariant.fit))
     (λ c. omega arith)
     (λ c. omega arith)
     loop-again
-    (λ c. c.before.loop-i.invariant.long)
+    (λ c. c.loop-i.invariant.long)
     returns)

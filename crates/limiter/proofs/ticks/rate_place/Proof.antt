@@ -13,17 +13,17 @@ returns : tie.Need-returns-in-Is
 returns c =
     let b = c.before in
     let k = b.before in
-    let u = k.before in
-    let a = u.before.before in
-    let s = a.before.before.args in
+    let u = k in
+    let a = u.before in
+    let s = a.args in
     c.total_place.ensures
-    ∙ ap place (b.to_bits.ensures ∙ ap float_word (rate-given _ _ u.unbiased.given.0.0 a.unbiased_rate.ensures u.unbiased.given.1 ∙ rate-of s.time_constant s.rate s.last-tick s.since _ a.before.from_bits.ensures))
+    ∙ ap place (b.to_bits.ensures ∙ ap float_word (rate-given _ _ u.in-Is.unbiased a.unbiased_rate.ensures u.in-Is.is ∙ rate-of s.time_constant s.rate s.last-tick s.since _ a.from_bits.ensures))
 
 returns-2 : tie.Need-returns-in-No
 returns-2 c =
-    let a = c.before.before in
-    let s = a.before.before.args in
-    absurd (rate-never (record { current_rate = a.before.from_bits.result; attempts_since_tick = 0; times = At s.last-tick s.since; time_constant = s.time_constant }) _ _ a.unbiased_rate.ensures c.enum_told.given.1 (ap magnitude a.before.from_bits.ensures ∙ a.before.before.requires))
+    let a = c.before in
+    let s = a.args in
+    absurd (rate-never (record { current_rate = a.from_bits.result; attempts_since_tick = 0; times = At s.last-tick s.since; time_constant = s.time_constant }) _ _ a.unbiased_rate.ensures c.in-No.is (ap magnitude a.from_bits.ensures ∙ a.requires))
 
 pub rate_place_spec : {M : Type 1} → statement M
 rate_place_spec =

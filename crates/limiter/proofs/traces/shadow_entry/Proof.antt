@@ -16,15 +16,15 @@ use Rattle.limiter.proofs.traces.shadow_entry.Statement.{statement}
 use Rattle.limiter.proofs.traces.shadow_entry.Tie as tie
 
 abbrev start : tie.In-At → tie.Start
-start c = c.before.before.before.before.before
+start c = c.before.before.before
 
 found : (c : tie.In-At)
-    → At c.before.place.given.0.0 ≡ find_in 4 1 (start c).args.n (start c).args.key 0 (start c).args.shadows.now
-found c = sym c.before.place.given.1 ∙ c.before.before.before.find.ensures
+    → At c.in-At.place ≡ find_in 4 1 (start c).args.n (start c).args.key 0 (start c).args.shadows.now
+found c = sym c.in-At.is ∙ c.find.ensures
 
-within : (c : tie.In-At) → c.before.place.given.0.0 * 4 + 4 ≤ length (start c).args.shadows.now
+within : (c : tie.In-At) → c.in-At.place * 4 + 4 ≤ length (start c).args.shadows.now
 within c = let s = start c in
-    (found-shadow units units-accepted s.args.n s.args.shadows.now s.pre.0 s.args.key c.before.place.given.0.0 (found c)).1
+    (found-shadow units units-accepted s.args.n s.args.shadows.now s.pre.0 s.args.key c.in-At.place (found c)).1
 
 mul-meter-of-words : tie.Need-overflow_mul-place
 mul-meter-of-words c = omega (arith, within c)
@@ -35,14 +35,14 @@ add-meter-of-words c = omega (arith, within c)
 meter-of-words-requires : tie.Need-meter_of_words-known-requires
 meter-of-words-requires c κs =
     let s = start c in
-    (omega (arith, within c), found_word units units-accepted s.args.n s.args.shadows.now s.pre.0 s.args.key c.before.place.given.0.0 (found c))
+    (omega (arith, within c), found_word units units-accepted s.args.n s.args.shadows.now s.pre.0 s.args.key c.in-At.place (found c))
 
 under-quota-requires : tie.Need-under_quota-requires
 under-quota-requires c κs =
     let k = c.before in
     let s = start k in (
       ap (λ (g : Gcra). valid_quota units g.quota) c.meter_of_words-known.ensures
-          ∙ found-quota units units-accepted s.args.n s.args.shadows.now s.pre.0 s.args.key k.before.place.given.0.0 (found k),
+          ∙ found-quota units units-accepted s.args.n s.args.shadows.now s.pre.0 s.args.key k.in-At.place (found k),
       s.pre.1,
     )
 
@@ -51,30 +51,30 @@ returns c =
     let k = c.before.before in
     let s = start k in
     record {
-      meter = c.under_quota.ensures ∙ ap (λ (g : Gcra). set_quota g s.args.wanted s.args.reading) c.before.meter_of_words-known.ensures
-          ∙ meter-found units units-accepted s.args.n s.args.shadows.now s.pre.0 s.args.key k.before.place.given.0.0 (found k) s.args.wanted
+      meter = c.under_quota.ensures ∙ ap (λ (g : Gcra). set_quota g s.args.wanted s.args.reading) c.meter_of_words-known.ensures
+          ∙ meter-found units units-accepted s.args.n s.args.shadows.now s.pre.0 s.args.key k.in-At.place (found k) s.args.wanted
           s.args.reading;
       place = found k;
     }
 
 returns-2 : tie.Need-returns-in-Gap
 returns-2 c =
-    let g = c.before in
-    let f = g.before.before in
+    let g = c in
+    let f = g.before in
     let s = f.before.before in
-    let e = sym g.place2.given.1 ∙ f.find.ensures in
+    let e = sym g.in-Gap.is ∙ f.find.ensures in
     record {
       meter =
-          meter-fresh units units-accepted s.args.n s.args.shadows.now s.requires.0 s.args.key g.place2.given.0.0 e s.args.wanted
+          meter-fresh units units-accepted s.args.n s.args.shadows.now s.requires.0 s.args.key g.in-Gap.place e s.args.wanted
           s.args.reading;
       place = e;
     }
 
 returns-3 : tie.Need-returns-in-Unfit
 returns-3 c =
-    let f = c.before.before in
+    let f = c.before in
     let s = f.before.before in
-    never-unfit-shadow units units-accepted s.args.n s.args.shadows.now s.requires.0 s.args.key (sym c.enum_told.given.1 ∙ f.find.ensures)
+    never-unfit-shadow units units-accepted s.args.n s.args.shadows.now s.requires.0 s.args.key (sym c.in-Unfit.is ∙ f.find.ensures)
 
 pub shadow_entry_spec : {M : Type 1} → statement M
 shadow_entry_spec =

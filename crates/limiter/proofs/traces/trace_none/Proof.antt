@@ -15,28 +15,28 @@ use Rattle.limiter.proofs.traces.trace_none.Tie as tie
 
 -- the key of the call
 abbrev found : tie.Start → KeyRecord
-found s = entry (units_in s.args.limiter) (keys_only s.args.limiter s.args.keys.now) s.args.key s.args.limit s.args.reading s.args.cluster-size
+found s = entry (units_in s.args.limiter) (keys_only s.args.limiter s.args.keys.now) s.args.key s.args.limit s.args.reading s.args.cluster_size
 
 returns : tie.Need-returns-in-No
 returns c =
-    let o = c.before.before.before.before.before.before in
+    let o = c.before.before.before.before in
     let s = o.before.before.before.before in
     let h = o.check_key-checked.ensures in
     traces-no s.args.limiter s.args.keys.now s.args.shadows.now s.args.key s.args.reading (found s) none
     (decision (found s).gcra s.args.reading)
-    c.before.answer.given.0.0 _ _ (sym (ap check_answer c.before.answer.given.1) ∙ h.says) h.limiter h.words
+    c.in-No.no _ _ (sym (ap check_answer c.in-No.is) ∙ h.says) h.limiter h.words
 
 returns-2 : tie.Need-returns-in-Is
 unfolding units_for
 returns-2 c =
     let d = c.before.before.before in
-    let i = d.before.before.before in
-    let o = i.before.before.before.before.before in
+    let i = d.before.before in
+    let o = i.before.before.before.before in
     let s = o.before.before.before.before in
     let h = o.check_key-checked.ensures in
     let p = given-passed
     (traced_asks s.args.limiter s.args.keys.now s.args.shadows.now s.args.key s.args.reading (found s) none) _ _
-    (sym (ap check_answer i.answer2.given.1) ∙ h.says) in
+    (sym (ap check_answer i.in-Is.is) ∙ h.says) in
     traces-yes s.args.limiter s.args.keys.now s.args.shadows.now s.args.key s.args.reading (found s) none p.0
     _ _ _ _ _ _ _ p.1 refl h.limiter h.words d.drop_shadow-count.ensures c.with_shadows.ensures
 

@@ -16,14 +16,14 @@ use Rattle.limiter.proofs.traces.trace_with.Tie as tie
 use Rattle.limiter.proofs.States.StateValidLaws.{units-of-accepted}
 
 -- the key's quota is valid
-quota : (o : tie.After-entry-found) → valid_quota (units_in o.before.before.before.before.args.limiter) o.entry-found.result.state.gcra.quota ≡ true
+quota : (o : tie.After-entry-found) → valid_quota (units_in o.args.limiter) o.entry-found.result.state.gcra.quota ≡ true
 quota o =
     let s = o.before.before.before.before in
-    entry-quota s.args.limiter s.args.keys.now s.requires.0 s.args.key s.args.limit s.args.reading s.args.cluster-size
+    entry-quota s.args.limiter s.args.keys.now s.requires.0 s.args.key s.args.limit s.args.reading s.args.cluster_size
     s.requires.1.1.0.0 _ o.entry-found.ensures
 
 -- so is the shadow's
-wanted : (w : tie.After-shadow_quota-wanted) → let o = w.before.before.before.before.before in valid_quota (units_in o.before.before.before.before.args.limiter) w.shadow_quota-wanted.result ≡ true
+wanted : (w : tie.After-shadow_quota-wanted) → let o = w.before.before.before.before.before in valid_quota (units_in o.args.limiter) w.shadow_quota-wanted.result ≡ true
 unfolding shadow_quota units_for
 wanted w =
     let o = w.before.before.before.before.before in
@@ -55,7 +55,7 @@ raise-requires c κs =
     let s = o.before.before.before.before in (
       s.requires.0,
       (
-        entry-placed s.args.limiter s.args.keys.now s.requires.0 s.args.key s.args.limit s.args.reading s.args.cluster-size
+        entry-placed s.args.limiter s.args.keys.now s.requires.0 s.args.key s.args.limit s.args.reading s.args.cluster_size
             s.requires.1.1.0.0 _ o.entry-found.ensures,
         ap (λ (g : Gcra). valid_quota (units_in s.args.limiter) g.quota) m.ask_meter-asked.ensures.1
             ∙ ap (valid_quota (units_in s.args.limiter)) (check-quota o.entry-found.result.state.gcra s.args.reading) ∙ quota o,
@@ -74,7 +74,7 @@ returns c =
     let o = m.before.before.before in
     let s = o.before.before.before.before in
     with-no s.args.limiter s.args.keys.now s.args.shadows.now s.args.key s.args.limit s.args.shadow s.args.reading
-    s.args.cluster-size o.entry-found.result o.entry-found.ensures
+    s.args.cluster_size o.entry-found.result o.entry-found.ensures
     m.ask_meter-asked.result.decision m.ask_meter-asked.result.gcra w.shadow_quota-wanted.result t.try_shadow-tried.result d₁.denied-denials.result
     d₂.denied-tried_denials.result x.raise-raised.result x.raise-raised.new.1.0
     m.ask_meter-asked.ensures.0 m.ask_meter-asked.ensures.1 w.shadow_quota-wanted.ensures t.try_shadow-tried.ensures d₁.denied-denials.ensures
@@ -97,11 +97,11 @@ put-shadow-requires c κs =
         (
           t.try_shadow-tried.ensures.quota,
           with-room s.args.limiter s.args.keys.now s.args.shadows.now s.args.key s.args.limit s.args.shadow
-              s.args.reading s.args.cluster-size o.entry-found.result o.entry-found.ensures
+              s.args.reading s.args.cluster_size o.entry-found.result o.entry-found.ensures
               m.ask_meter-asked.result.decision m.ask_meter-asked.result.gcra w.shadow_quota-wanted.result t.try_shadow-tried.result d₁.denied-denials.result
               d₂.denied-tried_denials.result x.raise-raised.result x.raise-raised.new.1.0
               m.ask_meter-asked.ensures.0 m.ask_meter-asked.ensures.1 w.shadow_quota-wanted.ensures t.try_shadow-tried.ensures d₁.denied-denials.ensures
-              d₂.denied-tried_denials.ensures x.raise-raised.ensures s.requires.1.1.1 c.before.if-raised-ne0.false,
+              d₂.denied-tried_denials.ensures x.raise-raised.ensures s.requires.1.1.1 c.if-raised-ne0.false,
         ),
       ),
     )
@@ -120,7 +120,7 @@ returns-2 c =
     let o = m.before.before.before in
     let s = o.before.before.before.before in
     with-yes s.args.limiter s.args.keys.now s.args.shadows.now s.args.key s.args.limit s.args.shadow s.args.reading
-    s.args.cluster-size o.entry-found.result o.entry-found.ensures
+    s.args.cluster_size o.entry-found.result o.entry-found.ensures
     m.ask_meter-asked.result.decision m.ask_meter-asked.result.gcra w.shadow_quota-wanted.result t.try_shadow-tried.result d₁.denied-denials.result
     d₂.denied-tried_denials.result x.raise-raised.result x.raise-raised.new.1.0
     m.ask_meter-asked.ensures.0 m.ask_meter-asked.ensures.1 w.shadow_quota-wanted.ensures t.try_shadow-tried.ensures d₁.denied-denials.ensures

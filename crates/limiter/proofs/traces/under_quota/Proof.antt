@@ -24,7 +24,7 @@ asked g q v w =
 returns : tie.Need-returns
 returns c =
     let s = c.before.before in
-    c.before.set_quota-set.ensures.left
+    c.set_quota-set.ensures.left
     ∙ sym (changed-passed (set_quota s.args.gcra s.args.wanted s.args.reading) s.args.gcra
     (ask_quotas s.args.gcra s.args.wanted) (asked s.args.gcra s.args.wanted s.requires.0 s.requires.1))
 

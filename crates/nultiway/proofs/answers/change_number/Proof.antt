@@ -8,10 +8,10 @@ use Rattle.nultiway.proofs.answers.change_number.Statement.{statement}
 use Rattle.nultiway.proofs.answers.change_number.Tie as tie
 
 returns : tie.Need-returns-in-No
-returns c = sym (ap (λ (x : ChangeAnswer). number_of (change_answer x)) c.before.said.given.1)
+returns c = sym (ap (λ (x : ChangeAnswer). number_of (change_answer x)) c.in-No.is)
 
 returns-2 : tie.Need-returns-in-Done
-returns-2 c = sym (ap (λ (x : ChangeAnswer). number_of (change_answer x)) c.enum_told.given.1)
+returns-2 c = sym (ap (λ (x : ChangeAnswer). number_of (change_answer x)) c.in-Done.is)
 
 pub change_number_spec : {M : Type 1} → statement M
 change_number_spec =

@@ -6,11 +6,11 @@ use Rattle.nultiway.proofs.answers.config_words.Tie as tie
 
 returns : tie.Need-returns
 returns c =
-    let g = c.before.before.before.before.before.args.config in
+    let g = c.args.config in
     λ i.
-    c.before.before.before.to_bits.ensures i
+    c.to_bits.ensures i
     ∷ g.limit.burst
-    ∷ c.before.to_bits-2.ensures i
+    ∷ c.to_bits-2.ensures i
     ∷ c.to_bits-3.ensures i
     ∷ g.cooldown
     ∷ g.hot_set_size

@@ -7,7 +7,7 @@ use Rattle.nultiway.proofs.answers.decision_words.Statement.{statement}
 use Rattle.nultiway.proofs.answers.decision_words.Tie as tie
 
 returns-2 : tie.Need-returns-in-Deny
-returns-2 c = sym (ap (λ (x : Decision). decision_words x) c.before.decision.given.1)
+returns-2 c = sym (ap (λ (x : Decision). decision_words x) c.in-Deny.is)
 
 pub decision_words_spec : {M : Type 1} → statement M
 decision_words_spec = tie.close (tie.spec (λ c. search rules) (λ c. search rules) (λ c. search rules) returns-2)

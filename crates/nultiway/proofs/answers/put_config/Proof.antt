@@ -15,10 +15,10 @@ returns-2 : tie.Need-returns-in-Is
 returns-2 c =
     let p = c.before.before in
     let w = p.before.before.before in
-    let m = w.before.before in
-    let s = m.before.before.before in
+    let m = w.before in
+    let s = m.before.before in
     said_put (config_answer s.args.said) config_words s.args.to.now _ _
-    (ap (λ (x : ConfigAnswer). config_answer x) m.said2.given.1)
+    (ap (λ (x : ConfigAnswer). config_answer x) m.in-Is.is)
     (p.put.ensures ∙ ap (λ (k : List ℕ). paste 0 k s.args.to.now) w.config_words-w.ensures)
 
 pub put_config_spec : {M : Type 1} → statement M

@@ -15,9 +15,9 @@ returns-2 : tie.Need-returns-in-Is
 returns-2 c =
     let p = c.before.before in
     let w = p.before.before.before in
-    let m = w.before.before in
-    let s = m.before.before.before in
-    said_put (check_answer s.args.said) decision_words s.args.to.now _ _ (ap (λ (x : CheckAnswer). check_answer x) m.said2.given.1)
+    let m = w.before in
+    let s = m.before.before in
+    said_put (check_answer s.args.said) decision_words s.args.to.now _ _ (ap (λ (x : CheckAnswer). check_answer x) m.in-Is.is)
     (p.put.ensures ∙ ap (λ (k : List ℕ). paste 0 k s.args.to.now) w.decision_words-w.ensures)
 
 pub put_decision_spec : {M : Type 1} → statement M

@@ -12,18 +12,18 @@ returns-2 : tie.Need-returns-in-Untracked
 returns-2 c =
     let p = c.before.before in
     let m = p.before.before.before in
-    let s = m.before.before.before in
+    let s = m.before.before in
     said_put (key_quota_answer s.args.said) key_quota_words s.args.to.now _ _
-    (ap (λ (x : KeyQuotaAnswer). key_quota_answer x) m.enum_told.given.1)
+    (ap (λ (x : KeyQuotaAnswer). key_quota_answer x) m.in-Untracked.is)
     p.put.ensures
 
 returns-3 : tie.Need-returns-in-Is
 returns-3 c =
     let p = c.before.before in
-    let m = p.before.before.before.before.before in
-    let s = m.before.before.before in
+    let m = p.before.before.before.before in
+    let s = m.before.before in
     said_put (key_quota_answer s.args.said) key_quota_words s.args.to.now _ _
-    (ap (λ (x : KeyQuotaAnswer). key_quota_answer x) m.said2.given.1)
+    (ap (λ (x : KeyQuotaAnswer). key_quota_answer x) m.in-Is.is)
     p.put-in-Is.ensures
 
 pub put_key_quota_spec : {M : Type 1} → statement M

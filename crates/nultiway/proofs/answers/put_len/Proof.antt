@@ -11,9 +11,9 @@ use Rattle.nultiway.proofs.answers.put_len.Tie as tie
 returns-2 : tie.Need-returns-in-Is
 returns-2 c =
     let p = c.before.before in
-    let m = p.before.before.before.before in
-    let s = m.before.before.before in
-    said_put (len_answer s.args.said) one_word s.args.to.now _ _ (ap (λ (x : LenAnswer). len_answer x) m.said2.given.1) p.put.ensures
+    let m = p.before.before.before in
+    let s = m.before.before in
+    said_put (len_answer s.args.said) one_word s.args.to.now _ _ (ap (λ (x : LenAnswer). len_answer x) m.in-Is.is) p.put.ensures
 
 pub put_len_spec : {M : Type 1} → statement M
 put_len_spec =

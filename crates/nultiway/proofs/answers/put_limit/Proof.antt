@@ -15,20 +15,20 @@ returns-2 : tie.Need-returns-in-Untracked
 returns-2 c =
     let p = c.before.before in
     let m = p.before.before.before in
-    let s = m.before.before.before in
+    let s = m.before.before in
     said_put (limit_answer s.args.said) limit_words s.args.to.now _ _
-    (ap (λ (x : LimitAnswer). limit_answer x) m.enum_told.given.1)
+    (ap (λ (x : LimitAnswer). limit_answer x) m.in-Untracked.is)
     p.put.ensures
 
 returns-3 : tie.Need-returns-in-Is
 returns-3 c =
     let p = c.before.before in
     let w = p.before.before.before.before in
-    let m = w.before.before in
-    let s = m.before.before.before in
+    let m = w.before in
+    let s = m.before.before in
     said_put (limit_answer s.args.said) limit_words s.args.to.now _ _
-    (ap (λ (x : LimitAnswer). limit_answer x) m.said2.given.1)
-    (p.put-in-Is.ensures ∙ ap (λ (b : ℕ). paste 0 (1 ∷ b ∷ m.said2.given.0.0.burst ∷ []) s.args.to.now) w.to_bits.ensures)
+    (ap (λ (x : LimitAnswer). limit_answer x) m.in-Is.is)
+    (p.put-in-Is.ensures ∙ ap (λ (b : ℕ). paste 0 (1 ∷ b ∷ m.in-Is.limit.burst ∷ []) s.args.to.now) w.to_bits.ensures)
 
 pub put_limit_spec : {M : Type 1} → statement M
 put_limit_spec =

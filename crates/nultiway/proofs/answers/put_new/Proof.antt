@@ -11,9 +11,9 @@ use Rattle.nultiway.proofs.answers.put_new.Tie as tie
 returns-2 : tie.Need-returns-in-Is
 returns-2 c =
     let p = c.before.before in
-    let m = p.before.before.before in
-    let s = m.before.before.before in
-    said_put (limiter_answer s.args.said) limiter_words s.args.to.now _ _ (ap (λ (x : LimiterAnswer). limiter_answer x) m.said2.given.1)
+    let m = p.before.before in
+    let s = m.before.before in
+    said_put (limiter_answer s.args.said) limiter_words s.args.to.now _ _ (ap (λ (x : LimiterAnswer). limiter_answer x) m.in-Is.is)
     p.put_limiter.ensures
 
 pub put_new_spec : {M : Type 1} → statement M

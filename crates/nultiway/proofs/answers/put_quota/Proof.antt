@@ -11,10 +11,10 @@ use Rattle.nultiway.proofs.answers.put_quota.Tie as tie
 returns-2 : tie.Need-returns-in-Is
 returns-2 c =
     let p = c.before.before in
-    let m = p.before.before.before.before.before in
-    let s = m.before.before.before in
+    let m = p.before.before.before.before in
+    let s = m.before.before in
     said_put (quota_answer s.args.said) quota_words s.args.to.now _ _
-    (ap (λ (x : QuotaAnswer). quota_answer x) m.said2.given.1)
+    (ap (λ (x : QuotaAnswer). quota_answer x) m.in-Is.is)
     p.put.ensures
 
 pub put_quota_spec : {M : Type 1} → statement M

@@ -15,19 +15,19 @@ returns-2 : tie.Need-returns-in-Untracked
 returns-2 c =
     let p = c.before.before in
     let m = p.before.before.before in
-    let s = m.before.before.before in
+    let s = m.before.before in
     said_put (rates_answer s.args.said) rates_words s.args.to.now _ _
-    (ap (λ (x : RatesAnswer). rates_answer x) m.enum_told.given.1)
+    (ap (λ (x : RatesAnswer). rates_answer x) m.in-Untracked.is)
     p.put.ensures
 
 returns-3 : tie.Need-returns-in-Is
 returns-3 c =
     let p = c.before.before in
     let w = p.before.before.before in
-    let m = w.before.before in
-    let s = m.before.before.before in
+    let m = w.before in
+    let s = m.before.before in
     said_put (rates_answer s.args.said) rates_words s.args.to.now _ _
-    (ap (λ (x : RatesAnswer). rates_answer x) m.said2.given.1)
+    (ap (λ (x : RatesAnswer). rates_answer x) m.in-Is.is)
     (p.put-in-Is.ensures ∙ ap (λ (k : List ℕ). paste 0 k s.args.to.now) w.rates_words-w.ensures)
 
 pub put_rates_spec : {M : Type 1} → statement M

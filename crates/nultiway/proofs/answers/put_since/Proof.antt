@@ -12,18 +12,18 @@ returns-2 : tie.Need-returns-in-NotHot
 returns-2 c =
     let p = c.before.before in
     let m = p.before.before.before in
-    let s = m.before.before.before in
+    let s = m.before.before in
     said_put (since_answer s.args.said) time_words s.args.to.now _ _
-    (ap (λ (x : SinceAnswer). since_answer x) m.enum_told.given.1)
+    (ap (λ (x : SinceAnswer). since_answer x) m.in-NotHot.is)
     p.put.ensures
 
 returns-3 : tie.Need-returns-in-Since
 returns-3 c =
     let p = c.before.before in
-    let m = p.before.before.before.before in
-    let s = m.before.before.before in
+    let m = p.before.before.before in
+    let s = m.before.before in
     said_put (since_answer s.args.said) time_words s.args.to.now _ _
-    (ap (λ (x : SinceAnswer). since_answer x) m.said2.given.1)
+    (ap (λ (x : SinceAnswer). since_answer x) m.in-Since.is)
     p.put-in-Since.ensures
 
 pub put_since_spec : {M : Type 1} → statement M

@@ -15,10 +15,10 @@ returns-2 : tie.Need-returns-in-Is
 returns-2 c =
     let p = c.before.before in
     let w = p.before.before.before in
-    let m = w.before.before in
-    let s = m.before.before.before in
+    let m = w.before in
+    let s = m.before.before in
     said_put (traced_answer s.args.said) traced_words s.args.to.now _ _
-    (ap (λ (x : TracedAnswer). traced_answer x) m.said2.given.1)
+    (ap (λ (x : TracedAnswer). traced_answer x) m.in-Is.is)
     (p.put.ensures ∙ ap (λ (k : List ℕ). paste 0 k s.args.to.now) w.traced_words-w.ensures)
 
 pub put_traced_spec : {M : Type 1} → statement M

@@ -5,7 +5,7 @@ use Rattle.nultiway.proofs.answers.rates_words.Statement.{statement}
 use Rattle.nultiway.proofs.answers.rates_words.Tie as tie
 
 returns : tie.Need-returns
-returns c = λ i. 1 ∷ c.before.before.to_bits.ensures i ∷ c.before.to_bits-2.ensures i ∷ c.to_bits-3.ensures i ∷ []
+returns c = λ i. 1 ∷ c.to_bits.ensures i ∷ c.to_bits-2.ensures i ∷ c.to_bits-3.ensures i ∷ []
 
 pub rates_words_spec : {M : Type 1} → statement M
 rates_words_spec =

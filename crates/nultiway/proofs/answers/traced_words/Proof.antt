@@ -10,9 +10,9 @@ use Rattle.nultiway.proofs.answers.traced_words.Tie as tie
 
 returns : tie.Need-returns
 returns c =
-    let d = c.before.decision_words-d.ensures in
+    let d = c.decision_words-d.ensures in
     let s = c.shadow_words-s.ensures in
-    let x = c.before.before.args.traced in
+    let x = c.args.traced in
     (λ i. get_or (d i) 0 0 ∷ get_or (d i) 1 0 ∷ get_or (s i) 0 0 ∷ get_or (s i) 1 0 ∷ get_or (s i) 2 0 ∷ [])
     ∙ traced-apart x.decision (shadows_decision x.shadow)
 

@@ -7,26 +7,26 @@ use Rattle.nultiway.proofs.demand_calls.ask_demand.Statement.{statement}
 use Rattle.nultiway.proofs.demand_calls.ask_demand.Tie as tie
 
 returns : tie.Need-returns-then-words-lt-DEMAND_WORDS
-returns c = asked-short c.before.before.args.words.now c.before.before.args.room c.if-words-lt-DEMAND_WORDS.true
+returns c = asked-short c.args.words.now c.args.room c.if-words-lt-DEMAND_WORDS.true
 
 returns-2 : tie.Need-returns-then-not-room
 returns-2 c =
-    let a = c.before.before.before.args in
+    let a = c.args in
     asked-small a.words.now a.room (told-no refl c.if-not-room.true)
 
 returns-3 : tie.Need-returns-then-not-is_demand
 returns-3 c =
-    let a = c.before.before.before.before.before.args in
-    let if1 = c.before.before.before.if-words-lt-DEMAND_WORDS in
-    asked-other a.words.now a.room if1.false (told-yes refl c.before.before.if-not-room.false)
-    (told-no c.before.is_demand.ensures c.if-not-is_demand.true)
+    let a = c.args in
+    let if1 = c.if-words-lt-DEMAND_WORDS in
+    asked-other a.words.now a.room if1.false (told-yes refl c.if-not-room.false)
+    (told-no c.is_demand.ensures c.if-not-is_demand.true)
 
 returns-4 : tie.Need-returns
 returns-4 c =
-    let a = c.before.before.before.before.before.args in
-    let if1 = c.before.before.before.if-words-lt-DEMAND_WORDS in
-    asked-none a.words.now a.room if1.false (told-yes refl c.before.before.if-not-room.false)
-    (told-yes c.before.is_demand.ensures c.if-not-is_demand.false)
+    let a = c.args in
+    let if1 = c.if-words-lt-DEMAND_WORDS in
+    asked-none a.words.now a.room if1.false (told-yes refl c.if-not-room.false)
+    (told-yes c.is_demand.ensures c.if-not-is_demand.false)
 
 pub ask_demand_spec : {M : Type 1} → statement M
 ask_demand_spec = tie.close (tie.spec returns returns-2 (λ c κs. search rules) returns-3 returns-4)

@@ -8,7 +8,7 @@ returns : tie.Need-returns
 returns c =
     let f = c.before.before in
     let t = f.before.before in
-    demand-read t.before.before.before.before.before.args.words.now f.from_bits-current_rate.ensures t.times_of-times.ensures
+    demand-read t.args.words.now f.from_bits-current_rate.ensures t.times_of-times.ensures
 
 pub demand_of_spec : {M : Type 1} → statement M
 demand_of_spec =

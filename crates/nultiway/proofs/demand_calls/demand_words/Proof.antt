@@ -5,10 +5,10 @@ use Rattle.nultiway.proofs.demand_calls.demand_words.Statement.{statement}
 use Rattle.nultiway.proofs.demand_calls.demand_words.Tie as tie
 
 returns : tie.Need-returns-in-Unset
-returns c = words-with _ c.before.before.to_bits-rate.ensures c.enum_told.given.1
+returns c = words-with _ c.to_bits-rate.ensures c.in-Unset.is
 
 returns-2 : tie.Need-returns-in-At
-returns-2 c = words-with _ c.before.before.before.to_bits-rate.ensures c.before.times.given.1
+returns-2 c = words-with _ c.to_bits-rate.ensures c.in-At.is
 
 pub demand_words_spec : {M : Type 1} → statement M
 demand_words_spec =

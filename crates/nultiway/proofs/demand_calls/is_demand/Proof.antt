@@ -8,10 +8,10 @@ use Rattle.nultiway.proofs.demand_calls.is_demand.Tie as tie
 returns : tie.Need-returns-then-is_time
 returns c =
     let t = c.before.before.before in
-    goes _ _ _ (sym t.before.is_time.ensures ∙ t.if-is_time.true) c.is_time-then-is_time.ensures
+    goes _ _ _ (sym t.is_time.ensures ∙ t.if-is_time.true) c.is_time-then-is_time.ensures
 
 returns-2 : tie.Need-returns-else-is_time
-returns-2 c = stop _ _ (sym c.before.is_time.ensures ∙ c.if-is_time.false)
+returns-2 c = stop _ _ (sym c.is_time.ensures ∙ c.if-is_time.false)
 
 pub is_demand_spec : {M : Type 1} → statement M
 is_demand_spec =

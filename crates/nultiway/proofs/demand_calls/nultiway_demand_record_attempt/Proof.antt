@@ -8,13 +8,13 @@ use Rattle.nultiway.proofs.demand_calls.nultiway_demand_record_attempt.Statement
 use Rattle.nultiway.proofs.demand_calls.nultiway_demand_record_attempt.Tie as tie
 
 -- the questions of the lent words are passed
-passed : (e : tie.Else-no-ne0) → let a = e.before.before.before.before.args in Passed a.demand.now true
+passed : (e : tie.Else-no-ne0) → let a = e.args in Passed a.demand.now true
 passed e =
-    let a = e.before.before.before.before.args in
-    demand-passed a.demand.now true e.before.ask_demand-no.ensures e.if-no-ne0.false
+    let a = e.args in
+    demand-passed a.demand.now true e.ask_demand-no.ensures e.if-no-ne0.false
 
 returns : tie.Need-returns-then-no-ne0
-returns c = refused-call _ _ c.before.ask_demand-no.ensures c.if-no-ne0.true refl
+returns c = refused-call _ _ c.ask_demand-no.ensures c.if-no-ne0.true refl
 
 demand-of-requires : tie.Need-demand_of-before-requires
 demand-of-requires c κs = (passed c.before).long

@@ -10,7 +10,7 @@ returns-2 : tie.Need-returns
 returns-2 c =
     let p = c.before.before in
     let k = p.before in
-    called-room k.before.before.if-demand-lt-DEMAND_WORDS.false
+    called-room k.if-demand-lt-DEMAND_WORDS.false
     record {
       result = k.starting_at.result;
       kept = ap given k.starting_at.ensures;

@@ -9,9 +9,9 @@ use Rattle.nultiway.proofs.demand_calls.put_demand.Tie as tie
 
 returns : tie.Need-returns
 returns c =
-    let a = c.before.before.before.before.before.before.before.args in
-    let demand-words = c.before.before.before.before.before.demand_words-w in
-    c.before.before.put.ensures ∙ ap (λ (ws : List ℕ). paste 0 ws a.words.now) demand-words.ensures
+    let a = c.args in
+    let demand-words = c.demand_words-w in
+    c.put.ensures ∙ ap (λ (ws : List ℕ). paste 0 ws a.words.now) demand-words.ensures
 
 pub put_demand_spec : {M : Type 1} → statement M
 put_demand_spec =

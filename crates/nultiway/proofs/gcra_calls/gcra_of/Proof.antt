@@ -7,12 +7,12 @@ use Rattle.nultiway.proofs.gcra_calls.gcra_of.Tie as tie
 
 cast-t8 : tie.Need-overflow_cast-quota
 cast-t8 c =
-    let a = c.before.before.before.args in
-    omega (arith, gcra-burst a.words.now c.before.before.before.requires.1)
+    let a = c.args in
+    omega (arith, gcra-burst a.words.now c.requires.1)
 
 returns : tie.Need-returns
 returns c =
-    let a = c.before.before.before.before.before.before.args in
+    let a = c.args in
     gcra-read a.words.now c.tat_of-tat.ensures
 
 pub gcra_of_spec : {M : Type 1} → statement M

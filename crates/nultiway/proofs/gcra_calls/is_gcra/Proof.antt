@@ -6,7 +6,7 @@ use Rattle.nultiway.proofs.gcra_calls.is_gcra.Tie as tie
 
 returns : tie.Need-returns-then-words-lt-BURSTS
 returns c =
-    let if1 = c.before.before.before.if-words-lt-BURSTS in
+    let if1 = c.if-words-lt-BURSTS in
     is-gcra-yes _ _ if1.true c.is_time.ensures
 
 returns-2 : tie.Need-returns-else-words-lt-BURSTS

@@ -9,13 +9,13 @@ use Rattle.nultiway.proofs.gcra_calls.nultiway_gcra_check.Statement.{statement}
 use Rattle.nultiway.proofs.gcra_calls.nultiway_gcra_check.Tie as tie
 
 -- the questions of the lent words are passed
-passed : (e : tie.Else-no-ne0) → let a = e.before.before.before.before.before.args in Passed a.gcra.now (leb 2 (length a.answer.now))
+passed : (e : tie.Else-no-ne0) → let a = e.args in Passed a.gcra.now (leb 2 (length a.answer.now))
 passed e =
-    let a = e.before.before.before.before.before.args in
-    gcra-passed a.gcra.now (leb 2 (length a.answer.now)) e.before.ask_gcra-no.ensures e.if-no-ne0.false
+    let a = e.args in
+    gcra-passed a.gcra.now (leb 2 (length a.answer.now)) e.ask_gcra-no.ensures e.if-no-ne0.false
 
 returns : tie.Need-returns-then-no-ne0
-returns c = refused-call _ _ c.before.ask_gcra-no.ensures c.if-no-ne0.true (refl, refl)
+returns c = refused-call _ _ c.ask_gcra-no.ensures c.if-no-ne0.true (refl, refl)
 
 gcra-of-requires : tie.Need-gcra_of-meter-requires
 gcra-of-requires c κs = let p = passed c.before in (p.long, p.gcra)
@@ -28,10 +28,10 @@ put-decision-requires c κs = room_fits _ _ (passed c.before.before.before.befor
 
 returns-2 : tie.Need-returns
 returns-2 c =
-    let gcra-of = c.before.before.before.before.before.before.before.before.before.before.gcra_of-meter in
-    let check = c.before.before.before.before.before.before.before.before.before.check-checked in
-    let put-decision = c.before.before.put_decision in
-    let put-gcra = c.before.before.before.before.before.before.put_gcra in
+    let gcra-of = c.gcra_of-meter in
+    let check = c.check-checked in
+    let put-decision = c.put_decision in
+    let put-gcra = c.put_gcra in
     passed-call _ _ (passed c.before.before.before.before.before.before.before.before.before.before.before.before).all
     (answers gcra-of.ensures check.result check.ensures put-decision.ensures.0 put-gcra.ensures put-decision.ensures.1)
 

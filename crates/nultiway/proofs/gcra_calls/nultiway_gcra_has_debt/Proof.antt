@@ -9,13 +9,13 @@ use Rattle.nultiway.proofs.gcra_calls.nultiway_gcra_has_debt.Statement.{statemen
 use Rattle.nultiway.proofs.gcra_calls.nultiway_gcra_has_debt.Tie as tie
 
 -- the questions of the lent words are passed
-passed : (e : tie.Else-no-ne0) → let a = e.before.before.before.before.args in Passed a.gcra.now (leb 1 (length a.answer.now))
+passed : (e : tie.Else-no-ne0) → let a = e.args in Passed a.gcra.now (leb 1 (length a.answer.now))
 passed e =
-    let a = e.before.before.before.before.args in
-    gcra-passed a.gcra.now (leb 1 (length a.answer.now)) e.before.ask_gcra-no.ensures e.if-no-ne0.false
+    let a = e.args in
+    gcra-passed a.gcra.now (leb 1 (length a.answer.now)) e.ask_gcra-no.ensures e.if-no-ne0.false
 
 returns : tie.Need-returns-then-no-ne0
-returns c = refused-call _ _ c.before.ask_gcra-no.ensures c.if-no-ne0.true refl
+returns c = refused-call _ _ c.ask_gcra-no.ensures c.if-no-ne0.true refl
 
 gcra-of-requires : tie.Need-gcra_of-meter-requires
 gcra-of-requires c κs = let p = passed c in (p.long, p.gcra)
@@ -25,9 +25,9 @@ put-debt-requires c κs = room_fits _ _ (passed c.before.before.before).fits
 
 returns-2 : tie.Need-returns
 returns-2 c =
-    let gcra-of = c.before.before.before.before.before.gcra_of-meter in
-    let has-debt = c.before.before.before.has_debt in
-    let put-debt = c.before.before.put_debt in
+    let gcra-of = c.gcra_of-meter in
+    let has-debt = c.has_debt in
+    let put-debt = c.put_debt in
     passed-call _ _ (passed c.before.before.before.before.before.before).all
     (tells gcra-of.ensures has-debt.result has-debt.ensures put-debt.ensures.0 put-debt.ensures.1)
 

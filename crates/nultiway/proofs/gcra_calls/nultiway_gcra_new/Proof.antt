@@ -10,14 +10,14 @@ returns c = called-short c.if-gcra-lt-GCRA_WORDS.true refl
 
 returns-2 : tie.Need-returns
 returns-2 c =
-    let if1 = c.before.before.before.before.before.if-gcra-lt-GCRA_WORDS in
-    let new = c.before.before.before.new in
+    let if1 = c.if-gcra-lt-GCRA_WORDS in
+    let new = c.new in
     called-room if1.false
     record {
       result = new.result;
       kept = new.ensures;
-      number = c.before.before.put_new.ensures.0;
-      answer = c.before.before.put_new.ensures.1;
+      number = c.put_new.ensures.0;
+      answer = c.put_new.ensures.1;
     }
 
 pub nultiway_gcra_new_spec : {M : Type 1} → statement M

@@ -9,13 +9,13 @@ use Rattle.nultiway.proofs.gcra_calls.nultiway_gcra_retry_after.Statement.{state
 use Rattle.nultiway.proofs.gcra_calls.nultiway_gcra_retry_after.Tie as tie
 
 -- the questions of the lent words are passed
-passed : (e : tie.Else-no-ne0) → let a = e.before.before.before.before.args in Passed a.gcra.now (leb 2 (length a.answer.now))
+passed : (e : tie.Else-no-ne0) → let a = e.args in Passed a.gcra.now (leb 2 (length a.answer.now))
 passed e =
-    let a = e.before.before.before.before.args in
-    gcra-passed a.gcra.now (leb 2 (length a.answer.now)) e.before.ask_gcra-no.ensures e.if-no-ne0.false
+    let a = e.args in
+    gcra-passed a.gcra.now (leb 2 (length a.answer.now)) e.ask_gcra-no.ensures e.if-no-ne0.false
 
 returns : tie.Need-returns-then-no-ne0
-returns c = refused-call _ _ c.before.ask_gcra-no.ensures c.if-no-ne0.true refl
+returns c = refused-call _ _ c.ask_gcra-no.ensures c.if-no-ne0.true refl
 
 gcra-of-requires : tie.Need-gcra_of-meter-requires
 gcra-of-requires c κs = let p = passed c in (p.long, p.gcra)
@@ -25,9 +25,9 @@ put-retry-requires c κs = room_fits _ _ (passed c.before.before.before).fits
 
 returns-2 : tie.Need-returns
 returns-2 c =
-    let gcra-of = c.before.before.before.before.before.gcra_of-meter in
-    let retry-after = c.before.before.before.retry_after in
-    let put-retry = c.before.before.put_retry in
+    let gcra-of = c.gcra_of-meter in
+    let retry-after = c.retry_after in
+    let put-retry = c.put_retry in
     passed-call _ _ (passed c.before.before.before.before.before.before).all
     (tells gcra-of.ensures retry-after.result retry-after.ensures put-retry.ensures.0 put-retry.ensures.1)
 

@@ -8,13 +8,13 @@ use Rattle.nultiway.proofs.gcra_calls.nultiway_gcra_set_quota.Statement.{stateme
 use Rattle.nultiway.proofs.gcra_calls.nultiway_gcra_set_quota.Tie as tie
 
 -- the questions of the lent words are passed
-passed : (e : tie.Else-no-ne0) → let a = e.before.before.before.before.args in Passed a.gcra.now true
+passed : (e : tie.Else-no-ne0) → let a = e.args in Passed a.gcra.now true
 passed e =
-    let a = e.before.before.before.before.args in
-    gcra-passed a.gcra.now true e.before.ask_gcra-no.ensures e.if-no-ne0.false
+    let a = e.args in
+    gcra-passed a.gcra.now true e.ask_gcra-no.ensures e.if-no-ne0.false
 
 returns : tie.Need-returns-then-no-ne0
-returns c = refused-call _ _ c.before.ask_gcra-no.ensures c.if-no-ne0.true refl
+returns c = refused-call _ _ c.ask_gcra-no.ensures c.if-no-ne0.true refl
 
 gcra-of-requires : tie.Need-gcra_of-meter-requires
 gcra-of-requires c κs = let p = passed c.before in (p.long, p.gcra)
@@ -24,9 +24,9 @@ put-gcra-requires c κs = (passed c.before.before.before.before.before).long
 
 returns-2 : tie.Need-returns
 returns-2 c =
-    let gcra-of = c.before.before.before.before.before.before.before.gcra_of-meter in
-    let set-quota = c.before.before.before.before.before.before.set_quota-set in
-    let put-gcra = c.before.before.before.put_gcra in
+    let gcra-of = c.gcra_of-meter in
+    let set-quota = c.set_quota-set in
+    let put-gcra = c.put_gcra in
     passed-call _ _ (passed c.before.before.before.before.before.before.before.before.before).all
     (changes gcra-of.ensures set-quota.result set-quota.ensures c.set_number.ensures put-gcra.ensures)
 

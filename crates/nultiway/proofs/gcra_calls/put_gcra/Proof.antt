@@ -9,9 +9,9 @@ use Rattle.nultiway.proofs.gcra_calls.put_gcra.Tie as tie
 
 returns : tie.Need-returns
 returns c =
-    let a = c.before.before.before.before.before.before.before.args in
-    let gcra-words = c.before.before.before.before.before.gcra_words-w in
-    c.before.before.put.ensures ∙ ap (λ (ws : List ℕ). paste 0 ws a.words.now) gcra-words.ensures
+    let a = c.args in
+    let gcra-words = c.gcra_words-w in
+    c.put.ensures ∙ ap (λ (ws : List ℕ). paste 0 ws a.words.now) gcra-words.ensures
 
 pub put_gcra_spec : {M : Type 1} → statement M
 put_gcra_spec =

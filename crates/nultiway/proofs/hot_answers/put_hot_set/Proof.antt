@@ -6,7 +6,7 @@ use Rattle.nultiway.proofs.hot_answers.put_hot_set.Tie as tie
 
 returns : tie.Need-returns
 unfolding hot_set_words
-returns c = c.before.before.put.ensures
+returns c = c.put.ensures
 
 pub put_hot_set_spec : {M : Type 1} → statement M
 put_hot_set_spec = tie.close (tie.spec (λ c. search rules) (λ c κs. search rules) (λ c. search rules) returns)

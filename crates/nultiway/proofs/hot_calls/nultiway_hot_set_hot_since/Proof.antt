@@ -10,27 +10,27 @@ use Rattle.nultiway.proofs.hot_calls.nultiway_hot_set_hot_since.Statement.{state
 use Rattle.nultiway.proofs.hot_calls.nultiway_hot_set_hot_since.Tie as tie
 
 returns : tie.Need-returns-then-not-are_long
-returns c = called-no c.before.are_long.ensures c.if-not-are_long.true refl
+returns c = called-no c.are_long.ensures c.if-not-are_long.true refl
 
 hot-set-of-requires : tie.Need-hot_set_of-set-requires
 hot-set-of-requires c κs =
-    let a = c.before.before.before.before.before.args in
-    (both_long 3 (length a.hot-set.now) 2 (length a.answer.now) (told-yes c.before.are_long.ensures c.if-not-are_long.false)).0
+    let a = c.args in
+    (both_long 3 (length a.hot_set.now) 2 (length a.answer.now) (told-yes c.are_long.ensures c.if-not-are_long.false)).0
 
 put-since-requires : tie.Need-put_since-requires
 put-since-requires c κs =
-    let a = c.before.before.before.before.before.before.before.before.args in
-    let are-long = c.before.before.before.before.are_long in
-    let if1 = c.before.before.before.if-not-are_long in
-    (both_long 3 (length a.hot-set.now) 2 (length a.answer.now) (told-yes are-long.ensures if1.false)).1
+    let a = c.args in
+    let are-long = c.are_long in
+    let if1 = c.if-not-are_long in
+    (both_long 3 (length a.hot_set.now) 2 (length a.answer.now) (told-yes are-long.ensures if1.false)).1
 
 returns-2 : tie.Need-returns
 returns-2 c =
-    let are-long = c.before.before.before.before.before.before.before.are_long in
-    let if1 = c.before.before.before.before.before.before.if-not-are_long in
-    let hot-set-of = c.before.before.before.before.before.hot_set_of-set in
-    let hot_since = c.before.before.before.hot_since in
-    let put-since = c.before.before.put_since in
+    let are-long = c.are_long in
+    let if1 = c.if-not-are_long in
+    let hot-set-of = c.hot_set_of-set in
+    let hot_since = c.hot_since in
+    let put-since = c.put_since in
     called-yes are-long.ensures if1.false
     (tells hot-set-of.ensures hot_since.result hot_since.ensures put-since.ensures.0 put-since.ensures.1)
 

@@ -10,9 +10,9 @@ returns c = called-short c.if-hot_set-lt-HOT_SET_WORDS.true refl
 
 returns-2 : tie.Need-returns
 returns-2 c =
-    let if1 = c.before.before.before.before.before.if-hot_set-lt-HOT_SET_WORDS in
-    let new = c.before.before.before.new in
-    let put-new-hot-set = c.before.before.put_new_hot_set in
+    let if1 = c.if-hot_set-lt-HOT_SET_WORDS in
+    let new = c.new in
+    let put-new-hot-set = c.put_new_hot_set in
     called-room if1.false
     record {
       result = new.result;

@@ -10,20 +10,20 @@ returns : tie.Need-returns-then-hot_set-lt-HOT_SET_WORDS
 returns c = called-short c.if-hot_set-lt-HOT_SET_WORDS.true (refl, refl, refl)
 
 hot-set-of-requires : tie.Need-hot_set_of-set-requires
-hot-set-of-requires c κs = c.before.if-hot_set-lt-HOT_SET_WORDS.false
+hot-set-of-requires c κs = c.if-hot_set-lt-HOT_SET_WORDS.false
 
 put-updated-each-requires : tie.Need-put_updated_each-requires
 put-updated-each-requires c κs =
-    let if1 = c.before.before.before.before.before.before.before.before.before.before.if-hot_set-lt-HOT_SET_WORDS in
+    let if1 = c.if-hot_set-lt-HOT_SET_WORDS in
     if1.false
 
 returns-2 : tie.Need-returns
 returns-2 c =
     let m₁ = c.before.before.before.before.before.before.before.before in
-    let if1 = m₁.before.before.before.before.before.if-hot_set-lt-HOT_SET_WORDS in
-    let hot-set-of = m₁.before.before.before.hot_set_of-set in
+    let if1 = m₁.if-hot_set-lt-HOT_SET_WORDS in
+    let hot-set-of = m₁.hot_set_of-set in
     let update-each = m₁.update_each-said in
-    let put-updated-each = c.before.before.put_updated_each in
+    let put-updated-each = c.put_updated_each in
     called-room if1.false
     (tells hot-set-of.ensures update-each.result update-each.ensures put-updated-each.ensures.0 put-updated-each.ensures.1)
 

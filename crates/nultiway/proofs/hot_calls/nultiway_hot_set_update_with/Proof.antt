@@ -12,13 +12,13 @@ use Rattle.nultiway.proofs.hot_calls.nultiway_hot_set_update_with.Statement.{sta
 use Rattle.nultiway.proofs.hot_calls.nultiway_hot_set_update_with.Tie as tie
 
 -- both have their words
-long : (e : tie.Else-not-are_long) → let a = e.before.before.before.before.before.args in (3 ≤ length a.hot-set.now) × (1 ≤ length a.answer.now)
+long : (e : tie.Else-not-are_long) → let a = e.args in (3 ≤ length a.hot_set.now) × (1 ≤ length a.answer.now)
 long e =
-    let a = e.before.before.before.before.before.args in
-    both_long 3 (length a.hot-set.now) 1 (length a.answer.now) (told-yes e.before.are_long.ensures e.if-not-are_long.false)
+    let a = e.args in
+    both_long 3 (length a.hot_set.now) 1 (length a.answer.now) (told-yes e.are_long.ensures e.if-not-are_long.false)
 
 returns : tie.Need-returns-then-not-are_long
-returns c = called-no c.before.are_long.ensures c.if-not-are_long.true (refl, refl, refl)
+returns c = called-no c.are_long.ensures c.if-not-are_long.true (refl, refl, refl)
 
 hot-set-of-requires : tie.Need-hot_set_of-set-requires
 hot-set-of-requires c κs = (long c.before).0
@@ -32,17 +32,17 @@ put-updated-requires c κs = (long c.before.before.before.before.before.before.b
 returns-2 : tie.Need-returns
 returns-2 c =
     let m₁ = c.before.before.before.before.before.before.before.before.before.before.before in
-    let a = m₁.before.before.before.before.before.before.before.before.before.args in
-    let are-long = m₁.before.before.before.before.before.are_long in
-    let if1 = m₁.before.before.before.before.if-not-are_long in
-    let hot-set-of = m₁.before.before.hot_set_of-set in
+    let a = m₁.args in
+    let are-long = m₁.are_long in
+    let if1 = m₁.if-not-are_long in
+    let hot-set-of = m₁.hot_set_of-set in
     let update-with = m₁.update_with-said in
-    let hot-set-left = c.before.before.before.before.before.before.before.hot_set_left in
-    let put-hot-set = c.before.before.before.before.before.before.put_hot_set in
-    let put-updated = c.before.before.put_updated in
+    let hot-set-left = c.hot_set_left in
+    let put-hot-set = c.put_hot_set in
+    let put-updated = c.put_updated in
     called-yes are-long.ensures if1.false
-    (answers hot-set-of.ensures update-with.result (with-flag a.hot-elsewhere update-with.ensures) put-updated.ensures.0
-    (left-put a.hot-set.now update-with.result hot-set-of.ensures hot-set-left.ensures put-hot-set.ensures) put-updated.ensures.1)
+    (answers hot-set-of.ensures update-with.result (with-flag a.hot_elsewhere update-with.ensures) put-updated.ensures.0
+    (left-put a.hot_set.now update-with.result hot-set-of.ensures hot-set-left.ensures put-hot-set.ensures) put-updated.ensures.1)
 
 pub nultiway_hot_set_update_with_spec : {M : Type 1} → statement M
 nultiway_hot_set_update_with_spec =

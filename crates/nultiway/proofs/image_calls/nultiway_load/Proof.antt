@@ -11,25 +11,25 @@ use Rattle.nultiway.proofs.image_calls.nultiway_load.Statement.{statement}
 use Rattle.nultiway.proofs.image_calls.nultiway_load.Tie as tie
 
 returns : tie.Need-returns-then-not-are_long
-returns c = refused-call _ 1 (first-no 1 [] (told-no c.before.are_long.ensures c.if-not-are_long.true)) one (refl, refl, refl, refl)
+returns c = refused-call _ 1 (first-no 1 [] (told-no c.are_long.ensures c.if-not-are_long.true)) one (refl, refl, refl, refl)
 
 put-loaded-requires : tie.Need-put_loaded-requires
 put-loaded-requires c κs =
     let m₁ = c.before.before.before.before.before.before.before.before.before.before.before.before in
     let m₂ = m₁.before.before.before.before.before.before.before.before.before.before.before.before in
-    let a = m₂.before.before.before.before.before.before.before.before.args in
-    let are-long = m₁.before.before.before.before.before.before.before.before.before.before.are_long in
-    let if1 = m₁.before.before.before.before.before.before.before.before.before.if-not-are_long in
+    let a = m₂.args in
+    let are-long = m₁.are_long in
+    let if1 = m₁.if-not-are_long in
     both_long 16 (length a.limiter.now) 3 (length a.peers.now) (told-yes are-long.ensures if1.false)
 
 returns-2 : tie.Need-returns
 returns-2 c =
     let m₁ = c.before.before.before.before.before.before.before.before.before.before.before.before in
     let m₂ = m₁.before.before.before.before.before.before.before.before.before.before.before.before in
-    let are-long = m₂.before.before.before.are_long in
-    let if1 = m₂.before.before.if-not-are_long in
-    let load = m₁.before.before.before.before.before.before.before.load-said in
-    let put-loaded = c.before.before.before.before.put_loaded in
+    let are-long = m₂.are_long in
+    let if1 = m₂.if-not-are_long in
+    let load = m₁.load-said in
+    let put-loaded = c.put_loaded in
     passed-call _ _ (room-passed _ (told-yes are-long.ensures if1.false))
     record {
       result = load.result;

@@ -25,7 +25,7 @@ abbrev long : tie.Start → Lengths
 long s = lengths (tables s.args.keys.now s.args.hot.now s.args.shadows.now)
 
 abbrev peer_tables : tie.Start → peer-state.PeerTables
-peer_tables s = peer-state.tables s.args.peer-table.now s.args.snapshot-keys.now s.args.contested.now
+peer_tables s = peer-state.tables s.args.peer_table.now s.args.snapshot-keys.now s.args.contested.now
 
 abbrev room : tie.Start → Bool
 room s = peers_room (length s.args.peers.now) (peer-state.lengths (peer_tables s))
@@ -37,7 +37,7 @@ asked : (k : tie.After-ask_limiter-no) → let s = start k in k.ask_limiter-no.r
 asked k =
     let s = start k in
     asked-with s.args.limiter.now (long s) k.ask_limiter-no.ensures
-    (k.before.peers_have_room-room.ensures
+    (k.peers_have_room-room.ensures
     ∙ ap (λ (b : Bool). leb 1 (length s.args.answer.now) && b) (peers-lengths (length s.args.peers.now) (peer_tables s)))
 
 -- the questions of the lent words are passed
@@ -65,12 +65,12 @@ put-len-requires c κs = (fits c.before.before.before.before.before.before.befor
 
 returns-2 : tie.Need-returns
 returns-2 c =
-    let limiter-of = c.before.before.before.before.before.before.before.before.before.limiter_of-l in
-    let peers-of = c.before.before.before.before.before.before.before.before.peers_of-p in
-    let save = c.before.before.before.before.before.before.save-said in
+    let limiter-of = c.limiter_of-l in
+    let peers-of = c.peers_of-p in
+    let save = c.save-said in
     passed-call _ _ (passed c.before.before.before.before.before.before.before.before.before.before).passed
-    (tells (both_read limiter-of.ensures peers-of.ensures) save.result save.ensures c.before.before.put_len.ensures.0
-    c.before.before.put_len.ensures.1)
+    (tells (both_read limiter-of.ensures peers-of.ensures) save.result save.ensures c.put_len.ensures.0
+    c.put_len.ensures.1)
 
 pub nultiway_save_spec : {M : Type 1} → statement M
 nultiway_save_spec =

@@ -8,16 +8,16 @@ use Rattle.nultiway.proofs.image_calls.put_loaded.Tie as tie
 
 returns : tie.Need-returns-in-No
 returns c =
-    let a = c.before.before.before.before.before.args in
-    loaded-no a.limiter.now a.peers.now (ap load_answer c.before.said.given.1)
+    let a = c.args in
+    loaded-no a.limiter.now a.peers.now (ap load_answer c.in-No.is)
 
 returns-2 : tie.Need-returns-in-Is
 returns-2 c =
-    let m₁ = c.before.before.before.before.before.before.before.before.before.before.before.before in
-    let a = m₁.before.before.before.args in
-    let said2 = c.before.before.before.before.before.before.before.before.before.before.before.said2 in
-    let put-limiter = c.before.before.before.before.before.before.put_limiter in
-    let put-peers = c.before.before.put_peers in
+    let m₁ = c.before.before.before.before.before.before.before.before.before.before in
+    let a = m₁.args in
+    let said2 = c.said2 in
+    let put-limiter = c.put_limiter in
+    let put-peers = c.put_peers in
     loaded-put a.limiter.now a.peers.now (ap load_answer said2.given.1) put-limiter.ensures put-peers.ensures
 
 pub put_loaded_spec : {M : Type 1} → statement M

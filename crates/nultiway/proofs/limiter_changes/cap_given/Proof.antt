@@ -7,7 +7,7 @@ use Rattle.nultiway.proofs.limiter_changes.cap_given.Statement.{statement}
 use Rattle.nultiway.proofs.limiter_changes.cap_given.Tie as tie
 
 returns : tie.Need-returns-then-has_cap-eq0
-returns c = sym (ap (λ (n : ℕ). cap_given n c.before.args.cap) c.if-has_cap-eq0.true)
+returns c = sym (ap (λ (n : ℕ). cap_given n c.args.cap) c.if-has_cap-eq0.true)
 
 returns-2 : tie.Need-returns
 returns-2 c = cap-set _ _ c.if-has_cap-eq0.false

@@ -20,12 +20,12 @@ lent s = tables s.args.keys.now s.args.hot.now s.args.shadows.now
 
 -- the questions of the lent words are passed
 passed : (e : tie.Else-no-ne0) → let s = start e.before in Open s.args.limiter.now (lengths (lent s)) true
-passed e = opened _ _ _ _ e.before.ask_limiter-no.ensures e.if-no-ne0.false
+passed e = opened _ _ _ _ e.ask_limiter-no.ensures e.if-no-ne0.false
 
 returns : tie.Need-returns-then-no-ne0
 returns c =
     let s = start c.before in
-    first_more (limiter_asked s.args.limiter.now (lengths (lent s)) true) _ _ c.before.ask_limiter-no.ensures c.if-no-ne0.true
+    first_more (limiter_asked s.args.limiter.now (lengths (lent s)) true) _ _ c.ask_limiter-no.ensures c.if-no-ne0.true
 
 limiter-of-requires : tie.Need-limiter_of-limiter-requires
 limiter-of-requires c κs = (passed c).long

@@ -20,7 +20,7 @@ abbrev long : tie.Start → Lengths
 long s = lengths (tables s.args.keys.now s.args.hot.now s.args.shadows.now)
 
 abbrev peer_tables : tie.Start → peer-state.PeerTables
-peer_tables s = peer-state.tables s.args.peer-table.now s.args.snapshot-keys.now s.args.contested.now
+peer_tables s = peer-state.tables s.args.peer_table.now s.args.snapshot-keys.now s.args.contested.now
 
 abbrev room : tie.Start → Bool
 room s = peers_room (length s.args.peers.now) (peer-state.lengths (peer_tables s))
@@ -29,7 +29,7 @@ asked : (k : tie.After-ask_limiter-no) → let s = start k in k.ask_limiter-no.r
 asked k =
     let s = start k in
     asked-with s.args.limiter.now (long s) k.ask_limiter-no.ensures
-    (k.before.before.peers_have_room-room.ensures ∙ peers-lengths (length s.args.peers.now) (peer_tables s))
+    (k.peers_have_room-room.ensures ∙ peers-lengths (length s.args.peers.now) (peer_tables s))
 
 -- the questions of the lent words are passed
 passed : (e : tie.Else-no-ne0) → let s = start e.before in Open s.args.limiter.now (long s) (room s)

@@ -22,7 +22,7 @@ abbrev room : tie.Start → Bool
 room s = fits (length s.args.list.now) 2 s.args.count
 
 asked : (k : tie.After-ask_limiter-no) → let s = start k in k.ask_limiter-no.result ≡ first_no (limiter_asked s.args.limiter.now (long s) (room s))
-asked k = let s = start k in asked-with s.args.limiter.now (long s) k.ask_limiter-no.ensures k.before.before.fits-room.ensures
+asked k = let s = start k in asked-with s.args.limiter.now (long s) k.ask_limiter-no.ensures k.fits-room.ensures
 
 -- the questions of the lent words are passed
 passed : (e : tie.Else-no-ne0) → let s = start e.before in Open s.args.limiter.now (long s) (room s)

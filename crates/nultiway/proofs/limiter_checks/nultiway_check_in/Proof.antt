@@ -17,10 +17,10 @@ passed :
     (e : tie.Else-no-ne0)
     → let a = (start e.before).args in
     Open a.limiter.now (lengths (tables a.keys.now a.hot.now a.shadows.now)) (leb 2 (length a.answer.now))
-passed e = opened _ _ _ _ e.before.ask_limiter-no.ensures e.if-no-ne0.false
+passed e = opened _ _ _ _ e.ask_limiter-no.ensures e.if-no-ne0.false
 
 returns : tie.Need-returns-then-no-ne0
-returns c = refused-call _ _ c.before.ask_limiter-no.ensures c.if-no-ne0.true (refl, refl, refl)
+returns c = refused-call _ _ c.ask_limiter-no.ensures c.if-no-ne0.true (refl, refl, refl)
 
 -- where the crate is called, and what comes before it
 abbrev entered : tie.After-check_in-checked → tie.Else-no-ne0

@@ -7,7 +7,7 @@ use Rattle.nultiway.proofs.limiter_checks.shadow_given.Statement.{statement}
 use Rattle.nultiway.proofs.limiter_checks.shadow_given.Tie as tie
 
 returns : tie.Need-returns-then-has_shadow-eq0
-returns c = sym (ap (λ (n : ℕ). shadow_given n (limit c.before.args.rate c.before.args.burst)) c.if-has_shadow-eq0.true)
+returns c = sym (ap (λ (n : ℕ). shadow_given n (limit c.args.rate c.args.burst)) c.if-has_shadow-eq0.true)
 
 returns-2 : tie.Need-returns
 returns-2 c = shadow-set _ _ c.if-has_shadow-eq0.false

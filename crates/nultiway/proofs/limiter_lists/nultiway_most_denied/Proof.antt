@@ -17,7 +17,7 @@ passed :
     (e : tie.Else-no-ne0)
     → let a = (start e.before).args in
     Open a.limiter.now (lengths (tables a.keys.now a.hot.now a.shadows.now)) (leb 1 (length a.answer.now))
-passed e = opened _ _ _ _ e.before.ask_limiter-no.ensures e.if-no-ne0.false
+passed e = opened _ _ _ _ e.ask_limiter-no.ensures e.if-no-ne0.false
 
 returns-2 : tie.Need-returns
 returns-2 c =
@@ -33,7 +33,7 @@ nultiway_most_denied_spec =
     tie.close
     (tie.spec
     (λ c κs. search rules)
-    (λ c. refused-call _ _ c.before.ask_limiter-no.ensures c.if-no-ne0.true (refl, refl))
+    (λ c. refused-call _ _ c.ask_limiter-no.ensures c.if-no-ne0.true (refl, refl))
     (λ c κs. (passed c).long)
     (λ c κs. search rules)
     (λ c κs. leb-true _ _ (passed c.before.before.before.before.before.before).others)

@@ -10,7 +10,7 @@ returns-2 : tie.Need-returns
 returns-2 c =
     let n = c.before.before in
     let k = n.before in
-    called-room k.before.before.if-answer-lt-QUOTA_WORDS.false
+    called-room k.if-answer-lt-QUOTA_WORDS.false
     (tells refl k.new.result k.new.ensures n.put_quota.ensures.0 n.put_quota.ensures.1)
 
 pub nultiway_quota_new_spec : {M : Type 1} → statement M

@@ -10,7 +10,7 @@ returns-2 : tie.Need-returns
 returns-2 c =
     let n = c.before.before in
     let k = n.before in
-    called-room k.before.before.if-answer-lt1.false
+    called-room k.if-answer-lt1.false
     (tells refl k.rate_per_sec.result k.rate_per_sec.ensures n.put_rate.ensures.0 n.put_rate.ensures.1)
 
 pub nultiway_quota_rate_per_sec_spec : {M : Type 1} → statement M

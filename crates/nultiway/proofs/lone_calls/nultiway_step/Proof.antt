@@ -15,16 +15,16 @@ returns c = called-short c.if-answer-lt-STEP_WORDS.true refl
 
 returns-2 : tie.Need-returns
 returns-2 c =
-    let a = c.before.before.before.before.before.before.before.before.before.args in
-    let if1 = c.before.before.before.before.before.before.before.if-answer-lt-STEP_WORDS in
-    let step = c.before.before.before.before.before.before.step-stepped in
-    let decision-words = c.before.before.before.before.before.decision_words-d in
+    let a = c.args in
+    let if1 = c.if-answer-lt-STEP_WORDS in
+    let step = c.step-stepped in
+    let decision-words = c.decision_words-d in
     called-room if1.false
     record {
       result = step.result;
       kept = ap given step.ensures;
       number = refl;
-      answer = c.before.before.put.ensures ∙ ap (λ (ws : List ℕ). paste 0 ws a.answer.now)
+      answer = c.put.ensures ∙ ap (λ (ws : List ℕ). paste 0 ws a.answer.now)
           (step_words step.result decision-words.ensures);
     }
 

@@ -6,9 +6,9 @@ use Rattle.nultiway.proofs.peer_answers.heard_words.Tie as tie
 
 returns : tie.Need-returns
 returns c =
-    let a = c.before.before.before.args in
-    let f32-to-bits = c.before.before.f32_to_bits-demand in
-    λ i. 1 ∷ f32-to-bits.ensures i ∷ c.before.flag_word-primary.ensures i ∷ a.heard.round ∷ a.heard.heard_at ∷ []
+    let a = c.args in
+    let f32-to-bits = c.f32_to_bits-demand in
+    λ i. 1 ∷ f32-to-bits.ensures i ∷ c.flag_word-primary.ensures i ∷ a.heard.round ∷ a.heard.heard_at ∷ []
 
 pub heard_words_spec : {M : Type 1} → statement M
 heard_words_spec =

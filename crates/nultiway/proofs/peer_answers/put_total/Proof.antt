@@ -11,11 +11,11 @@ use Rattle.nultiway.proofs.peer_answers.put_total.Tie as tie
 
 returns-2 : tie.Need-returns-in-Is
 returns-2 c =
-    let a = c.before.before.before.before.before.before.before.before.before.before.args in
-    let said2 = c.before.before.before.before.before.before.before.said2 in
-    let to-bits = c.before.before.before.before.before.to_bits in
+    let a = c.args in
+    let said2 = c.said2 in
+    let to-bits = c.to_bits in
     said_put _ _ _ _ _ (ap total_answer said2.given.1)
-    (c.before.before.put.ensures ∙ ap (λ (x : ℕ). paste 0 (x ∷ []) a.to.now) to-bits.ensures)
+    (c.put.ensures ∙ ap (λ (x : ℕ). paste 0 (x ∷ []) a.to.now) to-bits.ensures)
 
 pub put_total_spec : {M : Type 1} → statement M
 put_total_spec =

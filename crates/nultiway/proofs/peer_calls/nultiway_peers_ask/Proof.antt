@@ -12,7 +12,7 @@ peers-of-requires : tie.Need-peers_of-p-requires
 peers-of-requires c κs = c.if-peers-lt-PEERS_WORDS.false
 
 returns-2 : tie.Need-returns
-returns-2 c = called-room c.before.before.if-peers-lt-PEERS_WORDS.false (asks_of _ c.before.peers_of-p.ensures c.ask.ensures)
+returns-2 c = called-room c.if-peers-lt-PEERS_WORDS.false (asks_of _ c.peers_of-p.ensures c.ask.ensures)
 
 pub nultiway_peers_ask_spec : {M : Type 1} → statement M
 nultiway_peers_ask_spec = tie.close (tie.spec returns peers-of-requires (λ c κs. search rules) returns-2)

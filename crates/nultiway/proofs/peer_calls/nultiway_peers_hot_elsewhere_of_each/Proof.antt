@@ -14,9 +14,9 @@ peers-of-requires c κs = c.if-peers-lt-PEERS_WORDS.false
 
 returns-2 : tie.Need-returns
 returns-2 c =
-    let if1 = c.before.before.before.before.before.before.if-peers-lt-PEERS_WORDS in
-    let peers-of = c.before.before.before.before.before.peers_of-p in
-    let hot-elsewhere-of-each = c.before.before.before.hot_elsewhere_of_each in
+    let if1 = c.if-peers-lt-PEERS_WORDS in
+    let peers-of = c.peers_of-p in
+    let hot-elsewhere-of-each = c.hot_elsewhere_of_each in
     called-room if1.false (says peers-of.ensures hot-elsewhere-of-each.result hot-elsewhere-of-each.ensures c.change_number.ensures)
 
 pub nultiway_peers_hot_elsewhere_of_each_spec : {M : Type 1} → statement M

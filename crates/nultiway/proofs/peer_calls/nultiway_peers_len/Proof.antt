@@ -12,31 +12,31 @@ use Rattle.nultiway.proofs.peer_calls.nultiway_peers_len.Tie as tie
 
 peers-of-requires : tie.Need-peers_of-p-requires
 peers-of-requires c κs =
-    let a = c.before.before.before.before.before.before.before.args in
-    (both_long 3 (length a.peers.now) 1 (length a.answer.now) (told-yes c.before.are_long.ensures c.if-not-are_long.false)).0
+    let a = c.args in
+    (both_long 3 (length a.peers.now) 1 (length a.answer.now) (told-yes c.are_long.ensures c.if-not-are_long.false)).0
 
 put-len-requires : tie.Need-put_len-requires
 put-len-requires c κs =
-    let a = c.before.before.before.before.before.before.before.before.before.before.args in
-    let are-long = c.before.before.before.before.are_long in
-    let if1 = c.before.before.before.if-not-are_long in
+    let a = c.args in
+    let are-long = c.are_long in
+    let if1 = c.if-not-are_long in
     (both_long 3 (length a.peers.now) 1 (length a.answer.now) (told-yes are-long.ensures if1.false)).1
 
 returns-2 : tie.Need-returns
 returns-2 c =
-    let are-long = c.before.before.before.before.before.before.before.are_long in
-    let if1 = c.before.before.before.before.before.before.if-not-are_long in
-    let peers-of = c.before.before.before.before.before.peers_of-p in
-    let len = c.before.before.before.len in
+    let are-long = c.are_long in
+    let if1 = c.if-not-are_long in
+    let peers-of = c.peers_of-p in
+    let len = c.len in
     passed-call _ _ (room-passed _ (told-yes are-long.ensures if1.false))
-    (tells peers-of.ensures len.result len.ensures c.before.before.put_len.ensures.0 c.before.before.put_len.ensures.1)
+    (tells peers-of.ensures len.result len.ensures c.put_len.ensures.0 c.put_len.ensures.1)
 
 pub nultiway_peers_len_spec : {M : Type 1} → statement M
 nultiway_peers_len_spec =
     tie.close
     (tie.spec
     (λ c κs. search rules)
-    (λ c. refused-call _ 1 (first-no 1 [] (told-no c.before.are_long.ensures c.if-not-are_long.true)) one refl)
+    (λ c. refused-call _ 1 (first-no 1 [] (told-no c.are_long.ensures c.if-not-are_long.true)) one refl)
     peers-of-requires
     (λ c κs. search rules)
     put-len-requires

@@ -20,7 +20,7 @@ start k = k.before.before.before.before.before.before.before
 
 -- whether the peers have room
 abbrev peer_tables : tie.Start → PeerTables
-peer_tables s = tables s.args.peer-table.now s.args.snapshot-keys.now s.args.contested.now
+peer_tables s = tables s.args.peer_table.now s.args.snapshot-keys.now s.args.contested.now
 
 abbrev room : tie.Start → Bool
 room s = peers_room (length s.args.peers.now) (lengths (peer_tables s))
@@ -29,7 +29,7 @@ asked : (k : tie.After-ask_report-no) → let s = start k in k.ask_report-no.res
 asked k =
     let s = start k in
     report-with (room s) s.args.report.now s.args.count k.ask_report-no.ensures
-    (k.before.peers_have_room-room.ensures ∙ peers-lengths (length s.args.peers.now) (peer_tables s))
+    (k.peers_have_room-room.ensures ∙ peers-lengths (length s.args.peers.now) (peer_tables s))
 
 -- the questions of the lent words are passed
 passed : (e : tie.Else-no-ne0) → let s = start e.before in Taken (room s) s.args.report.now s.args.count
@@ -55,11 +55,11 @@ put-peers-requires c κs =
 returns-2 : tie.Need-returns
 returns-2 c =
     let m₁ = c.before.before.before.before.before.before.before.before.before.before.before.before in
-    let peers-of = m₁.before.before.before.before.before.before.peers_of-p in
-    let new = m₁.before.before.before.before.before.new-id in
-    let report-of = m₁.before.before.before.before.report_of-sent in
-    let apply = c.before.before.before.before.before.before.before.before.before.before.before.before.apply-changed in
-    let put-peers = c.before.before.before.put_peers in
+    let peers-of = m₁.peers_of-p in
+    let new = m₁.new-id in
+    let report-of = m₁.report_of-sent in
+    let apply = c.apply-changed in
+    let put-peers = c.put_peers in
     passed-call _ _ (passed
     c.before.before.before.before.before.before.before.before.before.before.before.before.before.before.before.before.before.before.before.before).all_passed
     (changes (sent peers-of.ensures new.ensures report-of.ensures) apply.result apply.ensures c.change_number.ensures

@@ -11,22 +11,22 @@ returns : tie.Need-returns-then-peers-lt-PEERS_WORDS
 returns c = called-short c.if-peers-lt-PEERS_WORDS.true (refl, refl)
 
 peers-of-requires : tie.Need-peers_of-p-requires
-peers-of-requires c κs = c.before.if-peers-lt-PEERS_WORDS.false
+peers-of-requires c κs = c.if-peers-lt-PEERS_WORDS.false
 
 put-peers-requires : tie.Need-put_peers-requires
 put-peers-requires c κs =
     let m₁ = c.before.before.before.before.before.before.before.before.before.before.before.before in
-    let if1 = m₁.before.before.before.if-peers-lt-PEERS_WORDS in
+    let if1 = m₁.if-peers-lt-PEERS_WORDS in
     if1.false
 
 returns-2 : tie.Need-returns
 returns-2 c =
     let m₁ = c.before.before.before.before.before.before.before.before.before.before.before.before in
-    let if1 = m₁.before.before.before.before.before.before.before.if-peers-lt-PEERS_WORDS in
-    let peers-of = m₁.before.before.before.before.before.peers_of-p in
-    let new = m₁.before.before.before.before.new-id in
-    let leave = c.before.before.before.before.before.before.before.before.before.before.before.before.leave-changed in
-    let put-peers = c.before.before.before.put_peers in
+    let if1 = m₁.if-peers-lt-PEERS_WORDS in
+    let peers-of = m₁.peers_of-p in
+    let new = m₁.new-id in
+    let leave = c.leave-changed in
+    let put-peers = c.put_peers in
     called-room if1.false
     (changes (named peers-of.ensures new.ensures) leave.result leave.ensures c.change_number.ensures put-peers.ensures)
 

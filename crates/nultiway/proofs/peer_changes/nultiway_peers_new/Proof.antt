@@ -10,9 +10,9 @@ returns c = called-short c.if-peers-lt-PEERS_WORDS.true refl
 
 returns-2 : tie.Need-returns
 returns-2 c =
-    let if1 = c.before.before.before.before.before.if-peers-lt-PEERS_WORDS in
-    let new = c.before.before.before.new in
-    let put-new-peers = c.before.before.put_new_peers in
+    let if1 = c.if-peers-lt-PEERS_WORDS in
+    let new = c.new in
+    let put-new-peers = c.put_new_peers in
     called-room if1.false
     record {
       result = new.result;

@@ -21,10 +21,10 @@ abbrev decreases-loop-i : tie.decreases-loop-i
 decreases-loop-i words n i₀ i = n - i
 
 -- the record of a turn is within the words
-inside : (c : tie.In-loop-i invariant-loop-i decreases-loop-i) → let s = c.before.before.before.args in c.before.loop-i.i * 3 + 3 ≤ length s.words.now
+inside : (c : tie.In-loop-i invariant-loop-i decreases-loop-i) → let s = c.args in c.loop-i.i * 3 + 3 ≤ length s.words.now
 inside c =
-    let s = c.before.before.before.args in
-    omega (arith, row 3 s.n c.before.loop-i.i (omega arith), c.before.before.before.requires)
+    let s = c.args in
+    omega (arith, row 3 s.n c.loop-i.i (omega arith), c.requires)
 
 loop-holds : tie.Need-loop-i-init invariant-loop-i decreases-loop-i
 loop-holds c = (omega arith, refl)
@@ -46,33 +46,33 @@ part-is-listed-end c = omega (arith, inside c)
 
 is-listed-requires : tie.Need-is_listed-requires invariant-loop-i decreases-loop-i
 is-listed-requires c κs =
-    let s = c.before.before.before.before.args in
-    let at = c.before.before.loop-i.i * 3 in
+    let s = c.args in
+    let at = c.loop-i.i * 3 in
     length-take (at + 3 - at) (drop at s.words.now) ∙ omega (arith, length-drop at s.words.now, inside c.before)
 
 -- the lent words are the record of the turn
 record-told :
     (c : tie.After-is_listed invariant-loop-i decreases-loop-i)
-    → let s = c.before.before.before.before.before.args in
-    is_listed (get_or (records 3 s.n s.words.now) c.before.before.before.loop-i.i []) ≡ c.is_listed.result
+    → let s = c.args in
+    is_listed (get_or (records 3 s.n s.words.now) c.loop-i.i []) ≡ c.is_listed.result
 record-told c =
-    let s = c.before.before.before.before.before.args in
-    let i = c.before.before.before.loop-i.i in
+    let s = c.args in
+    let i = c.loop-i.i in
     let three : 3 ≡ i * 3 + 3 - i * 3 = omega arith in
     ap is_listed (record-at 3 s.n s.words.now i (omega arith) ∙ ap (λ (k : ℕ). take k (drop (i * 3) s.words.now)) three) ∙ sym
     c.is_listed.ensures
 
 returns : tie.Need-returns-then-not-is_listed invariant-loop-i decreases-loop-i
 returns c =
-    let s = c.before.before.before.before.before.before.args in
-    let l = c.before.before.before.before.loop-i in
+    let s = c.args in
+    let l = c.loop-i in
     scan-fails is_listed 3 s.n s.words.now l.i l.invariant.1 (omega arith)
     (record-told c.before ∙ c.if-not-is_listed.true)
 
 loop-again : tie.Need-loop-i-preserved invariant-loop-i decreases-loop-i
 loop-again c =
-    let s = c.before.before.before.before.before.before.args in
-    let l = c.before.before.before.before.loop-i in (
+    let s = c.args in
+    let l = c.loop-i in (
       omega arith,
       scan-goes is_listed 3 s.n s.words.now l.i l.invariant.1 (omega arith)
           (record-told c.before ∙ c.if-not-is_listed.false),
@@ -80,8 +80,8 @@ loop-again c =
 
 returns-2 : tie.Need-returns invariant-loop-i decreases-loop-i
 returns-2 c =
-    let s = c.before.before.before.args in
-    let l = c.before.loop-i in
+    let s = c.args in
+    let l = c.loop-i in
     scan-ends is_listed 3 s.n s.words.now l.i l.invariant.1 (omega arith)
 
 pub are_listed_spec : {M : Type 1} → statement M

@@ -17,7 +17,7 @@ abbrev start : tie.After-min → tie.Start
 start m = m.before.before.before
 
 returns : tie.Need-returns-then-not-room
-returns c = first-no 1 _ (and_first c.before.before.args.room _ (told-no refl c.if-not-room.true))
+returns c = first-no 1 _ (and_first c.args.room _ (told-no refl c.if-not-room.true))
 
 mul-least : tie.Need-overflow_mul-least
 mul-least c = omega (arith, c.min.ensures)
@@ -25,16 +25,16 @@ mul-least c = omega (arith, c.min.ensures)
 returns-2 : tie.Need-returns-then-words-least
 returns-2 c =
     let a = (start c.before).args in
-    report-short a.room a.words.now a.count c.before.min.ensures (and_second a.room _ (lt-leb _ _ c.if-words-least.true))
+    report-short a.room a.words.now a.count c.min.ensures (and_second a.room _ (lt-leb _ _ c.if-words-least.true))
 
 -- question 1 is passed
-room : (e : tie.Else-words-least) → let a = (start e.before).args in (a.room && leb (e.before.min.result * 3) (length a.words.now)) ≡ true
+room : (e : tie.Else-words-least) → let a = (start e.before).args in (a.room && leb (e.min.result * 3) (length a.words.now)) ≡ true
 room e =
     let a = (start e.before).args in
-    and_intro a.room _ (told-yes refl e.before.before.if-not-room.false) (le-leb _ _ e.if-words-least.false)
+    and_intro a.room _ (told-yes refl e.if-not-room.false) (le-leb _ _ e.if-words-least.false)
 
 are-listed-requires : tie.Need-are_listed-requires
-are-listed-requires c κs = omega (arith, c.before.before.min.ensures, c.min-2.ensures, c.before.if-words-least.false)
+are-listed-requires c κs = omega (arith, c.min.ensures, c.min-2.ensures, c.if-words-least.false)
 
 returns-3 : tie.Need-returns-then-not-are_listed
 returns-3 c =
@@ -42,7 +42,7 @@ returns-3 c =
     let m = n.before.before in
     let a = (start m).args in
     report-other a.room a.words.now a.count m.min.ensures (room n.before) n.min-2.ensures
-    (told-no c.before.are_listed.ensures c.if-not-are_listed.true)
+    (told-no c.are_listed.ensures c.if-not-are_listed.true)
 
 returns-4 : tie.Need-returns
 returns-4 c =
@@ -50,7 +50,7 @@ returns-4 c =
     let m = n.before.before in
     let a = (start m).args in
     report-fit a.room a.words.now a.count m.min.ensures (room n.before) n.min-2.ensures
-    (told-yes c.before.are_listed.ensures c.if-not-are_listed.false)
+    (told-yes c.are_listed.ensures c.if-not-are_listed.false)
 
 pub ask_report_spec : {M : Type 1} → statement M
 ask_report_spec =

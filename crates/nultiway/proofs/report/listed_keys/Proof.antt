@@ -22,8 +22,8 @@ abbrev start : tie.In-loop-i invariant-loop-i decreases-loop-i → tie.Start inv
 start c = c.before.before.before.before
 
 -- the words of a turn are within the report
-inside : (c : tie.In-loop-i invariant-loop-i decreases-loop-i) → c.before.loop-i.i * 3 + 3 ≤ length (start c).args.words.now
-inside c = omega (arith, row 3 (start c).args.n c.before.loop-i.i (omega arith), (start c).requires.1)
+inside : (c : tie.In-loop-i invariant-loop-i decreases-loop-i) → c.loop-i.i * 3 + 3 ≤ length (start c).args.words.now
+inside c = omega (arith, row 3 (start c).args.n c.loop-i.i (omega arith), (start c).requires.1)
 
 loop-holds : tie.Need-loop-i-init invariant-loop-i decreases-loop-i
 loop-holds c = (omega arith, keys-start _ c.blank_key-blank.ensures)
@@ -46,7 +46,7 @@ part-listed-of-end c = omega (arith, inside c)
 listed-of-requires : tie.Need-listed_of-key-requires invariant-loop-i decreases-loop-i
 listed-of-requires c κs =
     let ws = (start c.before).args.words.now in
-    let at = c.before.before.loop-i.i * 3 in
+    let at = c.loop-i.i * 3 in
     length-take (at + 3 - at) (drop at ws) ∙ omega (arith, length-drop at ws, inside c.before)
 
 array-set-from-keys : tie.Need-bounds-keys-i invariant-loop-i decreases-loop-i
@@ -56,7 +56,7 @@ loop-again : tie.Need-loop-i-preserved invariant-loop-i decreases-loop-i
 loop-again c =
     let s = start c.before.before in
     let ws = s.args.words.now in
-    let l = c.before.before.before.loop-i in
+    let l = c.loop-i in
     let three : l.i * 3 + 3 - l.i * 3 ≡ 3 = omega arith in
     let key : c.Listed-of.result ≡ listed_of (take 3 (drop (l.i * 3) ws)) =
     c.Listed-of.ensures ∙ ap (λ (k : ℕ). listed_of (take k (drop (l.i * 3) ws))) three in (
@@ -69,7 +69,7 @@ loop-again c =
 returns : tie.Need-returns invariant-loop-i decreases-loop-i
 returns c =
     let s = c.before.before.before.before in
-    let l = c.before.loop-i in
+    let l = c.loop-i in
     let e : l.i ≡ s.args.n = omega arith in
     l.invariant.1 ∙ ap (λ (k : ℕ). keys_of k s.args.words.now) e
 

@@ -10,8 +10,8 @@ cast-f32-from-bits c = omega arith
 
 returns : tie.Need-returns
 returns c =
-    let a = c.before.before.before.before.before.args in
-    listed-read a.words.now c.before.f32_from_bits.ensures
+    let a = c.args in
+    listed-read a.words.now c.f32_from_bits.ensures
 
 pub listed_of_spec : {M : Type 1} → statement M
 listed_of_spec =

@@ -28,7 +28,7 @@ start h = h.before.before.before.before.before.before
 
 -- the sizes are those of the words
 told : (h : tie.After-have_room) → h.have_room.result ≡ tables_long (start h)
-told h = h.have_room.ensures ∙ ap (room_of (start h)) h.before.before.limiter_of-limiter.ensures
+told h = h.have_room.ensures ∙ ap (room_of (start h)) h.limiter_of-limiter.ensures
 
 returns : tie.Need-returns-then-words-lt-LIMITER_WORDS
 returns c = first-no 1 _ (and_first _ _ (lt-leb _ _ c.if-words-lt-LIMITER_WORDS.true))
@@ -48,19 +48,19 @@ room : (e : tie.Else-not-have_room) → let s = start e.before in (long s && (ta
 room e =
     let s = start e.before in
     let r = e.before.before.before.before in
-    and_intro (long s) _ (le-leb _ _ r.before.if-words-lt-LIMITER_WORDS.false)
+    and_intro (long s) _ (le-leb _ _ r.if-words-lt-LIMITER_WORDS.false)
     (and_intro (tables_long s) _ (told-yes (told e.before) e.if-not-have_room.false) (told-yes refl r.if-not-room.false))
 
 is-limiter-requires : tie.Need-is_limiter-requires
 is-limiter-requires c κs =
     let l = c.before.before.before in
-    (l.before.before.if-words-lt-LIMITER_WORDS.false, l.limiter_of-limiter.ensures)
+    (l.if-words-lt-LIMITER_WORDS.false, l.limiter_of-limiter.ensures)
 
 returns-4 : tie.Need-returns-then-not-is_limiter
-returns-4 c = first-yes 1 _ (room c.before.before) (first-no 2 _ (told-no c.before.is_limiter.ensures c.if-not-is_limiter.true))
+returns-4 c = first-yes 1 _ (room c.before.before) (first-no 2 _ (told-no c.is_limiter.ensures c.if-not-is_limiter.true))
 
 returns-5 : tie.Need-returns
-returns-5 c = first-yes 1 _ (room c.before.before) (first-yes 2 _ (told-yes c.before.is_limiter.ensures c.if-not-is_limiter.false) first-none)
+returns-5 c = first-yes 1 _ (room c.before.before) (first-yes 2 _ (told-yes c.is_limiter.ensures c.if-not-is_limiter.false) first-none)
 
 pub ask_limiter_spec : {M : Type 1} → statement M
 ask_limiter_spec =

@@ -13,7 +13,7 @@ use Rattle.nultiway.proofs.values.is_limiter.Statement.{statement}
 use Rattle.nultiway.proofs.values.is_limiter.Tie as tie
 
 slice-aggregate-are-same-2 : tie.Need-slice_bounds-are_same-end-2
-slice-aggregate-are-same-2 c = sym (length-take-le 16 c.before.before.before.before.args.words.now (omega arith))
+slice-aggregate-are-same-2 c = sym (length-take-le 16 c.args.words.now (omega arith))
 
 returns : tie.Need-returns
 unfolding is_limiter

@@ -10,7 +10,7 @@ returns c =
     let x = t.before in
     let g = x.before in
     let w = g.before in
-    limiter-read w.before.before.args.words.now _ _ _ _ w.settings_in-w.ensures g.config_of-config.ensures x.cap_of-cap.ensures
+    limiter-read w.args.words.now _ _ _ _ w.settings_in-w.ensures g.config_of-config.ensures x.cap_of-cap.ensures
     t.last_tick_of-last_tick.ensures
 
 pub limiter_of_spec : {M : Type 1} → statement M

@@ -8,7 +8,7 @@ returns : tie.Need-returns
 returns c =
     let x = c.before in
     let g = x.before in
-    limiter-written g.before.before.args.limiter g.config_words-w.ensures x.cap_words-c.ensures c.last_tick_words-t.ensures
+    limiter-written g.args.limiter g.config_words-w.ensures x.cap_words-c.ensures c.last_tick_words-t.ensures
 
 pub limiter_words_spec : {M : Type 1} → statement M
 limiter_words_spec =

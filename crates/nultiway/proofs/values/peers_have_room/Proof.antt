@@ -8,11 +8,11 @@ use Rattle.nultiway.proofs.values.peers_have_room.Statement.{statement}
 use Rattle.nultiway.proofs.values.peers_have_room.Tie as tie
 
 returns : tie.Need-returns-then-not-room
-returns c = stop c.before.args.room _ (told-no refl c.if-not-room.true)
+returns c = stop c.args.room _ (told-no refl c.if-not-room.true)
 
 -- the other buffers have room, so the rest decides
-then : (e : tie.Else-not-room) (b x : Bool) → x ≡ b → x ≡ (e.before.args.room && b)
-then e b x h = goes e.before.args.room b x (told-yes refl e.if-not-room.false) h
+then : (e : tie.Else-not-room) (b x : Bool) → x ≡ b → x ≡ (e.args.room && b)
+then e b x h = goes e.args.room b x (told-yes refl e.if-not-room.false) h
 
 returns-2 : tie.Need-returns-then-words-lt-PEERS_WORDS
 returns-2 c = then c.before _ false (stop _ _ (lt-leb _ _ c.if-words-lt-PEERS_WORDS.true))

@@ -6,7 +6,7 @@ use Rattle.nultiway.proofs.values.put_peers.Tie as tie
 
 returns : tie.Need-returns
 unfolding peers_words
-returns c = c.before.before.put.ensures
+returns c = c.put.ensures
 
 pub put_peers_spec : {M : Type 1} → statement M
 put_peers_spec = tie.close (tie.spec (λ c. search rules) (λ c κs. search rules) (λ c. search rules) returns)

@@ -8,17 +8,17 @@ use Rattle.nultiway.proofs.values.settings_in.Statement.{statement}
 use Rattle.nultiway.proofs.values.settings_in.Tie as tie
 
 slice-aggregate-put-2 : tie.Need-slice_bounds-put-end-2
-slice-aggregate-put-2 c = sym (length-take-le 13 c.before.before.before.args.words.now (omega arith))
+slice-aggregate-put-2 c = sym (length-take-le 13 c.args.words.now (omega arith))
 
 put-requires : tie.Need-put-requires
 put-requires c κs =
-    let e = length-take-le 13 c.before.before.before.args.words.now (omega arith) in
+    let e = length-take-le 13 c.args.words.now (omega arith) in
     (omega (arith, e), omega (arith, e))
 
 returns : tie.Need-returns
 returns c =
     let p = c.before in
-    paste-whole _ _ _ p.put.ensures (sym (length-take-le 13 p.before.before.before.before.args.words.now (omega arith)))
+    paste-whole _ _ _ p.put.ensures (sym (length-take-le 13 p.args.words.now (omega arith)))
 
 pub settings_in_spec : {M : Type 1} → statement M
 settings_in_spec = tie.close (tie.spec (λ c. search rules) slice-aggregate-put-2 put-requires returns)

@@ -7,7 +7,7 @@ use Rattle.peers.proofs.peer_demand.round_is_newer.Tie as tie
 returns : tie.Need-returns-then-a-b
 returns c =
     newer-if _ _ _
-    (some-ahead _ _ _ (omega arith) c.before.if-a-b.true c.wrapping_sub_u16.ensures)
+    (some-ahead _ _ _ (omega arith) c.if-a-b.true c.wrapping_sub_u16.ensures)
     (wraps-ahead _ _ _ (omega arith) (omega arith) (omega arith) c.wrapping_sub_u16.ensures)
 
 returns-2 : tie.Need-returns-else-a-b

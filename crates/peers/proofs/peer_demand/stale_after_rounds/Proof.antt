@@ -8,14 +8,14 @@ use Rattle.peers.proofs.Peers.Reports.RoundLaws.{cluster-small}
 use Rattle.peers.proofs.peer_demand.stale_after_rounds.Statement.{statement}
 use Rattle.peers.proofs.peer_demand.stale_after_rounds.Tie as tie
 
-passed : (c : tie.Else-not-is_cluster_size) → is_cluster_size c.before.before.args.cluster-size ≡ true
-passed c = sym c.before.is_cluster_size.ensures ∙ c.if-not-is_cluster_size.false
+passed : (c : tie.Else-not-is_cluster_size) → is_cluster_size c.args.cluster_size ≡ true
+passed c = sym c.is_cluster_size.ensures ∙ c.if-not-is_cluster_size.false
 
 returns : tie.Need-returns-then-not-is_cluster_size
-returns c = alone-no 7 _ (sym c.before.is_cluster_size.ensures ∙ c.if-not-is_cluster_size.true)
+returns c = alone-no 7 _ (sym c.is_cluster_size.ensures ∙ c.if-not-is_cluster_size.true)
 
 mul-max : tie.Need-overflow_mul-cluster_size
-mul-max c = omega (arith, cluster-small c.before.before.args.cluster-size (passed c))
+mul-max c = omega (arith, cluster-small c.args.cluster_size (passed c))
 
 returns-2 : tie.Need-returns
 returns-2 c = ap given c.max.ensures ∙ alone-yes 7 _ (passed c.before)

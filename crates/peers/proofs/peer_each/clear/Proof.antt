@@ -14,10 +14,10 @@ loop-holds : tie.Need-loop-i-init invariant-loop-i decreases-loop-i
 loop-holds c = (omega arith, refl, cleared-none c.args.n c.args.out.now)
 
 slice-write-out : tie.Need-bounds-out-i invariant-loop-i decreases-loop-i
-slice-write-out c = omega (arith, c.loop-i-test.true, c.before.before.requires, c.before.loop-i.invariant.1)
+slice-write-out c = omega (arith, c.loop-i-test.true, c.requires, c.loop-i.invariant.1)
 
 add-i : tie.Need-overflow_add-i invariant-loop-i decreases-loop-i
-add-i c = omega (arith, c.loop-i-test.true, c.before.before.requires, c.before.loop-i.invariant.1)
+add-i c = omega (arith, c.loop-i-test.true, c.requires, c.loop-i.invariant.1)
 
 loop-less : tie.Need-loop-i-smaller invariant-loop-i decreases-loop-i
 loop-less c = omega (arith, c.loop-i-test.true)
@@ -25,19 +25,19 @@ loop-less c = omega (arith, c.loop-i-test.true)
 loop-again : tie.Need-loop-i-preserved invariant-loop-i decreases-loop-i
 loop-again c =
     let s = c.before.before in
-    let l = c.before.loop-i in (
+    let l = c.loop-i in (
       omega (arith, c.loop-i-test.true),
       length-set l.out l.i false ∙ l.invariant.1,
       ap (λ (xs : List Bool). set xs l.i false) l.invariant.2 ∙ cleared-next s.args.n s.args.out.now s.requires l.i c.loop-i-test.true,
     )
 
 same_length : tie.Need-shape_of-out invariant-loop-i decreases-loop-i
-same_length c = c.before.loop-i.invariant.1
+same_length c = c.loop-i.invariant.1
 
 returns : tie.Need-returns invariant-loop-i decreases-loop-i
 returns c =
     let s = c.before.before in
-    let l = c.before.loop-i in
+    let l = c.loop-i in
     l.invariant.2 ∙ cleared-all s.args.n s.args.out.now l.i l.invariant.0 c.loop-i-test.false
 
 pub clear_spec : {M : Type 1} → statement M

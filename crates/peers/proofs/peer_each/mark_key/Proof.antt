@@ -6,27 +6,27 @@ use Rattle.peers.proofs.peer_each.mark_key.Tie as tie
 
 slice-write-out : tie.Need-bounds-out-i
 slice-write-out c =
-    let f = c.before.before.before in
+    let f = c.before in
     let s = f.before.before.before in
-    place-marked s.args.w s.args.n s.args.key s.args.keys.now s.args.out.now s.requires c.before.i.given.0.0 (sym c.before.i.given.1 ∙ f.find.ensures)
+    place-marked s.args.w s.args.n s.args.key s.args.keys.now s.args.out.now s.requires c.in-At.i (sym c.in-At.is ∙ f.find.ensures)
 
 returns : tie.Need-returns-in-At
 returns c =
-    let f = c.before.before.before in
+    let f = c.before in
     let s = f.before.before.before in
-    key-marked s.args.w s.args.n s.args.key s.args.keys.now s.args.out.now s.requires c.before.i.given.0.0 (sym c.before.i.given.1 ∙ f.find.ensures)
+    key-marked s.args.w s.args.n s.args.key s.args.keys.now s.args.out.now s.requires c.in-At.i (sym c.in-At.is ∙ f.find.ensures)
 
 returns-2 : tie.Need-returns-in-Gap
 returns-2 c =
-    let f = c.before.before.before in
+    let f = c.before in
     let s = f.before.before.before in
-    key-absent s.args.w s.args.n s.args.key s.args.keys.now s.args.out.now s.requires c.before.i2.given.0.0 (sym c.before.i2.given.1 ∙ f.find.ensures)
+    key-absent s.args.w s.args.n s.args.key s.args.keys.now s.args.out.now s.requires c.in-Gap.i (sym c.in-Gap.is ∙ f.find.ensures)
 
 returns-3 : tie.Need-returns-in-Unfit
 returns-3 c =
-    let f = c.before.before in
+    let f = c.before in
     let s = f.before.before.before in
-    absurd (key_fits s.args.w s.args.n s.args.key s.args.keys.now s.args.out.now s.requires (sym c.enum_told.given.1 ∙ f.find.ensures))
+    absurd (key_fits s.args.w s.args.n s.args.key s.args.keys.now s.args.out.now s.requires (sym c.in-Unfit.is ∙ f.find.ensures))
 
 pub mark_key_spec : {M : Type 1} → statement M
 mark_key_spec =

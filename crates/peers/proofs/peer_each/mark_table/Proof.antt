@@ -18,15 +18,15 @@ abbrev start : tie.In-loop-i invariant-loop-i decreases-loop-i → tie.Start inv
 start c = c.before.before.before.before.before
 
 -- the record of a turn is within its table
-inside : (c : tie.In-loop-i invariant-loop-i decreases-loop-i) → c.before.loop-i.i * (start c).args.v + 4 ≤ length (start c).args.t.now
+inside : (c : tie.In-loop-i invariant-loop-i decreases-loop-i) → c.loop-i.i * (start c).args.v + 4 ≤ length (start c).args.t.now
 inside c =
     let s = start c in
-    omega (arith, row s.args.v s.args.m c.before.loop-i.i c.loop-i-test.true, s.pre.1.wide, s.pre.1.fit)
+    omega (arith, row s.args.v s.args.m c.loop-i.i c.loop-i-test.true, s.pre.1.wide, s.pre.1.fit)
 
-markable : (c : tie.In-loop-i invariant-loop-i decreases-loop-i) → Markable (start c).args.w (start c).args.n (start c).args.keys.now c.before.loop-i.out
+markable : (c : tie.In-loop-i invariant-loop-i decreases-loop-i) → Markable (start c).args.w (start c).args.n (start c).args.keys.now c.loop-i.out
 markable c =
     let m = (start c).requires.0 in
-    record { fit = m.fit; ascends = m.ascends; room = omega (arith, m.room, c.before.loop-i.invariant.1) }
+    record { fit = m.fit; ascends = m.ascends; room = omega (arith, m.room, c.loop-i.invariant.1) }
 
 loop-holds : tie.Need-loop-i-init invariant-loop-i decreases-loop-i
 loop-holds c = (omega arith, refl, refl)
@@ -43,26 +43,26 @@ add-i c =
     omega (arith, e.loop-i-test.true, (start e).ranges.m.fits)
 
 loop-less : tie.Need-loop-i-smaller invariant-loop-i decreases-loop-i
-loop-less c = omega (arith, c.before.before.before.before.loop-i-test.true)
+loop-less c = omega (arith, c.loop-i-test.true)
 
 loop-again : tie.Need-loop-i-preserved invariant-loop-i decreases-loop-i
 loop-again c =
     let r = c.before.before in
     let e = r.before.before in
     let s = start e in
-    let l = e.before.loop-i in (
+    let l = e.loop-i in (
       omega (arith, e.loop-i-test.true),
       ap length r.mark_record.ensures ∙ length_marked _ _ _ ∙ l.invariant.1,
       mark-goes (records s.args.w s.args.n s.args.keys.now) s.args.v s.args.m s.args.t.now l.out _ l.i e.loop-i-test.true s.pre.1.wide r.mark_record.ensures ∙ l.invariant.2,
     )
 
 same_length : tie.Need-shape_of-out invariant-loop-i decreases-loop-i
-same_length c = c.before.loop-i.invariant.1
+same_length c = c.loop-i.invariant.1
 
 returns : tie.Need-returns invariant-loop-i decreases-loop-i
 returns c =
     let s = c.before.before.before.before.before in
-    let l = c.before.loop-i in
+    let l = c.loop-i in
     sym (mark-ends (records s.args.w s.args.n s.args.keys.now) s.args.v s.args.m s.args.t.now l.out l.i c.loop-i-test.false) ∙ l.invariant.2
 
 pub mark_table_spec : {M : Type 1} → statement M

@@ -8,8 +8,8 @@ use Rattle.peers.proofs.peer_heard.add_heard.Tie as tie
 
 returns-2 : tie.Need-returns-in-Of
 returns-2 c =
-    let s = c.before.before.before.before.args in
-    ap (add binary64 s.sum) c.f32_to_f64.ensures ∙ sym (λ k. add_heard s.sum (said_of (c.before.before.said.given.1 k)))
+    let s = c.args in
+    ap (add binary64 s.sum) c.f32_to_f64.ensures ∙ sym (λ k. add_heard s.sum (said_of (c.in-Of.is k)))
 
 pub add_heard_spec : {M : Type 1} → statement M
 add_heard_spec =

@@ -4,10 +4,10 @@ use Rattle.peers.proofs.peer_heard.count_unlisted.Statement.{statement}
 use Rattle.peers.proofs.peer_heard.count_unlisted.Tie as tie
 
 returns : tie.Need-returns-then-is_listed
-returns c = sym (ap (λ (b : Bool). cond b 0 1) (sym c.before.is_listed.ensures ∙ c.if-is_listed.true))
+returns c = sym (ap (λ (b : Bool). cond b 0 1) (sym c.is_listed.ensures ∙ c.if-is_listed.true))
 
 returns-2 : tie.Need-returns
-returns-2 c = sym (ap (λ (b : Bool). cond b 0 1) (sym c.before.is_listed.ensures ∙ c.if-is_listed.false))
+returns-2 c = sym (ap (λ (b : Bool). cond b 0 1) (sym c.is_listed.ensures ∙ c.if-is_listed.false))
 
 pub count_unlisted_spec : {M : Type 1} → statement M
 count_unlisted_spec =

@@ -8,69 +8,69 @@ use Rattle.peers.proofs.Peers.Readers.HeardLaws.{place-below, demand-fits, round
 use Rattle.peers.proofs.peer_heard.heard_contested.Statement.{statement}
 use Rattle.peers.proofs.peer_heard.heard_contested.Tie as tie
 
-abbrev start : tie.In-At-2 → tie.Start
-start c = c.before.before.before.before
+abbrev start : tie.In-At → tie.Start
+start c = c.before.before.before
 
-found : (c : tie.In-At-2) → let s = (start c).args in find 2 (s.id ∷ s.key ∷ []) (records 6 s.n s.t.now) ≡ At c.i.given.0.0
+found : (c : tie.In-At) → let s = (start c).args in find 2 (s.id ∷ s.key ∷ []) (records 6 s.n s.t.now) ≡ At c.in-At.i
 found c =
     let s = (start c).args in
-    find-says 6 2 s.n s.id s.key s.t.now (omega arith) (omega arith) (omega arith) (start c).requires.ready.fit c.before.before.find.result c.before.before.find.ensures ∙ c.i.given.1
+    find-says 6 2 s.n s.id s.key s.t.now (omega arith) (omega arith) (omega arith) (start c).requires.ready.fit c.find.result c.find.ensures ∙ c.in-At.is
 
-below : (c : tie.In-At-2) → c.i.given.0.0 < (start c).args.n
+below : (c : tie.In-At) → c.in-At.i < (start c).args.n
 below c =
     let s = (start c).args in
-    place-below 6 s.n s.id s.key s.t.now (start c).requires c.i.given.0.0 (found c)
+    place-below 6 s.n s.id s.key s.t.now (start c).requires c.in-At.i (found c)
 
-inside : (c : tie.In-At-2) → c.i.given.0.0 * 6 + 6 ≤ length (start c).args.t.now
+inside : (c : tie.In-At) → c.in-At.i * 6 + 6 ≤ length (start c).args.t.now
 inside c = omega (arith, below c, (start c).requires.ready.fit)
 
 mul_at : tie.Need-overflow_mul-at
-mul_at c = omega (arith, inside c.before)
+mul_at c = omega (arith, inside c)
 
 add-key-heard : tie.Need-overflow_add-at
-add-key-heard c = omega (arith, inside c.before)
+add-key-heard c = omega (arith, inside c)
 
 mul-key-heard : tie.Need-offset_bounds-t-at
-mul-key-heard c = omega (arith, inside c.before)
+mul-key-heard c = omega (arith, inside c)
 
 shared-slice-read-key-heard : tie.Need-bounds-t-at
-shared-slice-read-key-heard c = omega (arith, inside c.before.before)
+shared-slice-read-key-heard c = omega (arith, inside c.before)
 
 add-key-heard-2 : tie.Need-overflow_add-at-in-At
-add-key-heard-2 c = omega (arith, inside c.before.before)
+add-key-heard-2 c = omega (arith, inside c.before)
 
 mul-key-heard-2 : tie.Need-offset_bounds-t-at-in-At
-mul-key-heard-2 c = omega (arith, inside c.before.before)
+mul-key-heard-2 c = omega (arith, inside c.before)
 
 shared-slice-read-key-heard-2 : tie.Need-bounds-t-at-in-At
-shared-slice-read-key-heard-2 c = omega (arith, inside c.before.before.before)
+shared-slice-read-key-heard-2 c = omega (arith, inside c.before.before)
 
 key-heard-requires : tie.Need-key_heard-requires
 key-heard-requires c κs =
-    let a = c.before.before.before in
+    let a = c.before.before in
     let s = (start a).args in
-    (omega (arith, inside a), omega (arith, demand-fits 6 s.n s.id s.key s.t.now (start a).requires a.i.given.0.0 (below a)), round-fits 6 s.n s.id s.key s.t.now (start a).requires a.i.given.0.0 (below a) (omega arith))
+    (omega (arith, inside a), omega (arith, demand-fits 6 s.n s.id s.key s.t.now (start a).requires a.in-At.i (below a)), round-fits 6 s.n s.id s.key s.t.now (start a).requires a.in-At.i (below a) (omega arith))
 
 returns : tie.Need-returns-in-At
 returns c =
-    let a = c.before.before.before.before in
+    let a = c.before.before.before in
     let s = (start a).args in
-    ap some c.key_heard.ensures ∙ contested-found s.n s.id s.key s.t.now (start a).requires a.i.given.0.0 (found a)
+    ap some c.key_heard.ensures ∙ contested-found s.n s.id s.key s.t.now (start a).requires a.in-At.i (found a)
 
 returns-2 : tie.Need-returns-in-Gap
 returns-2 c =
-    let a = c.before in
-    let b = a.before.before in
+    let a = c in
+    let b = a.before in
     let st = b.before.before in
     let s = st.args in
-    contested-missing s.n s.id s.key s.t.now st.requires a.i2.given.0.0 (find-says 6 2 s.n s.id s.key s.t.now (omega arith) (omega arith) (omega arith) st.requires.ready.fit b.find.result b.find.ensures ∙ a.i2.given.1)
+    contested-missing s.n s.id s.key s.t.now st.requires a.in-Gap.i (find-says 6 2 s.n s.id s.key s.t.now (omega arith) (omega arith) (omega arith) st.requires.ready.fit b.find.result b.find.ensures ∙ a.in-Gap.is)
 
 returns-3 : tie.Need-returns-in-Unfit
 returns-3 c =
-    let b = c.before.before in
+    let b = c.before in
     let st = b.before.before in
     let s = st.args in
-    absurd (never-unfit 6 2 s.n s.id s.key s.t.now (omega arith) (omega arith) (omega arith) st.requires.ready.fit b.find.result b.find.ensures c.enum_told.given.1)
+    absurd (never-unfit 6 2 s.n s.id s.key s.t.now (omega arith) (omega arith) (omega arith) st.requires.ready.fit b.find.result b.find.ensures c.in-Unfit.is)
 
 pub heard_contested_spec : {M : Type 1} → statement M
 heard_contested_spec =

@@ -8,56 +8,56 @@ use Rattle.peers.proofs.Peers.Readers.HeardLaws.{place-below, demand-fits, taken
 use Rattle.peers.proofs.peer_heard.heard_taken.Statement.{statement}
 use Rattle.peers.proofs.peer_heard.heard_taken.Tie as tie
 
-abbrev start : tie.In-At-2 → tie.Start
-start c = c.before.before.before.before.before
+abbrev start : tie.In-At → tie.Start
+start c = c.before.before.before.before
 
-found : (c : tie.In-At-2) → let s = (start c).args in find 2 (s.id ∷ s.key ∷ []) (records 4 s.n s.t.now) ≡ At c.i.given.0.0
+found : (c : tie.In-At) → let s = (start c).args in find 2 (s.id ∷ s.key ∷ []) (records 4 s.n s.t.now) ≡ At c.in-At.i
 found c =
     let s = (start c).args in
-    find-says 4 2 s.n s.id s.key s.t.now (omega arith) (omega arith) (omega arith) (start c).requires.0.ready.fit c.before.before.find.result c.before.before.find.ensures ∙ c.i.given.1
+    find-says 4 2 s.n s.id s.key s.t.now (omega arith) (omega arith) (omega arith) (start c).requires.0.ready.fit c.find.result c.find.ensures ∙ c.in-At.is
 
-below : (c : tie.In-At-2) → c.i.given.0.0 < (start c).args.n
+below : (c : tie.In-At) → c.in-At.i < (start c).args.n
 below c =
     let s = (start c).args in
-    place-below 4 s.n s.id s.key s.t.now (start c).requires.0 c.i.given.0.0 (found c)
+    place-below 4 s.n s.id s.key s.t.now (start c).requires.0 c.in-At.i (found c)
 
-inside : (c : tie.In-At-2) → c.i.given.0.0 * 4 + 4 ≤ length (start c).args.t.now
+inside : (c : tie.In-At) → c.in-At.i * 4 + 4 ≤ length (start c).args.t.now
 inside c = omega (arith, below c, (start c).requires.0.ready.fit)
 
 returns : tie.Need-returns-then-flag-eq0
 returns c =
-    let s = c.before.before.args in
+    let s = c.args in
     taken-absent s.n s.id s.key s.flag s.round s.heard-at s.t.now c.if-flag-eq0.true
 
 mul-key-heard : tie.Need-overflow_mul-i
-mul-key-heard c = omega (arith, inside c.before)
+mul-key-heard c = omega (arith, inside c)
 
 key-heard-requires : tie.Need-key_heard-requires
 key-heard-requires c κs =
-    let a = c.before in
+    let a = c in
     let s = (start a).args in
-    (omega (arith, inside a), omega (arith, demand-fits 4 s.n s.id s.key s.t.now (start a).requires.0 a.i.given.0.0 (below a)), (start a).requires.1)
+    (omega (arith, inside a), omega (arith, demand-fits 4 s.n s.id s.key s.t.now (start a).requires.0 a.in-At.i (below a)), (start a).requires.1)
 
 returns-2 : tie.Need-returns-in-At
 returns-2 c =
-    let a = c.before.before in
+    let a = c.before in
     let s = (start a).args in
-    ap some c.key_heard.ensures ∙ taken-found s.n s.id s.key s.flag s.round s.heard-at s.t.now (start a).requires.0 a.before.before.before.if-flag-eq0.false a.i.given.0.0 (found a)
+    ap some c.key_heard.ensures ∙ taken-found s.n s.id s.key s.flag s.round s.heard-at s.t.now (start a).requires.0 a.if-flag-eq0.false a.in-At.i (found a)
 
 returns-3 : tie.Need-returns-in-Gap
 returns-3 c =
-    let a = c.before in
-    let b = a.before.before in
+    let a = c in
+    let b = a.before in
     let st = b.before.before.before in
     let s = st.args in
-    taken-missing s.n s.id s.key s.flag s.round s.heard-at s.t.now st.requires.0 b.before.if-flag-eq0.false a.i2.given.0.0 (find-says 4 2 s.n s.id s.key s.t.now (omega arith) (omega arith) (omega arith) st.requires.0.ready.fit b.find.result b.find.ensures ∙ a.i2.given.1)
+    taken-missing s.n s.id s.key s.flag s.round s.heard-at s.t.now st.requires.0 b.if-flag-eq0.false a.in-Gap.i (find-says 4 2 s.n s.id s.key s.t.now (omega arith) (omega arith) (omega arith) st.requires.0.ready.fit b.find.result b.find.ensures ∙ a.in-Gap.is)
 
 returns-4 : tie.Need-returns-in-Unfit
 returns-4 c =
-    let b = c.before.before in
+    let b = c.before in
     let st = b.before.before.before in
     let s = st.args in
-    absurd (never-unfit 4 2 s.n s.id s.key s.t.now (omega arith) (omega arith) (omega arith) st.requires.0.ready.fit b.find.result b.find.ensures c.enum_told.given.1)
+    absurd (never-unfit 4 2 s.n s.id s.key s.t.now (omega arith) (omega arith) (omega arith) st.requires.0.ready.fit b.find.result b.find.ensures c.in-Unfit.is)
 
 pub heard_taken_spec : {M : Type 1} → statement M
 heard_taken_spec =

@@ -7,26 +7,26 @@ use Rattle.peers.proofs.peer_heard.is_listed.Tie as tie
 
 returns : tie.Need-returns-in-At
 returns c =
-    let a = c.before in
-    let b = a.before.before in
+    let a = c in
+    let b = a.before in
     let st = b.before.before in
     let s = st.args in
-    listed_found s.n s.id s.key s.t.now st.requires a.i.given.0.0 (find-says 4 2 s.n s.id s.key s.t.now (omega arith) (omega arith) (omega arith) st.requires.ready.fit b.find.result b.find.ensures ∙ a.i.given.1)
+    listed_found s.n s.id s.key s.t.now st.requires a.in-At.i (find-says 4 2 s.n s.id s.key s.t.now (omega arith) (omega arith) (omega arith) st.requires.ready.fit b.find.result b.find.ensures ∙ a.in-At.is)
 
 returns-2 : tie.Need-returns-in-Gap
 returns-2 c =
-    let a = c.before in
-    let b = a.before.before in
+    let a = c in
+    let b = a.before in
     let st = b.before.before in
     let s = st.args in
-    listed-missing s.n s.id s.key s.t.now st.requires a.i2.given.0.0 (find-says 4 2 s.n s.id s.key s.t.now (omega arith) (omega arith) (omega arith) st.requires.ready.fit b.find.result b.find.ensures ∙ a.i2.given.1)
+    listed-missing s.n s.id s.key s.t.now st.requires a.in-Gap.i (find-says 4 2 s.n s.id s.key s.t.now (omega arith) (omega arith) (omega arith) st.requires.ready.fit b.find.result b.find.ensures ∙ a.in-Gap.is)
 
 returns-3 : tie.Need-returns-in-Unfit
 returns-3 c =
-    let b = c.before.before in
+    let b = c.before in
     let st = b.before.before in
     let s = st.args in
-    absurd (never-unfit 4 2 s.n s.id s.key s.t.now (omega arith) (omega arith) (omega arith) st.requires.ready.fit b.find.result b.find.ensures c.enum_told.given.1)
+    absurd (never-unfit 4 2 s.n s.id s.key s.t.now (omega arith) (omega arith) (omega arith) st.requires.ready.fit b.find.result b.find.ensures c.in-Unfit.is)
 
 pub is_listed_spec : {M : Type 1} → statement M
 is_listed_spec =

@@ -7,10 +7,10 @@ use Rattle.peers.proofs.peer_heard.join.Statement.{statement}
 use Rattle.peers.proofs.peer_heard.join.Tie as tie
 
 returns-2 : tie.Need-returns-in-Silence-contested
-returns-2 c = sym (λ k. readers.join (said_of (c.before.before.before.taken.given.1 k)) (said_of (c.enum-told2.given.1 k)))
+returns-2 c = sym (λ k. readers.join (said_of (c.in-Of.is k)) (said_of (c.in-Silence-contested.is k)))
 
 returns-3 : tie.Need-returns-in-Of-contested
-returns-3 c = ap some c.joined.ensures ∙ sym (λ k. readers.join (said_of (c.before.before.before.before.before.taken.given.1 k)) (said_of (c.before.before.contested.given.1 k)))
+returns-3 c = ap some c.joined.ensures ∙ sym (λ k. readers.join (said_of (c.in-Of.is k)) (said_of (c.in-Of-contested.is k)))
 
 pub join_spec : {M : Type 1} → statement M
 join_spec =

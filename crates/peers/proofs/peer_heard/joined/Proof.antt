@@ -6,13 +6,13 @@ use Rattle.peers.proofs.peer_heard.joined.Tie as tie
 
 returns : tie.Need-returns-then-taken-contested
 returns c =
-    let s = c.before.before.before.before.args in
-    joined-second s.taken s.contested c.before.before.before.is_either-primary.result c.before.before.before.is_either-primary.ensures c.if-taken-contested.true
+    let s = c.args in
+    joined-second s.taken s.contested c.is_either-primary.result c.is_either-primary.ensures c.if-taken-contested.true
 
 returns-2 : tie.Need-returns
 returns-2 c =
-    let s = c.before.before.before.before.args in
-    joined-first s.taken s.contested c.before.before.before.is_either-primary.result c.before.before.before.is_either-primary.ensures c.if-taken-contested.false
+    let s = c.args in
+    joined-first s.taken s.contested c.is_either-primary.result c.is_either-primary.ensures c.if-taken-contested.false
 
 pub joined_spec : {M : Type 1} → statement M
 joined_spec = tie.close (tie.spec (λ c κs. search rules) returns returns-2)

@@ -6,8 +6,8 @@ use Rattle.peers.proofs.peer_heard.key_heard.Tie as tie
 
 returns : tie.Need-returns
 returns c =
-    let s = c.before.before.before.before.args in
-    (λ k. record { demand = c.before.f32_from_bits.ensures k; primary = flag_is (get_or s.t.now (s.at + 3) 0) k; round = s.round; heard_at = s.heard-at })
+    let s = c.args in
+    (λ k. record { demand = c.f32_from_bits.ensures k; primary = flag_is (get_or s.t.now (s.at + 3) 0) k; round = s.round; heard_at = s.heard-at })
 
 pub key_heard_spec : {M : Type 1} → statement M
 key_heard_spec =

@@ -16,10 +16,10 @@ abbrev decreases-loop-i : tie.decreases-loop-i
 decreases-loop-i t n i₀ i = n - i
 
 -- the record of a turn is within the table
-inside : (c : tie.In-loop-i invariant-loop-i decreases-loop-i) → let s = c.before.before.before.args in c.before.loop-i.i * 12 + 12 ≤ length s.t.now
+inside : (c : tie.In-loop-i invariant-loop-i decreases-loop-i) → let s = c.args in c.loop-i.i * 12 + 12 ≤ length s.t.now
 inside c =
-    let s = c.before.before.before.args in
-    omega (arith, row 12 s.n c.before.loop-i.i (omega arith), c.before.before.before.requires)
+    let s = c.args in
+    omega (arith, row 12 s.n c.loop-i.i (omega arith), c.requires)
 
 loop-holds : tie.Need-loop-i-init invariant-loop-i decreases-loop-i
 loop-holds c = (omega arith, refl)
@@ -42,32 +42,32 @@ part-are-peer-words-end c = omega (arith, inside c)
 are-peer-words-requires : tie.Need-are_peer_words-requires invariant-loop-i decreases-loop-i
 are-peer-words-requires c κs =
     let s = c.before.before.before.before in
-    let i = c.before.before.loop-i.i in
+    let i = c.loop-i.i in
     ap length (lent-record 12 s.args.n s.args.t.now i (omega arith)) ∙ record-length 12 s.args.n s.args.t.now i (omega arith) s.requires
 
 -- the lent words are the record of the turn
-record-told : (c : tie.After-are_peer_words invariant-loop-i decreases-loop-i) → let s = c.before.before.before.before.before.args in are_peer_words (get_or (records 12 s.n s.t.now) c.before.before.before.loop-i.i []) ≡ c.are_peer_words.result
+record-told : (c : tie.After-are_peer_words invariant-loop-i decreases-loop-i) → let s = c.args in are_peer_words (get_or (records 12 s.n s.t.now) c.loop-i.i []) ≡ c.are_peer_words.result
 record-told c =
-    let s = c.before.before.before.before.before.args in
-    let i = c.before.before.before.loop-i.i in
+    let s = c.args in
+    let i = c.loop-i.i in
     sym (c.are_peer_words.ensures ∙ ap are_peer_words (lent-record 12 s.n s.t.now i (omega arith)))
 
 returns : tie.Need-returns-then-not-are_peer_words invariant-loop-i decreases-loop-i
 returns c =
-    let s = c.before.before.before.before.before.before.args in
-    let l = c.before.before.before.before.loop-i in
+    let s = c.args in
+    let l = c.loop-i in
     scan-fails are_peer_words 12 s.n s.t.now l.i l.invariant.1 (omega arith) (record-told c.before ∙ c.if-not-are_peer_words.true)
 
 loop-again : tie.Need-loop-i-preserved invariant-loop-i decreases-loop-i
 loop-again c =
-    let s = c.before.before.before.before.before.before.args in
-    let l = c.before.before.before.before.loop-i in
+    let s = c.args in
+    let l = c.loop-i in
     (omega arith, scan-goes are_peer_words 12 s.n s.t.now l.i l.invariant.1 (omega arith) (record-told c.before ∙ c.if-not-are_peer_words.false))
 
 returns-2 : tie.Need-returns invariant-loop-i decreases-loop-i
 returns-2 c =
-    let s = c.before.before.before.args in
-    let l = c.before.loop-i in
+    let s = c.args in
+    let l = c.loop-i in
     scan-ends are_peer_words 12 s.n s.t.now l.i l.invariant.1 (omega arith)
 
 pub are_all_peer_words_spec : {M : Type 1} → statement M

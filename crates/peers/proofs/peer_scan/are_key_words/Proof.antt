@@ -8,23 +8,23 @@ use Rattle.peers.proofs.peer_scan.are_key_words.Tie as tie
 
 returns : tie.Need-returns-then-t-at-ge2139095040
 returns c =
-    let s = c.before.before.args in
+    let s = c.args in
     stop _ _ (le-ltb _ 0x7f800000 c.if-t-at-ge2139095040.true) ∙ key-words-at s.t.now s.at s.w
 
 returns-2 : tie.Need-returns-then-t-at-gt1
 returns-2 c =
-    let s = c.before.before.before.before.args in
-    goes _ _ false (lt-ltb _ 0x7f800000 c.before.before.if-t-at-ge2139095040.false) (stop _ _ (lt-leb _ 1 c.if-t-at-gt1.true)) ∙ key-words-at s.t.now s.at s.w
+    let s = c.args in
+    goes _ _ false (lt-ltb _ 0x7f800000 c.if-t-at-ge2139095040.false) (stop _ _ (lt-leb _ 1 c.if-t-at-gt1.true)) ∙ key-words-at s.t.now s.at s.w
 
 returns-3 : tie.Need-returns-then-w-le4
 returns-3 c =
-    let s = c.before.before.before.before.before.args in
-    goes _ _ true (lt-ltb _ 0x7f800000 c.before.before.before.if-t-at-ge2139095040.false) (goes _ _ true (le-leb _ 1 c.before.if-t-at-gt1.false) (ap (λ (b : Bool). b || ltb (get_or s.t.now (s.at + 4) 0) (2 ^ 16)) (sym (le-leb s.w 4 c.if-w-le4.true)))) ∙ key-words-at s.t.now s.at s.w
+    let s = c.args in
+    goes _ _ true (lt-ltb _ 0x7f800000 c.if-t-at-ge2139095040.false) (goes _ _ true (le-leb _ 1 c.if-t-at-gt1.false) (ap (λ (b : Bool). b || ltb (get_or s.t.now (s.at + 4) 0) (2 ^ 16)) (sym (le-leb s.w 4 c.if-w-le4.true)))) ∙ key-words-at s.t.now s.at s.w
 
 returns-4 : tie.Need-returns
 returns-4 c =
-    let s = c.before.before.before.before.before.before.args in
-    goes _ _ _ (lt-ltb _ 0x7f800000 c.before.before.before.before.if-t-at-ge2139095040.false) (goes _ _ _ (le-leb _ 1 c.before.before.if-t-at-gt1.false) (ap (λ (b : Bool). b || ltb (get_or s.t.now (s.at + 4) 0) (2 ^ 16)) (sym (lt-leb s.w 4 c.before.if-w-le4.false)))) ∙ key-words-at s.t.now s.at s.w
+    let s = c.args in
+    goes _ _ _ (lt-ltb _ 0x7f800000 c.if-t-at-ge2139095040.false) (goes _ _ _ (le-leb _ 1 c.if-t-at-gt1.false) (ap (λ (b : Bool). b || ltb (get_or s.t.now (s.at + 4) 0) (2 ^ 16)) (sym (lt-leb s.w 4 c.if-w-le4.false)))) ∙ key-words-at s.t.now s.at s.w
 
 pub are_key_words_spec : {M : Type 1} → statement M
 are_key_words_spec =

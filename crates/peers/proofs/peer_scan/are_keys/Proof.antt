@@ -11,7 +11,7 @@ use Rattle.peers.proofs.Peers.Validity.ValidLaws.{keys-ready}
 use Rattle.peers.proofs.peer_scan.are_keys.Statement.{statement}
 use Rattle.peers.proofs.peer_scan.are_keys.Tie as tie
 
-ready : (c : tie.Else-bound-n) → let s = c.before.before.before.before.args in KeysReady s.w s.n s.t.now
+ready : (c : tie.Else-bound-n) → let s = c.args in KeysReady s.w s.n s.t.now
 ready c =
     let st = c.before.before.before.before in
     keys-ready st.args.w st.args.n (32 * st.args.bound) st.args.t.now st.requires.1.0.0 st.requires.1.0.2 c.if-bound-n.false
@@ -19,7 +19,7 @@ ready c =
 returns : tie.Need-returns-then-bound-n
 unfolding are_keys
 returns c =
-    let s = c.before.before.before.before.args in
+    let s = c.args in
     (stop _ _ (ap (λ (m : ℕ). leb m (32 * s.bound)) (length-records s.w s.n s.t.now) ∙ lt-leb s.n (32 * s.bound) c.if-bound-n.true), λ e. contradiction (sym e))
 
 are-runs-requires : tie.Need-are_runs-requires

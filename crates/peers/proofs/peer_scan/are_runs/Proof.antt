@@ -18,21 +18,21 @@ abbrev start : tie.In-loop-i invariant-loop-i decreases-loop-i → tie.Start inv
 start c = c.before.before.before.before.before
 
 -- the peer of a turn is within the table, and so is its run
-inside : (c : tie.In-loop-i invariant-loop-i decreases-loop-i) → c.before.loop-i.i * 12 + 12 ≤ length (start c).args.peers.now
+inside : (c : tie.In-loop-i invariant-loop-i decreases-loop-i) → c.loop-i.i * 12 + 12 ≤ length (start c).args.peers.now
 inside c = omega (arith, c.loop-i-test.true, (start c).requires.0)
 
 -- there is a place for where its run ends
-placed : (c : tie.In-loop-i invariant-loop-i decreases-loop-i) → c.before.loop-i.i + 1 < length c.before.loop-i.starts
-placed c = omega (arith, c.loop-i-test.true, (start c).requires.1.1, c.before.loop-i.invariant.2, length-set (start c).args.starts.now 0 0)
+placed : (c : tie.In-loop-i invariant-loop-i decreases-loop-i) → c.loop-i.i + 1 < length c.loop-i.starts
+placed c = omega (arith, c.loop-i-test.true, (start c).requires.1.1, c.loop-i.invariant.2, length-set (start c).args.starts.now 0 0)
 
-ran : (c : tie.After-run_end-to invariant-loop-i decreases-loop-i) → (c.before.before.before.loop-i.from ≤ c.run_end-to.result) × (c.run_end-to.result ≤ (start c.before.before).args.n)
+ran : (c : tie.After-run_end-to invariant-loop-i decreases-loop-i) → (c.loop-i.from ≤ c.run_end-to.result) × (c.run_end-to.result ≤ (start c.before.before).args.n)
 ran c =
     let s = (start c.before.before).args in
-    let l = c.before.before.before.loop-i in
-    run_inside s.w s.least s.bound s.n s.p l.from l.i s.t.now s.peers.now l.invariant.0 c.run_end-to.result c.before.before.loop-i-test.true c.run_end-to.ensures
+    let l = c.loop-i in
+    run_inside s.w s.least s.bound s.n s.p l.from l.i s.t.now s.peers.now l.invariant.0 c.run_end-to.result c.loop-i-test.true c.run_end-to.ensures
 
 slice-write-starts : tie.Need-bounds-starts-0 invariant-loop-i decreases-loop-i
-slice-write-starts c = omega (arith, c.before.before.before.requires.1.1)
+slice-write-starts c = omega (arith, c.requires.1.1)
 
 loop-holds : tie.Need-loop-i-init invariant-loop-i decreases-loop-i
 loop-holds c =
@@ -71,13 +71,13 @@ returns : tie.Need-returns-then-not-is_run invariant-loop-i decreases-loop-i
 returns c =
     let a = c.before.before.before in
     let s = (start a.before.before).args in
-    let l = a.before.before.before.loop-i in
-    (runs-fail s.w s.least s.bound s.n s.p l.from l.i s.t.now s.peers.now l.invariant.0 a.run_end-to.result a.before.before.loop-i-test.true a.run_end-to.ensures (sym c.before.is_run.ensures ∙ c.if-not-is_run.true), λ e. contradiction (sym e))
+    let l = a.loop-i in
+    (runs-fail s.w s.least s.bound s.n s.p l.from l.i s.t.now s.peers.now l.invariant.0 a.run_end-to.result a.loop-i-test.true a.run_end-to.ensures (sym c.is_run.ensures ∙ c.if-not-is_run.true), λ e. contradiction (sym e))
 
 same_length : tie.Need-shape_of-starts-then-not-is_run invariant-loop-i decreases-loop-i
 same_length c =
     let l = c.before.before.before.before.before in
-    l.before.loop-i.invariant.2 ∙ length-set (start l).args.starts.now 0 0
+    l.loop-i.invariant.2 ∙ length-set (start l).args.starts.now 0 0
 
 add-i : tie.Need-overflow_add-i-in-loop-i invariant-loop-i decreases-loop-i
 add-i c = omega (arith, inside c.before.before.before.before.before)
@@ -89,25 +89,25 @@ slice-write-starts-2 : tie.Need-bounds-starts-i invariant-loop-i decreases-loop-
 slice-write-starts-2 c = placed c.before.before.before.before.before
 
 loop-less : tie.Need-loop-i-smaller invariant-loop-i decreases-loop-i
-loop-less c = omega (arith, c.before.before.before.before.before.loop-i-test.true)
+loop-less c = omega (arith, c.loop-i-test.true)
 
 loop-again : tie.Need-loop-i-preserved invariant-loop-i decreases-loop-i
 loop-again c =
     let a = c.before.before.before in
     let s = (start a.before.before).args in
-    let l = a.before.before.before.loop-i in (
-      runs-go s.w s.least s.bound s.n s.p l.from l.i s.t.now s.peers.now l.invariant.0 a.run_end-to.result a.before.before.loop-i-test.true a.run_end-to.ensures (sym c.before.is_run.ensures ∙ c.if-not-is_run.false),
+    let l = a.loop-i in (
+      runs-go s.w s.least s.bound s.n s.p l.from l.i s.t.now s.peers.now l.invariant.0 a.run_end-to.result a.loop-i-test.true a.run_end-to.ensures (sym c.is_run.ensures ∙ c.if-not-is_run.false),
       starts-next s.w s.n s.t.now s.peers.now l.i l.from a.run_end-to.result l.starts l.invariant.1 (placed a.before.before) a.run_end-to.ensures,
       length-set l.starts (l.i + 1) a.run_end-to.result ∙ l.invariant.2,
     )
 
 same-length-2 : tie.Need-shape_of-starts invariant-loop-i decreases-loop-i
-same-length-2 c = c.before.loop-i.invariant.2 ∙ length-set c.before.before.before.before.before.args.starts.now 0 0
+same-length-2 c = c.loop-i.invariant.2 ∙ length-set c.args.starts.now 0 0
 
 returns-2 : tie.Need-returns invariant-loop-i decreases-loop-i
 returns-2 c =
-    let s = c.before.before.before.before.before.args in
-    let l = c.before.loop-i in (
+    let s = c.args in
+    let l = c.loop-i in (
       runs-end s.w s.least s.bound s.n s.p l.from l.i s.t.now s.peers.now l.invariant.0 c.loop-i-test.false,
       λ e. starts-all s.w s.n s.t.now s.peers.now l.i l.from s.p l.starts l.invariant.1 (omega (arith, c.loop-i-test.false, l.invariant.0.few)) (eqb-true l.from s.n e),
     )

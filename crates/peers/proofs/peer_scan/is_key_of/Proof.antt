@@ -6,13 +6,13 @@ use Rattle.peers.proofs.peer_scan.is_key_of.Tie as tie
 
 returns : tie.Need-returns-then-t-at
 returns c =
-    let s = c.before.before.before.args in
+    let s = c.args in
     other-peer s.w s.id s.t.now s.at c.if-t-at.true
 
 returns-2 : tie.Need-returns
 returns-2 c =
-    let s = c.before.before.before.before.args in
-    c.are_key_words.ensures ∙ same-peer s.w s.id s.t.now s.at c.before.if-t-at.false
+    let s = c.args in
+    c.are_key_words.ensures ∙ same-peer s.w s.id s.t.now s.at c.if-t-at.false
 
 pub is_key_of_spec : {M : Type 1} → statement M
 is_key_of_spec =

@@ -7,10 +7,10 @@ returns : tie.Need-returns-then-peers-lt-PEERS_SIZE
 returns c = short-peers _ c.if-peers-lt-PEERS_SIZE.true
 
 returns-2 : tie.Need-returns-then-snapshot_keys-lt-SNAPSHOT_KEYS_SIZE
-returns-2 c = short-keys _ c.before.if-peers-lt-PEERS_SIZE.false c.if-snapshot_keys-lt-SNAPSHOT_KEYS_SIZE.true
+returns-2 c = short-keys _ c.if-peers-lt-PEERS_SIZE.false c.if-snapshot_keys-lt-SNAPSHOT_KEYS_SIZE.true
 
 returns-3 : tie.Need-returns
-returns-3 c = long-contested _ c.before.if-peers-lt-PEERS_SIZE.false c.if-snapshot_keys-lt-SNAPSHOT_KEYS_SIZE.false
+returns-3 c = long-contested _ c.if-peers-lt-PEERS_SIZE.false c.if-snapshot_keys-lt-SNAPSHOT_KEYS_SIZE.false
 
 pub has_room_spec : {M : Type 1} → statement M
 has_room_spec = tie.close (tie.spec returns returns-2 returns-3)

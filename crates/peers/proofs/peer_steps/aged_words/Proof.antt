@@ -19,12 +19,12 @@ abbrev start : tie.After-is_stale → tie.Start
 start c = c.before.before.before.before.before
 
 -- the test, of the peer
-asked : (c : tie.After-is_stale) → let s = (start c).args in is_stale s.reading s.max-age (peer_of s.words.now).held_until (peer_of s.words.now).snapshot ≡ c.is_stale.result
+asked : (c : tie.After-is_stale) → let s = (start c).args in is_stale s.reading s.max_age (peer_of s.words.now).held_until (peer_of s.words.now).snapshot ≡ c.is_stale.result
 unfolding peer_of
 asked c =
     let s = (start c).args in
     let xs : List ℕ = s.words.now in
-    sym (c.is_stale.ensures ∙ stale-same s.reading s.max-age (get_or xs 1 0) (get_or xs 2 0) (get_or xs 3 0) (get_or xs 4 0) (get_or xs 5 0) (get_or xs 6 0))
+    sym (c.is_stale.ensures ∙ stale-same s.reading s.max_age (get_or xs 1 0) (get_or xs 2 0) (get_or xs 3 0) (get_or xs 4 0) (get_or xs 5 0) (get_or xs 6 0))
 
 returns : tie.Need-returns-then-is_stale
 unfolding peer_of
@@ -32,14 +32,14 @@ returns c =
     let a = c.before.before in
     let s = (start a).args in
     let p = peer_of s.words.now in
-    sym (aged-bare s.reading s.max-age p.id p.held_until p.snapshot p.past_epochs (asked a ∙ c.before.if-is_stale.true))
+    sym (aged-bare s.reading s.max_age p.id p.held_until p.snapshot p.past_epochs (asked a ∙ c.if-is_stale.true))
 
 returns-2 : tie.Need-returns
 returns-2 c =
     let t = c.before.before.before.before.before.before.before.before.before.before.before.before in
     let s = start t.before in
     let xs : List ℕ = s.args.words.now in
-    sym (ap peer_words (aged-not s.args.reading s.args.max-age (peer_of xs) (asked t.before ∙ t.if-is_stale.false)) ∙ s.pre.1 ∙ all_read xs 0 12 s.pre.0)
+    sym (ap peer_words (aged-not s.args.reading s.args.max_age (peer_of xs) (asked t.before ∙ t.if-is_stale.false)) ∙ s.pre.1 ∙ all_read xs 0 12 s.pre.0)
 
 pub aged_words_spec : {M : Type 1} → statement M
 aged_words_spec =

@@ -10,11 +10,11 @@ use Rattle.peers.proofs.peer_steps.has_snapshot.Tie as tie
 ordered : (c : tie.Start) → InOrder 12 1 c.args.n c.args.peers.now
 ordered c = in-order-says 12 1 c.args.n c.args.peers.now c.requires
 
-inside : (c : tie.Else-place-n) → c.before.args.place * 12 + 12 ≤ length c.before.args.peers.now
-inside c = omega (arith, row 12 c.before.args.n c.before.args.place c.if-place-n.false, (ordered c.before).words)
+inside : (c : tie.Else-place-n) → c.args.place * 12 + 12 ≤ length c.args.peers.now
+inside c = omega (arith, row 12 c.args.n c.args.place c.if-place-n.false, (ordered c.before).words)
 
 returns : tie.Need-returns-then-place-n
-returns c = sym (test-past c.before.args.n c.before.args.place _ c.if-place-n.true)
+returns c = sym (test-past c.args.n c.args.place _ c.if-place-n.true)
 
 mul-result : tie.Need-overflow_mul-result
 mul-result c = omega (arith, inside c)
@@ -31,7 +31,7 @@ shared-slice-read-result c = omega (arith, inside c.before)
 returns-2 : tie.Need-returns
 returns-2 c =
     let s = c.before.before in
-    sym (taken_here s.args.n s.args.peers.now (ordered s) s.args.place c.before.if-place-n.false)
+    sym (taken_here s.args.n s.args.peers.now (ordered s) s.args.place c.if-place-n.false)
 
 pub has_snapshot_spec : {M : Type 1} → statement M
 has_snapshot_spec =

@@ -14,14 +14,14 @@ ordered : (c : tie.After-find-found) → InOrder 12 1 (start c).args.n (start c)
 ordered c = in-order-says 12 1 (start c).args.n (start c).args.peers.now (start c).requires.0
 
 abbrev at : tie.In-At → tie.After-find-found
-at c = c.before.before.before
+at c = c.before
 
-place : (c : tie.In-At) → At c.before.found.given.0.0 ≡ find_in 12 1 (start (at c)).args.n (start (at c)).args.id 0 (start (at c)).args.peers.now
-place c = sym c.before.found.given.1 ∙ (at c).find-found.ensures
+place : (c : tie.In-At) → At c.in-At.i ≡ find_in 12 1 (start (at c)).args.n (start (at c)).args.id 0 (start (at c)).args.peers.now
+place c = sym c.in-At.is ∙ (at c).find-found.ensures
 
-inside : (c : tie.In-At) → (c.before.found.given.0.0 < (start (at c)).args.n) × (c.before.found.given.0.0 * 12 + 12 ≤ length (start (at c)).args.peers.now)
+inside : (c : tie.In-At) → (c.in-At.i < (start (at c)).args.n) × (c.in-At.i * 12 + 12 ≤ length (start (at c)).args.peers.now)
 inside c =
-    found_inside 12 (start (at c)).args.n (start (at c)).args.id (start (at c)).args.peers.now (ordered (at c)) c.before.found.given.0.0 (place c)
+    found_inside 12 (start (at c)).args.n (start (at c)).args.id (start (at c)).args.peers.now (ordered (at c)) c.in-At.i (place c)
 
 mul_at : tie.Need-overflow_mul-at
 mul_at c = omega (arith, inside c)
@@ -50,19 +50,19 @@ same_length c = simp length-set
 returns : tie.Need-returns-in-At
 returns c =
     let s = start (at c) in
-    held_at s.args.n s.args.id s.args.until s.args.peers.now (ordered (at c)) s.pre.1 c.before.found.given.0.0 (place c)
+    held_at s.args.n s.args.id s.args.until s.args.peers.now (ordered (at c)) s.pre.1 c.in-At.i (place c)
 
 returns-2 : tie.Need-returns-in-Gap
 returns-2 c =
-    let f = c.before.before in
+    let f = c.before in
     let s = start f in
-    held-gap s.args.n s.args.id s.args.until s.args.peers.now (ordered f) s.pre.1 c.enum_told.given.0.0 (sym c.enum_told.given.1 ∙ f.find-found.ensures)
+    held-gap s.args.n s.args.id s.args.until s.args.peers.now (ordered f) s.pre.1 c.in-Gap.field-0 (sym c.in-Gap.is ∙ f.find-found.ensures)
 
 returns-3 : tie.Need-returns-in-Unfit
 returns-3 c =
-    let f = c.before.before in
+    let f = c.before in
     let s = start f in
-    found-fit 12 s.args.n s.args.id s.args.peers.now (ordered f) (sym c.enum-told2.given.1 ∙ f.find-found.ensures)
+    found-fit 12 s.args.n s.args.id s.args.peers.now (ordered f) (sym c.in-Unfit.is ∙ f.find-found.ensures)
 
 pub hold_peer_spec : {M : Type 1} → statement M
 hold_peer_spec =

@@ -6,7 +6,7 @@ use Rattle.peers.proofs.peer_steps.keep_peer.Tie as tie
 returns : tie.Need-returns-then-stays
 returns c =
     let o = c.before.before in
-    let e = o.before.before.if-stays.true in
+    let e = o.if-stays.true in
     (rw e, o.overwrite.ensures.1 ∙ rw e)
 
 pub keep_peer_spec : {M : Type 1} → statement M

@@ -26,7 +26,7 @@ in_place s h =
 
 returns-2 : tie.Need-returns-then-kept-i
 returns-2 c =
-    let e = c.before.if-not-stays.false in
+    let e = c.if-not-stays.false in
     (rw e, in_place c.before.before.before c.if-kept-i.true ∙ rw e)
 
 mul-copy-words : tie.Need-overflow_mul-kept

@@ -35,20 +35,20 @@ returns c =
 returns-2 : tie.Need-returns-in-At
 unfolding place_of found_or
 returns-2 c =
-    let f = c.before.before.before in
-    ap (found_or f.before.before.before.args.n) (sym c.before.found.given.1 ∙ f.find-found.ensures)
+    let f = c.before in
+    ap (found_or f.args.n) (sym c.in-At.is ∙ f.find-found.ensures)
 
 returns-3 : tie.Need-returns-in-Gap
 unfolding place_of found_or
 returns-3 c =
-    let f = c.before.before in
-    ap (found_or f.before.before.before.args.n) (sym c.enum_told.given.1 ∙ f.find-found.ensures)
+    let f = c.before in
+    ap (found_or f.args.n) (sym c.in-Gap.is ∙ f.find-found.ensures)
 
 returns-4 : tie.Need-returns-in-Unfit
 unfolding place_of found_or
 returns-4 c =
-    let f = c.before.before in
-    ap (found_or f.before.before.before.args.n) (sym c.enum-told2.given.1 ∙ f.find-found.ensures)
+    let f = c.before in
+    ap (found_or f.args.n) (sym c.in-Unfit.is ∙ f.find-found.ensures)
 
 pub peer_place_spec : {M : Type 1} → statement M
 peer_place_spec =

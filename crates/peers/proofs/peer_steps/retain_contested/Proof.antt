@@ -20,17 +20,17 @@ invariant-loop-i peers n contested₀ c reading max-age place₀ kept₀ i₀ co
 abbrev decreases-loop-i : tie.decreases-loop-i
 decreases-loop-i peers n contested₀ c reading max-age place₀ kept₀ i₀ contested place kept i = c - i
 
-inside : (c : tie.In-loop-i invariant-loop-i decreases-loop-i) → (c.before.loop-i.auto ≤ c.before.loop-i.i) × (c.before.loop-i.i * 6 + 6 ≤ length c.before.loop-i.contested)
+inside : (c : tie.In-loop-i invariant-loop-i decreases-loop-i) → (c.loop-i.auto ≤ c.loop-i.i) × (c.loop-i.i * 6 + 6 ≤ length c.loop-i.contested)
 inside c =
-    let s = c.before.before.before.before.args in
-    let l = c.before.loop-i in
-    kept-inside (test s.peers.now s.n s.reading s.max-age) 6 s.c (records 6 s.c s.contested.now) s.contested.now l.contested l.i l.auto l.invariant c.loop-i-test.true
+    let s = c.args in
+    let l = c.loop-i in
+    kept-inside (test s.peers.now s.n s.reading s.max_age) 6 s.c (records 6 s.c s.contested.now) s.contested.now l.contested l.i l.auto l.invariant c.loop-i-test.true
 
 loop-holds : tie.Need-loop-i-init invariant-loop-i decreases-loop-i
 loop-holds c =
     let s = c.before.before in
     let xs : List ℕ = s.args.contested.now in
-    kept-none (test s.args.peers.now s.args.n s.args.reading s.args.max-age) 6 s.args.c (records 6 s.args.c xs) xs (omega arith) s.requires.1
+    kept-none (test s.args.peers.now s.args.n s.args.reading s.args.max_age) 6 s.args.c (records 6 s.args.c xs) xs (omega arith) s.requires.1
     (wide-records 6 s.args.c xs s.requires.1) (length-records 6 s.args.c xs)
 
 mul_at : tie.Need-overflow_mul-at invariant-loop-i decreases-loop-i
@@ -43,7 +43,7 @@ slice-read-peer-place : tie.Need-bounds-contested-at invariant-loop-i decreases-
 slice-read-peer-place c = omega (arith, inside c.before)
 
 peer-place-requires : tie.Need-peer_place-place-requires invariant-loop-i decreases-loop-i
-peer-place-requires c κs = c.before.before.before.before.before.requires.0
+peer-place-requires c κs = c.requires.0
 
 add-stays-contested : tie.Need-overflow_add-at invariant-loop-i decreases-loop-i
 add-stays-contested c = omega (arith, inside c.before.before)
@@ -55,7 +55,7 @@ slice-read-stays-contested : tie.Need-bounds-contested-at-in-loop-i invariant-lo
 slice-read-stays-contested c = omega (arith, inside c.before.before.before)
 
 stays-contested-requires : tie.Need-stays_contested-stays-requires invariant-loop-i decreases-loop-i
-stays-contested-requires c κs = c.before.before.before.before.before.before.before.requires.0
+stays-contested-requires c κs = c.requires.0
 
 keep-record-requires : tie.Need-keep_record-kept-requires invariant-loop-i decreases-loop-i
 keep-record-requires c κs =
@@ -69,17 +69,17 @@ loop-again c =
     let h = r.before.before in
     let f = h.before.before in
     let t = f.before.before in
-    let l = t.before.loop-i in
+    let l = t.loop-i in
     let s₀ = t.before.before.before.before in
     let s = s₀.args in
     let xs : List ℕ = s.contested.now in
     let rs : List (List ℕ) = records 6 s.c xs in
-    let p : List ℕ → Bool = test s.peers.now s.n s.reading s.max-age in
+    let p : List ℕ → Bool = test s.peers.now s.n s.reading s.max_age in
     kept-copied p 6 s.c rs xs l.contested l.i l.auto l.invariant t.loop-i-test.true
     h.stays_contested-stays.result r.keep_record-kept.new.0 r.keep_record-kept.result refl
     (h.stays_contested-stays.ensures
-    ∙ stays-placed s.n s.peers.now (in-order-says 12 1 s.n s.peers.now s₀.requires.0) s.reading s.max-age _ _ f.peer_place-place.result f.peer_place-place.ensures
-    ∙ (λ k. stays_contested s.reading s.max-age (map peer_of (records 12 s.n s.peers.now))
+    ∙ stays-placed s.n s.peers.now (in-order-says 12 1 s.n s.peers.now s₀.requires.0) s.reading s.max_age _ _ f.peer_place-place.result f.peer_place-place.ensures
+    ∙ (λ k. stays_contested s.reading s.max_age (map peer_of (records 12 s.n s.peers.now))
     (kept-first p 6 s.c rs xs l.contested l.i l.auto l.invariant t.loop-i-test.true k)
     (kept_word p 6 s.c rs xs l.contested l.i l.auto l.invariant t.loop-i-test.true 5 (omega arith) k)))
     r.keep_record-kept.ensures.0
@@ -87,15 +87,15 @@ loop-again c =
 
 same_length : tie.Need-shape_of-contested invariant-loop-i decreases-loop-i
 same_length c =
-    let l = c.before.loop-i in
-    let s = c.before.before.before.before.args in
-    kept-long (test s.peers.now s.n s.reading s.max-age) 6 s.c (records 6 s.c s.contested.now) s.contested.now l.contested l.i l.auto l.invariant
+    let l = c.loop-i in
+    let s = c.args in
+    kept-long (test s.peers.now s.n s.reading s.max_age) 6 s.c (records 6 s.c s.contested.now) s.contested.now l.contested l.i l.auto l.invariant
 
 returns : tie.Need-returns invariant-loop-i decreases-loop-i
 returns c =
-    let l = c.before.loop-i in
-    let s = c.before.before.before.before.args in
-    kept-all (test s.peers.now s.n s.reading s.max-age) 6 s.c (records 6 s.c s.contested.now) s.contested.now l.contested l.i l.auto l.invariant c.loop-i-test.false
+    let l = c.loop-i in
+    let s = c.args in
+    kept-all (test s.peers.now s.n s.reading s.max_age) 6 s.c (records 6 s.c s.contested.now) s.contested.now l.contested l.i l.auto l.invariant c.loop-i-test.false
 
 pub retain_contested_spec : {M : Type 1} → statement M
 retain_contested_spec =

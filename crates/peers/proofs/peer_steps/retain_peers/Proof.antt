@@ -32,26 +32,26 @@ abbrev start : tie.In-loop-i invariant-loop-i decreases-loop-i → tie.Start inv
 start c = c.before.before.before.before
 
 abbrev made : tie.In-loop-i invariant-loop-i decreases-loop-i → List (List ℕ)
-made c = map (aged (start c).args.reading (start c).args.max-age) (records 12 (start c).args.n (start c).args.peers.now)
+made c = map (aged (start c).args.reading (start c).args.max_age) (records 12 (start c).args.n (start c).args.peers.now)
 
 -- the peer that is reached
 abbrev peer : tie.In-loop-i invariant-loop-i decreases-loop-i → List ℕ
-peer c = get_or (records 12 (start c).args.n (start c).args.peers.now) c.before.loop-i.i []
+peer c = get_or (records 12 (start c).args.n (start c).args.peers.now) c.loop-i.i []
 
 -- its words, as they are lent
 abbrev lent : tie.In-loop-i invariant-loop-i decreases-loop-i → List ℕ
-lent c = let at = c.before.loop-i.i * 12 in take (at + 12 - at) (drop at c.before.loop-i.peers)
+lent c = let at = c.loop-i.i * 12 in take (at + 12 - at) (drop at c.loop-i.peers)
 
-inside : (c : tie.In-loop-i invariant-loop-i decreases-loop-i) → (c.before.loop-i.auto ≤ c.before.loop-i.i) × (c.before.loop-i.i * 12 + 12 ≤ length c.before.loop-i.peers)
+inside : (c : tie.In-loop-i invariant-loop-i decreases-loop-i) → (c.loop-i.auto ≤ c.loop-i.i) × (c.loop-i.i * 12 + 12 ≤ length c.loop-i.peers)
 inside c =
     let s = (start c).args in
-    let l = c.before.loop-i in
+    let l = c.loop-i in
     kept-inside (test s.contested.now s.c s.reading) 12 s.n (made c) s.peers.now l.peers l.i l.auto l.invariant c.loop-i-test.true
 
 lent_is : (c : tie.In-loop-i invariant-loop-i decreases-loop-i) → lent c ≡ peer c
 lent_is c =
     let s = (start c).args in
-    let l = c.before.loop-i in
+    let l = c.loop-i in
     let twelve : l.i * 12 + 12 - l.i * 12 ≡ 12 = omega arith in
     ap (λ (m : ℕ). take m (drop (l.i * 12) l.peers)) twelve
     ∙ kept_here (test s.contested.now s.c s.reading) 12 s.n (made c) s.peers.now l.peers l.i l.auto l.invariant c.loop-i-test.true
@@ -60,9 +60,9 @@ loop-holds : tie.Need-loop-i-init invariant-loop-i decreases-loop-i
 loop-holds c =
     let s = c.before.before in
     let rs : List (List ℕ) = records 12 s.args.n s.args.peers.now in
-    let f : List ℕ → List ℕ = aged s.args.reading s.args.max-age in
+    let f : List ℕ → List ℕ = aged s.args.reading s.args.max_age in
     kept-none (test s.args.contested.now s.args.c s.args.reading) 12 s.args.n (map f rs) s.args.peers.now (omega arith) s.requires.1
-    (wide-map f 12 (λ x. peer-long (age_peer is_held s.args.reading s.args.max-age (peer_of x))) rs)
+    (wide-map f 12 (λ x. peer-long (age_peer is_held s.args.reading s.args.max_age (peer_of x))) rs)
     (length-map rs f ∙ length-records 12 s.args.n s.args.peers.now)
 
 mul_at : tie.Need-overflow_mul-at invariant-loop-i decreases-loop-i
@@ -84,24 +84,24 @@ aged-words-requires : tie.Need-aged_words-words-requires invariant-loop-i decrea
 aged-words-requires c κs =
     let t = c.before.before in
     let s = start t in
-    let e = exact-record peer_words peer_of (records 12 s.args.n s.args.peers.now) s.pre.2 t.before.loop-i.i (omega (arith, t.loop-i-test.true, length-records 12 s.args.n s.args.peers.now)) in (
+    let e = exact-record peer_words peer_of (records 12 s.args.n s.args.peers.now) s.pre.2 t.loop-i.i (omega (arith, t.loop-i-test.true, length-records 12 s.args.n s.args.peers.now)) in (
       ap length (lent_is t ∙ sym e) ∙ peer-long (peer_of (peer t)),
       ap (λ (x : List ℕ). peer_words (peer_of x)) (lent_is t) ∙ e ∙ sym (lent_is t),
     )
 
 -- the words of the peer once it has aged
-aged-is : (c : tie.After-aged_words-words invariant-loop-i decreases-loop-i) → let t = c.before.before.before in c.aged_words-words.result ≡ get_or (made t) t.before.loop-i.i []
+aged-is : (c : tie.After-aged_words-words invariant-loop-i decreases-loop-i) → let t = c.before.before.before in c.aged_words-words.result ≡ get_or (made t) t.loop-i.i []
 aged-is c =
     let t = c.before.before.before in
     let s = (start t).args in
     c.aged_words-words.ensures
-    ∙ ap (aged s.reading s.max-age) (lent_is t)
-    ∙ sym (map_at (aged s.reading s.max-age) [] [] (records 12 s.n s.peers.now) t.before.loop-i.i (omega (arith, t.loop-i-test.true, length-records 12 s.n s.peers.now)))
+    ∙ ap (aged s.reading s.max_age) (lent_is t)
+    ∙ sym (map_at (aged s.reading s.max_age) [] [] (records 12 s.n s.peers.now) t.loop-i.i (omega (arith, t.loop-i-test.true, length-records 12 s.n s.peers.now)))
 
 aged-long : (c : tie.After-aged_words-words invariant-loop-i decreases-loop-i) → length c.aged_words-words.result ≡ 12
 aged-long c =
     let t = c.before.before.before in
-    ap length c.aged_words-words.ensures ∙ peer-long (age_peer is_held (start t).args.reading (start t).args.max-age (peer_of (lent t)))
+    ap length c.aged_words-words.ensures ∙ peer-long (age_peer is_held (start t).args.reading (start t).args.max_age (peer_of (lent t)))
 
 stays-peer-requires : tie.Need-stays_peer-stays-requires invariant-loop-i decreases-loop-i
 stays-peer-requires c κs = (start c.before.before.before).pre.0
@@ -111,7 +111,7 @@ keep-peer-requires c κs =
     let a = c.before.before.before in
     let t = a.before.before.before in
     let s = start t in
-    let l = t.before.loop-i in
+    let l = t.loop-i in
     let e = kept-long (test s.args.contested.now s.args.c s.args.reading) 12 s.args.n (made t) s.args.peers.now l.peers l.i l.auto l.invariant in
     (omega (arith, inside t, t.loop-i-test.true), omega (arith, e, s.pre.1), aged-long a)
 
@@ -122,7 +122,7 @@ loop-again c =
     let h = r.before.before.before in
     let a = h.before in
     let t = a.before.before.before in
-    let l = t.before.loop-i in
+    let l = t.loop-i in
     let s = (start t).args in
     let p : List ℕ → Bool = test s.contested.now s.c s.reading in
     let cs : List ContestedKey = map contested_of (records 6 s.c s.contested.now) in
@@ -137,15 +137,15 @@ loop-again c =
 
 same_length : tie.Need-shape_of-peers invariant-loop-i decreases-loop-i
 same_length c =
-    let l = c.before.loop-i in
-    let s = c.before.before.before.before.args in
-    kept-long (test s.contested.now s.c s.reading) 12 s.n (map (aged s.reading s.max-age) (records 12 s.n s.peers.now)) s.peers.now l.peers l.i l.auto l.invariant
+    let l = c.loop-i in
+    let s = c.args in
+    kept-long (test s.contested.now s.c s.reading) 12 s.n (map (aged s.reading s.max_age) (records 12 s.n s.peers.now)) s.peers.now l.peers l.i l.auto l.invariant
 
 returns : tie.Need-returns invariant-loop-i decreases-loop-i
 returns c =
-    let l = c.before.loop-i in
-    let s = c.before.before.before.before.args in
-    kept-all (test s.contested.now s.c s.reading) 12 s.n (map (aged s.reading s.max-age) (records 12 s.n s.peers.now)) s.peers.now l.peers l.i l.auto l.invariant c.loop-i-test.false
+    let l = c.loop-i in
+    let s = c.args in
+    kept-all (test s.contested.now s.c s.reading) 12 s.n (map (aged s.reading s.max_age) (records 12 s.n s.peers.now)) s.peers.now l.peers l.i l.auto l.invariant c.loop-i-test.false
 
 pub retain_peers_spec : {M : Type 1} → statement M
 retain_peers_spec =

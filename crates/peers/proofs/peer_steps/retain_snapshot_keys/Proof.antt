@@ -20,10 +20,10 @@ invariant-loop-i peers n snapshot-keys₀ k place₀ kept₀ i₀ snapshot-keys 
 abbrev decreases-loop-i : tie.decreases-loop-i
 decreases-loop-i peers n snapshot-keys₀ k place₀ kept₀ i₀ snapshot-keys place kept i = k - i
 
-inside : (c : tie.In-loop-i invariant-loop-i decreases-loop-i) → (c.before.loop-i.auto ≤ c.before.loop-i.i) × (c.before.loop-i.i * 4 + 4 ≤ length c.before.loop-i.snapshot-keys)
+inside : (c : tie.In-loop-i invariant-loop-i decreases-loop-i) → (c.loop-i.auto ≤ c.loop-i.i) × (c.loop-i.i * 4 + 4 ≤ length c.loop-i.snapshot-keys)
 inside c =
-    let s = c.before.before.before.before.args in
-    let l = c.before.loop-i in
+    let s = c.args in
+    let l = c.loop-i in
     kept-inside (test s.peers.now s.n) 4 s.k (records 4 s.k s.snapshot-keys.now) s.snapshot-keys.now l.snapshot-keys l.i l.auto l.invariant c.loop-i-test.true
 
 loop-holds : tie.Need-loop-i-init invariant-loop-i decreases-loop-i
@@ -43,10 +43,10 @@ slice-read-peer-place : tie.Need-bounds-snapshot_keys-at invariant-loop-i decrea
 slice-read-peer-place c = omega (arith, inside c.before)
 
 peer-place-requires : tie.Need-peer_place-place-requires invariant-loop-i decreases-loop-i
-peer-place-requires c κs = c.before.before.before.before.before.requires.0
+peer-place-requires c κs = c.requires.0
 
 has-snapshot-requires : tie.Need-has_snapshot-stays-requires invariant-loop-i decreases-loop-i
-has-snapshot-requires c κs = c.before.before.before.before.before.before.requires.0
+has-snapshot-requires c κs = c.requires.0
 
 keep-record-requires : tie.Need-keep_record-kept-requires invariant-loop-i decreases-loop-i
 keep-record-requires c κs =
@@ -60,7 +60,7 @@ loop-again c =
     let h = r.before.before in
     let f = h.before in
     let t = f.before.before in
-    let l = t.before.loop-i in
+    let l = t.loop-i in
     let s₀ = t.before.before.before.before in
     let s = s₀.args in
     let xs : List ℕ = s.snapshot-keys.now in
@@ -76,14 +76,14 @@ loop-again c =
 
 same_length : tie.Need-shape_of-snapshot_keys invariant-loop-i decreases-loop-i
 same_length c =
-    let l = c.before.loop-i in
-    let s = c.before.before.before.before.args in
+    let l = c.loop-i in
+    let s = c.args in
     kept-long (test s.peers.now s.n) 4 s.k (records 4 s.k s.snapshot-keys.now) s.snapshot-keys.now l.snapshot-keys l.i l.auto l.invariant
 
 returns : tie.Need-returns invariant-loop-i decreases-loop-i
 returns c =
-    let l = c.before.loop-i in
-    let s = c.before.before.before.before.args in
+    let l = c.loop-i in
+    let s = c.args in
     kept-all (test s.peers.now s.n) 4 s.k (records 4 s.k s.snapshot-keys.now) s.snapshot-keys.now l.snapshot-keys l.i l.auto l.invariant c.loop-i-test.false
 
 pub retain_snapshot_keys_spec : {M : Type 1} → statement M

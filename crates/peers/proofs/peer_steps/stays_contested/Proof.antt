@@ -17,7 +17,7 @@ inside : (c : tie.Else-place-n) → (start c).args.place * 12 + 12 ≤ length (s
 inside c = omega (arith, row 12 (start c).args.n (start c).args.place c.if-place-n.false, (ordered (start c)).words)
 
 returns : tie.Need-returns-then-place-n
-returns c = sym (test-past c.before.before.args.n c.before.before.args.place _ c.if-place-n.true)
+returns c = sym (test-past c.args.n c.args.place _ c.if-place-n.true)
 
 mul_at : tie.Need-overflow_mul-at
 mul_at c = omega (arith, inside c)
@@ -44,15 +44,15 @@ returns-2 : tie.Need-returns-then-peers-at-ne0
 returns-2 c =
     let k = c.before.before.before in
     let s = (start k).args in
-    held_stays s.reading _ _ _ c.before.if-peers-at-ne0.true ∙ sym (stays_here s.n s.peers.now (ordered (start k)) s.reading s.max-age s.heard-at s.place k.if-place-n.false)
+    held_stays s.reading _ _ _ c.if-peers-at-ne0.true ∙ sym (stays_here s.n s.peers.now (ordered (start k)) s.reading s.max_age s.heard-at s.place k.if-place-n.false)
 
 returns-3 : tie.Need-returns
 returns-3 c =
     let k = c.before.before.before in
     let s = (start k).args in
     c.is_fresh.ensures
-    ∙ free_stays s.reading _ _ _ c.before.if-peers-at-ne0.false
-    ∙ sym (stays_here s.n s.peers.now (ordered (start k)) s.reading s.max-age s.heard-at s.place k.if-place-n.false)
+    ∙ free_stays s.reading _ _ _ c.if-peers-at-ne0.false
+    ∙ sym (stays_here s.n s.peers.now (ordered (start k)) s.reading s.max_age s.heard-at s.place k.if-place-n.false)
 
 pub stays_contested_spec : {M : Type 1} → statement M
 stays_contested_spec =

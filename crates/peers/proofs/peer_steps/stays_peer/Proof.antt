@@ -19,7 +19,7 @@ returns c =
 returns-2 : tie.Need-returns-then-taken-ne0
 returns-2 c =
     let s = c.before.before.before in
-    taken-peer s.args.reading s.args.id s.args.held s.args.until s.args.taken (contested s) c.before.if-held-ne0.false c.if-taken-ne0.true
+    taken-peer s.args.reading s.args.id s.args.held s.args.until s.args.taken (contested s) c.if-held-ne0.false c.if-taken-ne0.true
 
 has-run-requires : tie.Need-has_run-requires
 has-run-requires c κs =
@@ -33,7 +33,7 @@ returns-3 c =
     let s = e.before.before.before in
     c.has_run.ensures
     ∙ sym (any-map contested_of (λ (x : ContestedKey). eqb x.peer s.args.id) (records 6 s.args.c s.args.contested.now))
-    ∙ bare-peer s.args.reading s.args.id s.args.held s.args.until s.args.taken (contested s) e.before.if-held-ne0.false e.if-taken-ne0.false
+    ∙ bare-peer s.args.reading s.args.id s.args.held s.args.until s.args.taken (contested s) e.if-held-ne0.false e.if-taken-ne0.false
 
 pub stays_peer_spec : {M : Type 1} → statement M
 stays_peer_spec = tie.close (tie.spec returns returns-2 has-run-requires returns-3)

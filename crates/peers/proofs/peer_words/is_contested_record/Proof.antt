@@ -9,12 +9,12 @@ use Rattle.peers.proofs.peer_words.is_contested_record.Statement.{statement}
 use Rattle.peers.proofs.peer_words.is_contested_record.Tie as tie
 
 returns : tie.Need-returns-then-words-ne-CONTESTED_WORDS
-returns c = unlike-record 6 contested_words contested_of valid_contested c.before.before.args.words.now c.if-words-ne-CONTESTED_WORDS.true
+returns c = unlike-record 6 contested_words contested_of valid_contested c.args.words.now c.if-words-ne-CONTESTED_WORDS.true
 
 returns-2 : tie.Need-returns
 returns-2 c =
     let k = c.before.before in
-    scanned-record 6 contested_words contested_of valid_contested k.before.args.words.now (are_key_words 6) contested-words-pass c.before.if-words-ne-CONTESTED_WORDS.false
+    scanned-record 6 contested_words contested_of valid_contested k.args.words.now (are_key_words 6) contested-words-pass c.if-words-ne-CONTESTED_WORDS.false
     (λ i. (k.shared_slice_known-1.given i).fits) c.are_key_words.result c.are_key_words.ensures
 
 pub is_contested_record_spec : {M : Type 1} → statement M

@@ -9,12 +9,12 @@ use Rattle.peers.proofs.peer_words.is_peer_record.Statement.{statement}
 use Rattle.peers.proofs.peer_words.is_peer_record.Tie as tie
 
 returns : tie.Need-returns-then-words-ne-PEER_WORDS
-returns c = unlike-record 12 peer_words peer_of valid_peer c.before.before.args.words.now c.if-words-ne-PEER_WORDS.true
+returns c = unlike-record 12 peer_words peer_of valid_peer c.args.words.now c.if-words-ne-PEER_WORDS.true
 
 returns-2 : tie.Need-returns
 returns-2 c =
     let k = c.before.before in
-    scanned-record 12 peer_words peer_of valid_peer k.before.args.words.now are_peer_words peer-words-pass c.before.if-words-ne-PEER_WORDS.false
+    scanned-record 12 peer_words peer_of valid_peer k.args.words.now are_peer_words peer-words-pass c.if-words-ne-PEER_WORDS.false
     (λ i. (k.shared_slice_known-1.given i).fits) c.are_peer_words.result c.are_peer_words.ensures
 
 pub is_peer_record_spec : {M : Type 1} → statement M

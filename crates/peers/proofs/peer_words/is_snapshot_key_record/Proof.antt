@@ -9,12 +9,12 @@ use Rattle.peers.proofs.peer_words.is_snapshot_key_record.Statement.{statement}
 use Rattle.peers.proofs.peer_words.is_snapshot_key_record.Tie as tie
 
 returns : tie.Need-returns-then-words-ne-SNAPSHOT_KEY_WORDS
-returns c = unlike-record 4 snapshot_key_words snapshot_key_of valid_snapshot_key c.before.before.args.words.now c.if-words-ne-SNAPSHOT_KEY_WORDS.true
+returns c = unlike-record 4 snapshot_key_words snapshot_key_of valid_snapshot_key c.args.words.now c.if-words-ne-SNAPSHOT_KEY_WORDS.true
 
 returns-2 : tie.Need-returns
 returns-2 c =
     let k = c.before.before in
-    scanned-record 4 snapshot_key_words snapshot_key_of valid_snapshot_key k.before.args.words.now (are_key_words 4) key-words-pass c.before.if-words-ne-SNAPSHOT_KEY_WORDS.false
+    scanned-record 4 snapshot_key_words snapshot_key_of valid_snapshot_key k.args.words.now (are_key_words 4) key-words-pass c.if-words-ne-SNAPSHOT_KEY_WORDS.false
     (λ i. (k.shared_slice_known-1.given i).fits) c.are_key_words.result c.are_key_words.ensures
 
 pub is_snapshot_key_record_spec : {M : Type 1} → statement M

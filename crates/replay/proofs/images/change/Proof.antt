@@ -4,10 +4,10 @@ use Rattle.replay.proofs.images.change.Statement.{statement}
 use Rattle.replay.proofs.images.change.Tie as tie
 
 same-length-2 : tie.Need-shape_of-line-then-place-eq-LOADHEX
-same-length-2 c = search (rules, c.before.before.before.before.before.before.before.before.before.before.before.before.before.before.before.line)
+same-length-2 c = search (rules, c.line)
 
 same-length-3 : tie.Need-shape_of-line
-same-length-3 c = search (rules, c.before.before.before.before.before.before.before.before.before.before.before.before.before.before.before.before.line)
+same-length-3 c = search (rules, c.line)
 
 pub change_spec : {M : Type 1} → statement M
 change_spec =

@@ -6,7 +6,7 @@ use Rattle.replay.proofs.lent.part.Statement.{statement}
 use Rattle.replay.proofs.lent.part.Tie as tie
 
 slice-aggregate-result : tie.Need-slice_bounds-result-end
-slice-aggregate-result c = sym (length-take-le _ _ c.before.at_most-end.ensures)
+slice-aggregate-result c = sym (length-take-le _ _ c.at_most-end.ensures)
 
 pub part_spec : {M : Type 1} → statement M
 part_spec = tie.close (tie.spec (λ c κs. search rules) slice-aggregate-result (λ c. search rules))

@@ -6,7 +6,7 @@ use Rattle.replay.proofs.peer_calls.answer_elsewheres.Statement.{statement}
 use Rattle.replay.proofs.peer_calls.answer_elsewheres.Tie as tie
 
 slice-aggregate-hot-elsewhere-of-each : tie.Need-slice_bounds-hot_elsewhere_of_each-end-2
-slice-aggregate-hot-elsewhere-of-each c = sym (length-take-le _ _ c.before.at_most-room.ensures)
+slice-aggregate-hot-elsewhere-of-each c = sym (length-take-le _ _ c.at_most-room.ensures)
 
 pub answer_elsewheres_spec : {M : Type 1} → statement M
 answer_elsewheres_spec =

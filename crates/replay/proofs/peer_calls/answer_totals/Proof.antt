@@ -6,7 +6,7 @@ use Rattle.replay.proofs.peer_calls.answer_totals.Statement.{statement}
 use Rattle.replay.proofs.peer_calls.answer_totals.Tie as tie
 
 slice-aggregate-total-of-each : tie.Need-slice_bounds-total_of_each-end-2
-slice-aggregate-total-of-each c = sym (length-take-le _ _ c.before.at_most-room.ensures)
+slice-aggregate-total-of-each c = sym (length-take-le _ _ c.at_most-room.ensures)
 
 pub answer_totals_spec : {M : Type 1} → statement M
 answer_totals_spec =

@@ -18,13 +18,13 @@ within : (a n : ℕ) → a < 2 ^ 64 → n ≤ 2 ^ 64 - 1 - a → ltb (a + n) (2 
 within a n f h = lt-ltb (a + n) (2 ^ 64) (omega arith)
 
 returns : tie.Need-returns-then-not-is_valid
-returns c = no 2 _ _ (told-no c.before.is_valid.ensures c.if-not-is_valid.true)
+returns c = no 2 _ _ (told-no c.is_valid.ensures c.if-not-is_valid.true)
 
 returns-2 : tie.Need-returns-then-n-self
-returns-2 c = yes 2 _ _ (told-yes c.before.before.before.is_valid.ensures c.before.before.if-not-is_valid.false) (no 9 _ _ (over _ _ c.if-n-self.true))
+returns-2 c = yes 2 _ _ (told-yes c.is_valid.ensures c.if-not-is_valid.false) (no 9 _ _ (over _ _ c.if-n-self.true))
 
 returns-3 : tie.Need-returns
-returns-3 c = yes 2 _ _ (told-yes c.before.before.before.before.is_valid.ensures c.before.before.before.if-not-is_valid.false) (yes 9 _ _ (within _ _ c.before.before.struct_known-1.given.1.0.fits c.before.if-n-self.false) (value refl))
+returns-3 c = yes 2 _ _ (told-yes c.is_valid.ensures c.if-not-is_valid.false) (yes 9 _ _ (within _ _ c.struct_known-1.given.1.0.fits c.if-n-self.false) (value refl))
 
 pub record_attempts_spec : {M : Type 1} → statement M
 record_attempts_spec =

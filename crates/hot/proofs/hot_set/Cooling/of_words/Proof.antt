@@ -8,10 +8,10 @@ use Rattle.hot.proofs.hot_set.Cooling.of_words.Statement.{statement}
 use Rattle.hot.proofs.hot_set.Cooling.of_words.Tie as tie
 
 returns : tie.Need-returns-then-flag-eq0
-returns c = sym (ap (λ (f : ℕ). cooling (time_of f c.before.args.time)) c.if-flag-eq0.true)
+returns c = sym (ap (λ (f : ℕ). cooling (time_of f c.args.time)) c.if-flag-eq0.true)
 
 returns-2 : tie.Need-returns
-returns-2 c = cools-since c.before.args.flag c.before.args.time c.if-flag-eq0.false
+returns-2 c = cools-since c.args.flag c.args.time c.if-flag-eq0.false
 
 pub of_words_spec : {M : Type 1} → statement M
 of_words_spec = tie.close (tie.spec returns returns-2)

@@ -6,7 +6,7 @@ use Rattle.hot.proofs.hot_set.HotEntry.words.Tie as tie
 
 returns : tie.Need-returns
 unfolding words
-returns c = rw (c.before.before.before.to_bits-demand.ensures, c.before.before.flag_word-primary.ensures, c.before.flag-is_cooling.ensures, c.time-cooling_since.ensures)
+returns c = rw (c.to_bits-demand.ensures, c.flag_word-primary.ensures, c.flag-is_cooling.ensures, c.time-cooling_since.ensures)
 
 pub words_spec : {M : Type 1} → statement M
 words_spec =

@@ -11,26 +11,26 @@ use Rattle.hot.proofs.hot_set.HotSet.ask_update.Statement.{statement}
 use Rattle.hot.proofs.hot_set.HotSet.ask_update.Tie as tie
 
 asked : (e : tie.Else-no-ne0) → let s = e.before.before.before in passes (ask_set s.args.self s.args.hot.now) ≡ true
-asked e = let s = e.before.before.before in passed_none _ _ (numbered-set s.args.self s.args.hot.now s.args.demand-rate) e.before.ask-no.ensures e.if-no-ne0.false
+asked e = let s = e.before.before.before in passed_none _ _ (numbered-set s.args.self s.args.hot.now s.args.demand_rate) e.ask-no.ensures e.if-no-ne0.false
 
 returns : tie.Need-returns-then-no-ne0
 returns c =
     let s = c.before.before.before in
-    first_more (ask_set s.args.self s.args.hot.now) (asks-demand s.args.self s.args.hot.now s.args.demand-rate) _ c.before.ask-no.ensures c.if-no-ne0.true
+    first_more (ask_set s.args.self s.args.hot.now) (asks-demand s.args.self s.args.hot.now s.args.demand_rate) _ c.ask-no.ensures c.if-no-ne0.true
 
 returns-2 : tie.Need-returns-then-not-is_magnitude
 returns-2 c =
     let e = c.before.before in
     let s = e.before.before.before in
-    first-no 11 _ (told-no c.before.is_magnitude.ensures c.if-not-is_magnitude.true)
-    ∙ first_rest (ask_set s.args.self s.args.hot.now) (asks-demand s.args.self s.args.hot.now s.args.demand-rate) (asked e)
+    first-no 11 _ (told-no c.is_magnitude.ensures c.if-not-is_magnitude.true)
+    ∙ first_rest (ask_set s.args.self s.args.hot.now) (asks-demand s.args.self s.args.hot.now s.args.demand_rate) (asked e)
 
 returns-3 : tie.Need-returns
 returns-3 c =
     let e = c.before.before in
     let s = e.before.before.before in
-    first-yes 11 _ (told-yes c.before.is_magnitude.ensures c.if-not-is_magnitude.false) first-none
-    ∙ first_rest (ask_set s.args.self s.args.hot.now) (asks-demand s.args.self s.args.hot.now s.args.demand-rate) (asked e)
+    first-yes 11 _ (told-yes c.is_magnitude.ensures c.if-not-is_magnitude.false) first-none
+    ∙ first_rest (ask_set s.args.self s.args.hot.now) (asks-demand s.args.self s.args.hot.now s.args.demand_rate) (asked e)
 
 pub ask_update_spec : {M : Type 1} → statement M
 ask_update_spec =

@@ -16,20 +16,20 @@ use Rattle.hot.proofs.hot_set.HotSet.below_threshold.Tie as tie
 abbrev there : tie.In-Entry → tie.Start
 there c = c.before.before.before.before.before.before
 
-found : (c : tie.In-Entry) → get (there c).args.key (entries_of (there c).args.self (there c).args.hot.now) ≡ some c.before.entry.given.0.0
-found c = sym c.before.before.before.get.ensures ∙ ap slot c.before.entry.given.1
+found : (c : tie.In-Entry) → get (there c).args.key (entries_of (there c).args.self (there c).args.hot.now) ≡ some c.in-Entry.entry
+found c = sym c.get.ensures ∙ ap slot c.in-Entry.is
 
-same_key : (c : tie.After-cool-cooled) → c.cool-cooled.result.key ≡ c.before.before.entry.given.0.0.key
+same_key : (c : tie.After-cool-cooled) → c.cool-cooled.result.key ≡ c.in-Entry.entry.key
 same_key c = ap (λ (e : HotEntry). e.key) c.cool-cooled.ensures ∙ cooled-key _ _ _ _
 
 abbrev away : tie.In-Free → tie.Start
 away c = c.before.before.before.before.before
 
 free : (c : tie.In-Free) → get (away c).args.key (entries_of (away c).args.self (away c).args.hot.now) ≡ none
-free c = sym c.before.before.get.ensures ∙ ap slot c.enum_told.given.1
+free c = sym c.get.ensures ∙ ap slot c.in-Free.is
 
 get-requires : tie.Need-get-requires
-get-requires c κs = ready-now _ _ c.before.before.requires
+get-requires c κs = ready-now _ _ c.requires
 
 put-requires : tie.Need-put-requires
 put-requires c κs =
@@ -43,10 +43,10 @@ returns c =
     let j = p.before.before in
     let f = j.before in
     let s = there f.before in
-    cooled-stays s.args.self s.args.hot.now s.pre s.args.margin s.args.key s.args.demand-rate s.args.now s.args.hot-elsewhere _ _ _ _ (found f.before) f.cool-cooled.ensures (either f.cool-cooled.result.primary s.args.hot-elsewhere (⊎_elim (λ w. inl w.taken) (λ w. inr w.1.taken) j.then-cooled.branch)) c.counted.ensures p.put.ensures
+    cooled-stays s.args.self s.args.hot.now s.pre s.args.margin s.args.key s.args.demand_rate s.args.now s.args.hot_elsewhere _ _ _ _ (found f.before) f.cool-cooled.ensures (either f.cool-cooled.result.primary s.args.hot_elsewhere (⊎_elim (λ w. inl w.taken) (λ w. inr w.1.taken) j.then-cooled.branch)) c.counted.ensures p.put.ensures
 
 remove-requires : tie.Need-remove-requires
-remove-requires c κs = ready-now _ _ c.before.before.before.before.before.before.before.before.before.before.requires
+remove-requires c κs = ready-now _ _ c.requires
 
 sub-counted : tie.Need-overflow_sub-n
 sub-counted c =
@@ -60,7 +60,7 @@ returns-2 c =
     let t = p.before.before in
     let e = t.before in
     let s = away e in
-    absent-elsewhere s.args.self s.args.hot.now s.pre s.args.margin s.args.key s.args.demand-rate s.args.now s.args.hot-elsewhere _ _ (free e) t.if-hot_elsewhere-2.true p.promote.ensures
+    absent-elsewhere s.args.self s.args.hot.now s.pre s.args.margin s.args.key s.args.demand_rate s.args.now s.args.hot_elsewhere _ _ (free e) t.if-hot_elsewhere-2.true p.promote.ensures
 
 returns-3 : tie.Need-returns-else-hot_elsewhere
 returns-3 c =
@@ -68,14 +68,14 @@ returns-3 c =
     let e = r.before.before in
     let f = e.before.before in
     let s = there f.before in
-    cooled-leaves s.args.self s.args.hot.now s.pre s.args.margin s.args.key s.args.demand-rate s.args.now s.args.hot-elsewhere _ _ _ _ (found f.before) f.cool-cooled.ensures (neither _ _ e.before.then-cooled.false e.if-hot_elsewhere.false) c.counted-in-Entry.ensures r.remove.ensures
+    cooled-leaves s.args.self s.args.hot.now s.pre s.args.margin s.args.key s.args.demand_rate s.args.now s.args.hot_elsewhere _ _ _ _ (found f.before) f.cool-cooled.ensures (neither _ _ e.then-cooled.false e.if-hot_elsewhere.false) c.counted-in-Entry.ensures r.remove.ensures
 
 returns-4 : tie.Need-returns-else-hot_elsewhere-2
 returns-4 c =
     let t = c.before in
     let e = t.before in
     let s = away e in
-    absent-stays s.args.self s.args.hot.now s.pre s.args.margin s.args.key s.args.demand-rate s.args.now s.args.hot-elsewhere _ _ (free e) t.if-hot_elsewhere-2.false c.counted-in-Free.ensures refl
+    absent-stays s.args.self s.args.hot.now s.pre s.args.margin s.args.key s.args.demand_rate s.args.now s.args.hot_elsewhere _ _ (free e) t.if-hot_elsewhere-2.false c.counted-in-Free.ensures refl
 
 pub below_threshold_spec : {M : Type 1} → statement M
 below_threshold_spec =

@@ -16,7 +16,7 @@ weakest-requires : tie.Need-weakest-least-requires
 weakest-requires c κs = let s = c.before.before in (ready-now _ _ s.requires.0, some-entry s)
 
 remove-requires : tie.Need-remove-requires
-remove-requires c κs = ready-now _ _ c.before.before.before.before.before.before.before.requires.0
+remove-requires c κs = ready-now _ _ c.requires.0
 
 sub-put : tie.Need-overflow_sub-n
 sub-put c = let s = c.before.before.before.before.before.before.before.before.before.before.before in omega (arith, some-entry s)

@@ -12,20 +12,20 @@ use Rattle.hot.proofs.HotSet.Answers.{answer-slot, numbered-set, passed-set}
 use Rattle.hot.proofs.hot_set.HotSet.is_primary.Statement.{statement}
 use Rattle.hot.proofs.hot_set.HotSet.is_primary.Tie as tie
 
-asked : (c : tie.Else-no-ne0) → passes (ask_set c.before.before.before.args.self c.before.before.before.args.hot.now) ≡ true
-asked c = let s = c.before.before.before in passed_none _ _ (numbered-set s.args.self s.args.hot.now nan) c.before.ask-no.ensures c.if-no-ne0.false
+asked : (c : tie.Else-no-ne0) → passes (ask_set c.args.self c.args.hot.now) ≡ true
+asked c = let s = c.before.before.before in passed_none _ _ (numbered-set s.args.self s.args.hot.now nan) c.ask-no.ensures c.if-no-ne0.false
 
 returns : tie.Need-returns-then-no-ne0
-returns c = answer-no _ _ _ c.before.ask-no.ensures c.if-no-ne0.true
+returns c = answer-no _ _ _ c.ask-no.ensures c.if-no-ne0.true
 
 get-requires : tie.Need-get-requires
 get-requires c κs = (passed-set _ _ (asked c)).ready
 
 returns-2 : tie.Need-returns-in-Entry
-returns-2 c = let g = c.before.before.before in answer-slot primary_of _ g.get.result _ _ (asked g.before) g.get.ensures (ap slot c.before.entry.given.1)
+returns-2 c = let g = c.before in answer-slot primary_of _ g.get.result _ _ (asked g.before) g.get.ensures (ap slot c.in-Entry.is)
 
 returns-3 : tie.Need-returns-in-Free
-returns-3 c = let g = c.before.before in answer-slot primary_of _ g.get.result _ _ (asked g.before) g.get.ensures (ap slot c.enum_told.given.1)
+returns-3 c = let g = c.before in answer-slot primary_of _ g.get.result _ _ (asked g.before) g.get.ensures (ap slot c.in-Free.is)
 
 pub is_primary_spec : {M : Type 1} → statement M
 is_primary_spec =

@@ -7,12 +7,12 @@ use Rattle.hot.proofs.hot_set.HotSet.len.Statement.{statement}
 use Rattle.hot.proofs.hot_set.HotSet.len.Tie as tie
 
 returns : tie.Need-returns-then-no-ne0
-returns c = answer-no _ _ _ c.before.ask-no.ensures c.if-no-ne0.true
+returns c = answer-no _ _ _ c.ask-no.ensures c.if-no-ne0.true
 
 returns-2 : tie.Need-returns
 returns-2 c =
     let s = c.before.before.before in
-    answer-passed _ _ (passed_none _ _ (numbered-set s.args.self s.args.hot.now nan) c.before.ask-no.ensures c.if-no-ne0.false)
+    answer-passed _ _ (passed_none _ _ (numbered-set s.args.self s.args.hot.now nan) c.ask-no.ensures c.if-no-ne0.false)
 
 pub len_spec : {M : Type 1} → statement M
 len_spec = tie.close (tie.spec (λ c κs. search rules) returns returns-2)

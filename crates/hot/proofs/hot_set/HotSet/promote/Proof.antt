@@ -16,14 +16,14 @@ use Rattle.hot.proofs.hot_set.HotSet.promote.Tie as tie
 abbrev there : tie.In-Entry → tie.Start
 there c = c.before.before.before.before.before.before
 
-found : (c : tie.In-Entry) → get (there c).args.key (entries_of (there c).args.self (there c).args.hot.now) ≡ some c.before.entry.given.0.0
-found c = sym c.before.before.before.get.ensures ∙ ap slot c.before.entry.given.1
+found : (c : tie.In-Entry) → get (there c).args.key (entries_of (there c).args.self (there c).args.hot.now) ≡ some c.in-Entry.entry
+found c = sym c.get.ensures ∙ ap slot c.in-Entry.is
 
 abbrev away : tie.In-Free → tie.Start
 away c = c.before.before.before.before.before
 
 free : (c : tie.In-Free) → get (away c).args.key (entries_of (away c).args.self (away c).args.hot.now) ≡ none
-free c = sym c.before.before.get.ensures ∙ ap slot c.enum_told.given.1
+free c = sym c.get.ensures ∙ ap slot c.in-Free.is
 
 -- a set that is not below its size is at it
 passed-full : (s : tie.Start) → s.args.self.max_size ≤ s.args.self.len → s.args.self.len ≡ s.args.self.max_size
@@ -42,7 +42,7 @@ put-requires-2 : tie.Need-put-requires-then-n-self
 put-requires-2 c κs =
     let k = c.before.before.before.before in
     let s = k.before.before.before.before.before in
-    (ready-now _ _ s.requires, more_room s.args.self s.args.hot.now s.requires s.args.key _ (free k) (ap (λ (e : HotEntry). e.key) c.before.before.before.new-entry.ensures) c.before.if-n-self.true)
+    (ready-now _ _ s.requires, more_room s.args.self s.args.hot.now s.requires s.args.key _ (free k) (ap (λ (e : HotEntry). e.key) c.new_entry.ensures) c.if-n-self.true)
 
 returns : tie.Need-returns-then-n-self
 returns c =
@@ -50,14 +50,14 @@ returns c =
     let t = p.before.before in
     let n = t.before.before in
     let s = n.before.before.before.before.before.before in
-    promoted-new s.args.self s.args.hot.now s.requires s.args.margin s.args.key s.args.demand-rate s.args.primary s.args.now _ _ _ (free n.before) n.new-entry.ensures t.if-n-self.true c.counted-then-n-self.ensures p.put-then-n-self.ensures
+    promoted-new s.args.self s.args.hot.now s.requires s.args.margin s.args.key s.args.demand_rate s.args.primary s.args.now _ _ _ (free n.before) n.new_entry.ensures t.if-n-self.true c.counted-then-n-self.ensures p.put-then-n-self.ensures
 
 evict-requires : tie.Need-evict-requires
 evict-requires c κs =
     let e = c.before in
     let n = e.before.before in
     let s = n.before.before.before.before.before.before in
-    (s.requires, (passed-full s e.if-n-self.false, ap (λ (x : HotEntry). get x.key (entries_of s.args.self s.args.hot.now)) n.new-entry.ensures ∙ free n.before))
+    (s.requires, (passed-full s e.if-n-self.false, ap (λ (x : HotEntry). get x.key (entries_of s.args.self s.args.hot.now)) n.new_entry.ensures ∙ free n.before))
 
 returns-2 : tie.Need-returns-in-Entry
 returns-2 c =
@@ -65,7 +65,7 @@ returns-2 c =
     let w = p.before in
     let k = w.before.before in
     let s = there k in
-    promoted-there s.args.self s.args.hot.now s.pre s.args.margin s.args.key s.args.demand-rate s.args.primary s.args.now _ _ _ _ (found k) w.renewed.ensures c.counted.ensures p.put.ensures
+    promoted-there s.args.self s.args.hot.now s.pre s.args.margin s.args.key s.args.demand_rate s.args.primary s.args.now _ _ _ _ (found k) w.renewed.ensures c.counted.ensures p.put.ensures
 
 returns-3 : tie.Need-returns-else-n-self
 returns-3 c =
@@ -73,7 +73,7 @@ returns-3 c =
     let e = v.before.before in
     let n = e.before.before in
     let s = n.before.before.before.before.before.before in
-    promoted-full s.args.self s.args.hot.now s.requires s.args.margin s.args.key s.args.demand-rate s.args.primary s.args.now _ _ _ (free n.before) n.new-entry.ensures e.if-n-self.false v.evict.ensures
+    promoted-full s.args.self s.args.hot.now s.requires s.args.margin s.args.key s.args.demand_rate s.args.primary s.args.now _ _ _ (free n.before) n.new_entry.ensures e.if-n-self.false v.evict.ensures
 
 pub promote_spec : {M : Type 1} → statement M
 promote_spec =

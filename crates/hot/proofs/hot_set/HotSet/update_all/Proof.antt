@@ -33,11 +33,11 @@ count : (s : tie.Start invariant-loop-i decreases-loop-i) → length (updates s)
 count s = lent_length s.args.keys.now s.args.w s.args.n s.args.demands.now s.args.thresholds.now s.args.elsewhere.now (passed s).fit
 
 -- the key of an update is within its table
-inside : (c : tie.In-loop-i invariant-loop-i decreases-loop-i) → c.before.loop-i.i * (start c.before).args.w < length (start c.before).args.keys.now
+inside : (c : tie.In-loop-i invariant-loop-i decreases-loop-i) → c.loop-i.i * (start c.before).args.w < length (start c.before).args.keys.now
 inside c =
     let s = start c.before in
     let f = (passed s).fit.keys_fit in
-    omega (arith, row s.args.w s.args.n c.before.loop-i.i c.loop-i-test.true, fits-pos (length s.args.keys.now) s.args.w s.args.n f, fits_le (length s.args.keys.now) s.args.w s.args.n f)
+    omega (arith, row s.args.w s.args.n c.loop-i.i c.loop-i-test.true, fits-pos (length s.args.keys.now) s.args.w s.args.n f, fits_le (length s.args.keys.now) s.args.w s.args.n f)
 
 loop-holds : tie.Need-loop-i-init invariant-loop-i decreases-loop-i
 loop-holds c =
@@ -77,12 +77,12 @@ shared-slice-read-update-with-margin-4 c =
     omega (arith, e.loop-i-test.true, (passed (start e.before)).fit.flags_fit)
 
 update-with-margin-requires : tie.Need-update_with_margin-updated-requires invariant-loop-i decreases-loop-i
-update-with-margin-requires c κs = c.before.before.before.before.before.before.loop-i.invariant.asked
+update-with-margin-requires c κs = c.loop-i.invariant.asked
 
 slice-write-out : tie.Need-bounds-out-i invariant-loop-i decreases-loop-i
 slice-write-out c =
     let e = c.before.before.before.before.before.before.before.before in
-    omega (arith, e.loop-i-test.true, (passed (start e.before)).room, e.before.loop-i.invariant.wide)
+    omega (arith, e.loop-i-test.true, (passed (start e.before)).room, e.loop-i.invariant.wide)
 
 add-i : tie.Need-overflow_add-i invariant-loop-i decreases-loop-i
 add-i c =
@@ -99,10 +99,10 @@ loop-again c =
     let a = c.before.before.before in
     let e = a.before.before.before.before.before.before in
     let s = start e.before in
-    let l = e.before.loop-i in
+    let l = e.loop-i in
     let h = e.loop-i-test.true in
     let p = passed s in
-    let key : get_or s.args.keys.now (l.i * s.args.w) 0 < 2 ^ 64 = omega (arith, a.before.before.before.before.shared_slice_known-in-loop-i-1.given (l.i * s.args.w)) in
+    let key : get_or s.args.keys.now (l.i * s.args.w) 0 < 2 ^ 64 = omega (arith, a.shared_slice_known-in-loop-i-1.given (l.i * s.args.w)) in
     let reading : s.args.now < 2 ^ 64 = omega (arith, s.fits.now) in
     updating-next eviction_margin s.args.self s.args.now (updates s) s.args.hot.now s.args.out.now l.i l.set l.hot l.out l.invariant
     (omega (arith, h, count s))
@@ -111,7 +111,7 @@ loop-again c =
     (lent-next s.args.keys.now s.args.w s.args.n s.args.demands.now s.args.thresholds.now s.args.elsewhere.now p.fit _ _ _ l.i h)
     (record {
       key_word = lt-ltb (get_or s.args.keys.now (l.i * s.args.w) 0) (2 ^ 64) key;
-      demand_f64 = is_true _ (a.before.before.before.shared_slice_known-in-loop-i-2-1.given l.i);
+      demand_f64 = is_true _ (a.shared_slice_known-in-loop-i-2-1.given l.i);
       finite = p.numbers _ l.i h;
       now_word = lt-ltb s.args.now (2 ^ 64) reading;
     })
@@ -120,15 +120,15 @@ loop-again c =
     a.update_with_margin-updated.ensures
 
 same_length : tie.Need-shape_of-hot invariant-loop-i decreases-loop-i
-same_length c = c.before.loop-i.invariant.long
+same_length c = c.loop-i.invariant.long
 
 same-length-2 : tie.Need-shape_of-out invariant-loop-i decreases-loop-i
-same-length-2 c = c.before.loop-i.invariant.wide
+same-length-2 c = c.loop-i.invariant.wide
 
 returns : tie.Need-returns invariant-loop-i decreases-loop-i
 returns c =
     let s = start c.before in
-    let l = c.before.loop-i in
+    let l = c.loop-i in
     subst (λ (n : ℕ). UpdatesEach eviction_margin s.args.self s.args.hot.now (updates s) s.args.now n s.args.out.now l.set l.hot l.out) (count s)
     (updating-done eviction_margin s.args.self s.args.now (updates s) s.args.hot.now s.args.out.now l.i l.set l.hot l.out l.invariant (omega (arith, c.loop-i-test.false, count s)))
 

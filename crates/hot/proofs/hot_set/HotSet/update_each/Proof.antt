@@ -15,7 +15,7 @@ abbrev start : tie.After-updates_fit → tie.Start
 start c = c.before.before.before.before.before.before.before
 
 fit : (e : tie.Else-not-updates_fit) → let s = start e.before in updates_fit (length s.args.keys.now) s.args.w s.args.n (length s.args.demands.now) (length s.args.thresholds.now) (length s.args.elsewhere.now) ≡ true
-fit e = told-yes e.before.updates_fit.ensures e.if-not-updates_fit.false
+fit e = told-yes e.updates_fit.ensures e.if-not-updates_fit.false
 
 asked : (c : tie.After-ask_each-no) → let s = start c.before.before.before in c.ask_each-no.result ≡ first_no (ask_each s.args.self s.args.hot.now s.args.keys.now s.args.w s.args.n s.args.demands.now s.args.thresholds.now s.args.elsewhere.now (length s.args.out.now))
 asked c =
@@ -27,7 +27,7 @@ returns : tie.Need-returns-then-not-updates_fit
 returns c =
     let s = start c.before in
     each-refused s.args.self s.args.hot.now s.args.keys.now s.args.w s.args.n s.args.demands.now s.args.thresholds.now s.args.elsewhere.now s.args.now s.args.out.now 1
-    (each-unfit s.args.self s.args.hot.now s.args.keys.now s.args.w s.args.n s.args.demands.now s.args.thresholds.now s.args.elsewhere.now s.args.now s.args.out.now (told-no c.before.updates_fit.ensures c.if-not-updates_fit.true))
+    (each-unfit s.args.self s.args.hot.now s.args.keys.now s.args.w s.args.n s.args.demands.now s.args.thresholds.now s.args.elsewhere.now s.args.now s.args.out.now (told-no c.updates_fit.ensures c.if-not-updates_fit.true))
     (λ h. absurd (omega arith))
 
 ask-each-requires : tie.Need-ask_each-no-requires

@@ -12,14 +12,14 @@ use Rattle.hot.proofs.hot_set.HotSet.update_with.Tie as tie
 abbrev start : tie.Else-no-ne0 → tie.Start
 start c = c.before.before.before.before
 
-asked : (c : tie.Else-no-ne0) → passes (ask_update (start c).args.self (start c).args.hot.now (start c).args.demand-rate) ≡ true
-asked c = let s = start c in passed_none _ _ (numbered-update s.args.self s.args.hot.now s.args.demand-rate) c.before.ask_update-no.ensures c.if-no-ne0.false
+asked : (c : tie.Else-no-ne0) → passes (ask_update (start c).args.self (start c).args.hot.now (start c).args.demand_rate) ≡ true
+asked c = let s = start c in passed_none _ _ (numbered-update s.args.self s.args.hot.now s.args.demand_rate) c.ask_update-no.ensures c.if-no-ne0.false
 
 returns : tie.Need-returns-then-no-ne0
-returns c = record { answered = answer-no _ _ _ c.before.ask_update-no.ensures c.if-no-ne0.true; left = kept-no _ _ _ _ c.before.ask_update-no.ensures c.if-no-ne0.true }
+returns c = record { answered = answer-no _ _ _ c.ask_update-no.ensures c.if-no-ne0.true; left = kept-no _ _ _ _ c.ask_update-no.ensures c.if-no-ne0.true }
 
 update-with-margin-requires : tie.Need-update_with_margin-requires
-update-with-margin-requires c κs = let s = start c.before in update-passed-set s.args.self s.args.hot.now s.args.demand-rate (asked c.before)
+update-with-margin-requires c κs = let s = start c.before in update-passed-set s.args.self s.args.hot.now s.args.demand_rate (asked c.before)
 
 returns-2 : tie.Need-returns
 returns-2 c =

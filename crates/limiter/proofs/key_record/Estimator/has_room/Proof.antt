@@ -6,7 +6,7 @@ use Rattle.limiter.proofs.key_record.Estimator.has_room.Statement.{statement}
 use Rattle.limiter.proofs.key_record.Estimator.has_room.Tie as tie
 
 returns : tie.Need-returns
-returns c = room-test c.before.args.self.attempts c.before.args.n (omega (arith, c.struct_known-1.given.1.0))
+returns c = room-test c.args.self.attempts c.args.n (omega (arith, c.struct_known-1.given.1.0))
 
 pub has_room_spec : {M : Type 1} → statement M
 has_room_spec = tie.close (tie.spec (λ c. search rules) returns)

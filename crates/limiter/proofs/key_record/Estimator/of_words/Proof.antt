@@ -5,7 +5,7 @@ use Rattle.limiter.proofs.key_record.Estimator.of_words.Statement.{statement}
 use Rattle.limiter.proofs.key_record.Estimator.of_words.Tie as tie
 
 returns : tie.Need-returns
-returns c = rw (estimate-at, c.before.before.before.from_bits-rate.ensures)
+returns c = rw (estimate-at, c.from_bits-rate.ensures)
 
 pub of_words_spec : {M : Type 1} → statement M
 of_words_spec =

@@ -1,8 +1,8 @@
 -- `KeyState::of_words` meets its contract.
 use Rattle.limiter.proofs.Checking.KeyRecordLaws.{key-at}
 use borrow.Author.Rules.{rules}
-use Rattle.limiter.proofs.key_record.KeyState.of_words-demand.Statement.{statement}
-use Rattle.limiter.proofs.key_record.KeyState.of_words-demand.Tie as tie
+use Rattle.limiter.proofs.key_record.KeyState.of_words.Statement.{statement}
+use Rattle.limiter.proofs.key_record.KeyState.of_words.Tie as tie
 
 returns : tie.Need-returns
 returns c =
@@ -13,7 +13,7 @@ returns c =
     let d = r.before in
     rw (
       key-at,
-      d.before.before.from_bits-rate.ensures,
+      d.from_bits-rate.ensures,
       d.of_words-demand.ensures,
       r.of_words-requests.ensures,
       n.of_words-denials.ensures,

@@ -28,7 +28,7 @@ retain-peers-requires c κs =
     let r = c.before.before.before.before in
     let s = first r in
     let o = sound s in (
-      contested-order s.args.self (lent s) o s.args.reading s.args.max-age r.retain_contested-c.result r.retain_contested-c.new.1.1.0 r.retain_contested-c.ensures,
+      contested-order s.args.self (lent s) o s.args.reading s.args.max_age r.retain_contested-c.result r.retain_contested-c.new.1.1.0 r.retain_contested-c.ensures,
       omega (arith, o.peers.within, o.peers.room),
       o.peers.exactly,
     )
@@ -39,7 +39,7 @@ retain-snapshot-keys-requires c κs =
     let r = second q in
     let s = first r in
     let o = sound s in (
-      peers-order s.args.self (lent s) o s.args.reading s.args.max-age r.retain_contested-c.result r.retain_contested-c.last.1.1.0 r.retain_contested-c.ensures
+      peers-order s.args.self (lent s) o s.args.reading s.args.max_age r.retain_contested-c.result r.retain_contested-c.last.1.1.0 r.retain_contested-c.ensures
           q.retain_peers-n.result q.retain_peers-n.new.1.1.0 q.retain_peers-n.ensures,
       omega (arith, o.snapshot_keys.within, o.snapshot_keys.room),
     )
@@ -50,7 +50,7 @@ returns c =
     let q = k.before.before.before.before.before in
     let r = second q in
     let s = first r in
-    expired s.args.self (lent s) (sound s) s.args.reading s.args.max-age r.retain_contested-c.result r.retain_contested-c.last.1.1.0 r.retain_contested-c.ensures
+    expired s.args.self (lent s) (sound s) s.args.reading s.args.max_age r.retain_contested-c.result r.retain_contested-c.last.1.1.0 r.retain_contested-c.ensures
     q.retain_peers-n.result q.retain_peers-n.new.1.1.0 q.retain_peers-n.ensures
     k.retain_snapshot_keys-k.result k.retain_snapshot_keys-k.new.1.1.0 k.retain_snapshot_keys-k.ensures
 

@@ -7,23 +7,23 @@ use Rattle.peers.proofs.peer_demand.PeerDemand.get.Statement.{statement}
 use Rattle.peers.proofs.peer_demand.PeerDemand.get.Tie as tie
 
 returns : tie.Need-returns-then-asked-ne0
-returns c = answer-no _ _ c.before.ask-asked.result c.before.ask-asked.ensures c.if-asked-ne0.true
+returns c = answer-no _ _ c.ask-asked.result c.ask-asked.ensures c.if-asked-ne0.true
 
 heard-by-requires : tie.Need-heard_by-requires
 heard-by-requires c κs =
     let k = c.before.before in
-    asked-ready _ _ _ c.before.ask-asked.ensures c.if-asked-ne0.false (λ i. (k.before.before.shared_slice_known-1.given i).fits)
-    (λ i. (k.before.shared_slice_known-2-1.given i).fits) (λ i. (k.shared_slice_known-3-1.given i).fits)
+    asked-ready _ _ _ c.ask-asked.ensures c.if-asked-ne0.false (λ i. (k.shared_slice_known-1.given i).fits)
+    (λ i. (k.shared_slice_known-2-1.given i).fits) (λ i. (k.shared_slice_known-3-1.given i).fits)
 
 returns-2 : tie.Need-returns-in-Silence
 returns-2 c =
-    let e = c.before.before.before in
-    answer-yes _ _ e.before.ask-asked.result _ _ e.before.ask-asked.ensures e.if-asked-ne0.false (sym (ap said_of c.enum_told.given.1) ∙ c.before.before.heard_by.ensures)
+    let e = c.before.before in
+    answer-yes _ _ e.ask-asked.result _ _ e.ask-asked.ensures e.if-asked-ne0.false (sym (ap said_of c.in-Silence.is) ∙ c.heard_by.ensures)
 
 returns-3 : tie.Need-returns-in-Of
 returns-3 c =
-    let e = c.before.before.before.before in
-    answer-yes _ _ e.before.ask-asked.result _ _ e.before.ask-asked.ensures e.if-asked-ne0.false (sym (ap said_of c.before.h.given.1) ∙ c.before.before.before.heard_by.ensures)
+    let e = c.before.before in
+    answer-yes _ _ e.ask-asked.result _ _ e.ask-asked.ensures e.if-asked-ne0.false (sym (ap said_of c.in-Of.is) ∙ c.heard_by.ensures)
 
 pub get_spec : {M : Type 1} → statement M
 get_spec =

@@ -7,42 +7,42 @@ use Rattle.peers.proofs.Peers.Readers.ReaderLaws.{id-at, heard-missing}
 use Rattle.peers.proofs.peer_demand.PeerDemand.heard_by.Statement.{statement}
 use Rattle.peers.proofs.peer_demand.PeerDemand.heard_by.Tie as tie
 
-abbrev start : tie.In-At-2 → tie.Start
-start c = c.before.before.before.before.before.before
+abbrev start : tie.In-At → tie.Start
+start c = c.before.before.before.before.before
 
 -- the peer that is found has the id
-place : (c : tie.In-At-2) → (c.i.given.0.0 < (start c).args.self.peers) × (get_or (start c).args.peers.now (c.i.given.0.0 * 12) 0 ≡ (start c).args.id)
+place : (c : tie.In-At) → (c.in-At.i < (start c).args.self.peers) × (get_or (start c).args.peers.now (c.in-At.i * 12) 0 ≡ (start c).args.id)
 place c =
     let st = start c in
     let s = st.args in
-    let b = c.before.before in
-    id-at s.self.peers s.peers.now st.pre.peers s.id c.i.given.0.0 (find-says 12 1 s.self.peers s.id 0 s.peers.now (omega arith) (omega arith) (omega arith) st.pre.peers.fit b.find.result b.find.ensures ∙ c.i.given.1)
+    let b = c.before in
+    id-at s.self.peers s.peers.now st.pre.peers s.id c.in-At.i (find-says 12 1 s.self.peers s.id 0 s.peers.now (omega arith) (omega arith) (omega arith) st.pre.peers.fit b.find.result b.find.ensures ∙ c.in-At.is)
 
 heard-from-requires : tie.Need-heard_from-requires
 heard-from-requires c κs =
-    let st = start c.before in
-    (st.pre, (place c.before).0)
+    let st = start c in
+    (st.pre, (place c).0)
 
 returns : tie.Need-returns-in-At
 returns c =
-    let a = c.before.before in
+    let a = c.before in
     let s = (start a).args in
     c.heard_from.ensures ∙ ap (λ (id : ℕ). heard id s.key (state_of s.self (tables s.peers.now s.snapshot-keys.now s.contested.now))) (place a).1
 
 returns-2 : tie.Need-returns-in-Gap
 returns-2 c =
-    let a = c.before in
-    let b = a.before.before in
+    let a = c in
+    let b = a.before in
     let st = b.before.before.before.before in
     let s = st.args in
-    heard-missing s.self (tables s.peers.now s.snapshot-keys.now s.contested.now) st.requires s.key s.id a.i2.given.0.0 (find-says 12 1 s.self.peers s.id 0 s.peers.now (omega arith) (omega arith) (omega arith) st.requires.peers.fit b.find.result b.find.ensures ∙ a.i2.given.1)
+    heard-missing s.self (tables s.peers.now s.snapshot-keys.now s.contested.now) st.requires s.key s.id a.in-Gap.i (find-says 12 1 s.self.peers s.id 0 s.peers.now (omega arith) (omega arith) (omega arith) st.requires.peers.fit b.find.result b.find.ensures ∙ a.in-Gap.is)
 
 returns-3 : tie.Need-returns-in-Unfit
 returns-3 c =
-    let b = c.before.before in
+    let b = c.before in
     let st = b.before.before.before.before in
     let s = st.args in
-    absurd (never-unfit 12 1 s.self.peers s.id 0 s.peers.now (omega arith) (omega arith) (omega arith) st.requires.peers.fit b.find.result b.find.ensures c.enum_told.given.1)
+    absurd (never-unfit 12 1 s.self.peers s.id 0 s.peers.now (omega arith) (omega arith) (omega arith) st.requires.peers.fit b.find.result b.find.ensures c.in-Unfit.is)
 
 pub heard_by_spec : {M : Type 1} → statement M
 heard_by_spec =

@@ -15,7 +15,7 @@ returns : tie.Need-returns
 returns c =
     let st = c.before.before.before.before.before.before.before.before.before.before in
     let s = st.args in
-    c.join.ensures ∙ (λ k. join (c.before.before.heard_taken-taken.ensures k) (c.before.heard_contested-other.ensures k)) ∙ heard-at s.self (tables s.peers.now s.snapshot-keys.now s.contested.now) st.requires.0 s.key s.i st.requires.1
+    c.join.ensures ∙ (λ k. join (c.heard_taken-taken.ensures k) (c.heard_contested-other.ensures k)) ∙ heard-at s.self (tables s.peers.now s.snapshot-keys.now s.contested.now) st.requires.0 s.key s.i st.requires.1
 
 pub heard_from_spec : {M : Type 1} → statement M
 heard_from_spec =

@@ -7,11 +7,11 @@ use Rattle.peers.proofs.peer_demand.PeerDemand.hot_elsewhere.Tie as tie
 
 returns : tie.Need-returns-in-No
 returns c =
-    let m = c.before in
-    one-refused hot_elsewhere _ _ _ _ _ _ m.before.before.before.hot_elsewhere_of_each.ensures _ m.no.given.1
+    let m = c in
+    one-refused hot_elsewhere _ _ _ _ _ _ m.hot_elsewhere_of_each.ensures _ m.in-No.is
 
 returns-2 : tie.Need-returns-in-Done
-returns-2 c = one-given hot_elsewhere _ _ _ _ _ _ c.before.before.before.hot_elsewhere_of_each.ensures _ c.enum_told.given.1
+returns-2 c = one-given hot_elsewhere _ _ _ _ _ _ c.hot_elsewhere_of_each.ensures _ c.in-Done.is
 
 pub hot_elsewhere_spec : {M : Type 1} → statement M
 hot_elsewhere_spec =

@@ -10,7 +10,7 @@ use Rattle.peers.proofs.peer_demand.PeerDemand.hot_elsewhere_of_each.Tie as tie
 returns : tie.Need-returns-then-no-ne0
 returns c =
     let q = c.before in
-    each-refused hot_elsewhere _ _ _ _ _ _ q.ask_for_each-no.result (q.ask_for_each-no.ensures.first _ _ q.before.ask_for_starts-asked.ensures.first) c.if-no-ne0.true
+    each-refused hot_elsewhere _ _ _ _ _ _ q.ask_for_each-no.result (q.ask_for_each-no.ensures.first _ _ q.ask_for_starts-asked.ensures.first) c.if-no-ne0.true
 
 primary-of-ascending-requires : tie.Need-primary_of_ascending-requires
 primary-of-ascending-requires c κs =
@@ -20,7 +20,7 @@ primary-of-ascending-requires c κs =
     let a = q.before in
     let ready = (a.ask_for_starts-asked.ensures.ready (q.ask_for_each-no.ensures.state e.if-no-ne0.false)).ready in
     let fit = each_fits _ _ _ _ _ _ q.ask_for_each-no.result (q.ask_for_each-no.ensures.first _ _ a.ask_for_starts-asked.ensures.first) e.if-no-ne0.false in (
-      record { fit = fit.0; ascends = many-ascending _ _ _ _ g.are_many_ascending.ensures c.before.if-are_many_ascending.true; room = fit.1 },
+      record { fit = fit.0; ascends = many-ascending _ _ _ _ g.are_many_ascending.ensures c.if-are_many_ascending.true; room = fit.1 },
       ready.snapshot_keys.ready,
       ready.contested.ready,
     )

@@ -17,7 +17,7 @@ decreases-loop-i self peers snapshot-keys contested key n snapshot-starts contes
 
 loop-holds : tie.Need-loop-i-init invariant-loop-i decreases-loop-i
 loop-holds c =
-    let s = c.before.before.before.before.before.args in
+    let s = c.args in
     (omega arith, hot-starts s.self (tables s.peers.now s.snapshot-keys.now s.contested.now) s.key)
 
 abbrev start : tie.In-loop-i invariant-loop-i decreases-loop-i → tie.Start invariant-loop-i decreases-loop-i
@@ -28,33 +28,33 @@ own-keys-requires c κs =
     let e = c.before.before in
     let st = start e in
     let s = st.args in
-    starts-room s.self (tables s.peers.now s.snapshot-keys.now s.contested.now) s.starts st.pre e.before.loop-i.i e.loop-i-test.true
+    starts-room s.self (tables s.peers.now s.snapshot-keys.now s.contested.now) s.starts st.pre e.loop-i.i e.loop-i-test.true
 
 heard-among-own-requires : tie.Need-heard_among_own-said-requires invariant-loop-i decreases-loop-i
 heard-among-own-requires c κs =
     let e = c.before.before.before in
     let st = start e in
     let s = st.args in
-    (st.pre.ready, (own-told s.self (tables s.peers.now s.snapshot-keys.now s.contested.now) s.starts st.pre e.before.loop-i.i e.loop-i-test.true c.own_keys-own.result c.own_keys-own.ensures, e.loop-i-test.true))
+    (st.pre.ready, (own-told s.self (tables s.peers.now s.snapshot-keys.now s.contested.now) s.starts st.pre e.loop-i.i e.loop-i-test.true c.own_keys-own.result c.own_keys-own.ensures, e.loop-i-test.true))
 
 returns : tie.Need-returns-then-is_primary invariant-loop-i decreases-loop-i
 returns c =
     let e = c.before.before.before.before.before.before in
     let s = (start e).args in
-    let l = e.before.loop-i in
-    hot-here s.self (tables s.peers.now s.snapshot-keys.now s.contested.now) s.key (start e).requires.ready l.i e.loop-i-test.true (ap is_primary (sym c.before.before.heard_among_own-said.ensures) ∙ sym c.before.is_primary.ensures ∙ c.if-is_primary.true) l.invariant.1
+    let l = e.loop-i in
+    hot-here s.self (tables s.peers.now s.snapshot-keys.now s.contested.now) s.key (start e).requires.ready l.i e.loop-i-test.true (ap is_primary (sym c.heard_among_own-said.ensures) ∙ sym c.is_primary.ensures ∙ c.if-is_primary.true) l.invariant.1
 
 loop-again : tie.Need-loop-i-preserved invariant-loop-i decreases-loop-i
 loop-again c =
     let e = c.before.before.before.before.before.before in
     let s = (start e).args in
-    let l = e.before.loop-i in
-    (omega (arith, e.loop-i-test.true), hot-goes s.self (tables s.peers.now s.snapshot-keys.now s.contested.now) s.key (start e).requires.ready l.i e.loop-i-test.true (ap is_primary (sym c.before.before.heard_among_own-said.ensures) ∙ sym c.before.is_primary.ensures ∙ c.if-is_primary.false) l.invariant.1)
+    let l = e.loop-i in
+    (omega (arith, e.loop-i-test.true), hot-goes s.self (tables s.peers.now s.snapshot-keys.now s.contested.now) s.key (start e).requires.ready l.i e.loop-i-test.true (ap is_primary (sym c.heard_among_own-said.ensures) ∙ sym c.is_primary.ensures ∙ c.if-is_primary.false) l.invariant.1)
 
 returns-2 : tie.Need-returns invariant-loop-i decreases-loop-i
 returns-2 c =
-    let s = c.before.before.before.before.before.before.before.args in
-    let l = c.before.loop-i in
+    let s = c.args in
+    let l = c.loop-i in
     hot-ends s.self (tables s.peers.now s.snapshot-keys.now s.contested.now) s.key l.i (omega arith) l.invariant.1
 
 pub is_primary_of_any_spec : {M : Type 1} → statement M

@@ -10,13 +10,13 @@ use Rattle.records.proofs.Tables.TypedLaws.{all_words}
 use Rattle.peers.proofs.peer_demand.PeerDemand.is_valid.Statement.{statement}
 use Rattle.peers.proofs.peer_demand.PeerDemand.is_valid.Tie as tie
 
-scanned : (c : tie.After-shared_slice_known-3-1) → let s = c.before.before.before.args in is_scanned s.self (tables s.peers.now s.snapshot-keys.now s.contested.now) ≡ is_valid s.self (tables s.peers.now s.snapshot-keys.now s.contested.now)
+scanned : (c : tie.After-shared_slice_known-3-1) → let s = c.args in is_scanned s.self (tables s.peers.now s.snapshot-keys.now s.contested.now) ≡ is_valid s.self (tables s.peers.now s.snapshot-keys.now s.contested.now)
 scanned c =
     let st = c.before.before.before in
     let s = st.args in
     scanned-is-valid s.self (tables s.peers.now s.snapshot-keys.now s.contested.now) st.requires.0
-    (all_words s.peers.now (λ i. omega (arith, c.before.before.shared_slice_known-1.given i)))
-    (all_words s.snapshot-keys.now (λ i. omega (arith, c.before.shared_slice_known-2-1.given i)))
+    (all_words s.peers.now (λ i. omega (arith, c.shared_slice_known-1.given i)))
+    (all_words s.snapshot-keys.now (λ i. omega (arith, c.shared_slice_known-2-1.given i)))
     (all_words s.contested.now (λ i. omega (arith, c.shared_slice_known-3-1.given i)))
 
 abbrev start : tie.Else-not-are_peers → tie.Start
@@ -28,7 +28,7 @@ roomy c =
     room_says (tables s.peers.now s.snapshot-keys.now s.contested.now) (start c).requires.0
 
 passed : (c : tie.Else-not-are_peers) → are_peers (records 12 (start c).args.self.peers (start c).args.peers.now) ≡ true
-passed c = sym c.before.are_peers.ensures ∙ c.if-not-are_peers.false
+passed c = sym c.are_peers.ensures ∙ c.if-not-are_peers.false
 
 ready : (c : tie.Else-not-are_peers) → PeersReady (start c).args.self.peers (start c).args.peers.now
 ready c = peers-ready (start c).args.self.peers (start c).args.peers.now (roomy c).peers (passed c)
@@ -41,7 +41,7 @@ are-peers-requires c κs =
 
 returns : tie.Need-returns-then-not-are_peers
 unfolding is_scanned
-returns c = (stop _ _ (sym c.before.are_peers.ensures ∙ c.if-not-are_peers.true) ∙ scanned c.before.before.before.before, λ e. contradiction (sym e))
+returns c = (stop _ _ (sym c.are_peers.ensures ∙ c.if-not-are_peers.true) ∙ scanned c.before.before.before.before, λ e. contradiction (sym e))
 
 are-keys-requires : tie.Need-are_keys-requires
 are-keys-requires c κs =

@@ -19,15 +19,15 @@ abbrev state : tie.Start invariant-loop-i decreases-loop-i → PeersState
 state s = state_of s.args.self (tables s.args.peers.now s.args.snapshot-keys.now s.args.contested.now)
 
 -- the key of a turn is within its table, and there is a place for what is told of it
-inside : (c : tie.In-loop-i invariant-loop-i decreases-loop-i) → c.before.loop-i.i * (start c.before).args.w < length (start c.before).args.keys.now
+inside : (c : tie.In-loop-i invariant-loop-i decreases-loop-i) → c.loop-i.i * (start c.before).args.w < length (start c.before).args.keys.now
 inside c =
     let s = start c.before in
-    key-within hot_elsewhere (state s) s.args.w s.args.n s.args.keys.now s.args.out.now s.pre.1.0 s.pre.1.1 c.before.loop-i.i c.loop-i-test.true
+    key-within hot_elsewhere (state s) s.args.w s.args.n s.args.keys.now s.args.out.now s.pre.1.0 s.pre.1.1 c.loop-i.i c.loop-i-test.true
 
-room : (c : tie.In-loop-i invariant-loop-i decreases-loop-i) → c.before.loop-i.i < length c.before.loop-i.out
+room : (c : tie.In-loop-i invariant-loop-i decreases-loop-i) → c.loop-i.i < length c.loop-i.out
 room c =
     let s = start c.before in
-    place-within hot_elsewhere (state s) s.args.w s.args.n s.args.keys.now s.args.out.now s.pre.1.0 s.pre.1.1 c.before.loop-i.i c.loop-i-test.true c.before.loop-i.out c.before.loop-i.invariant
+    place-within hot_elsewhere (state s) s.args.w s.args.n s.args.keys.now s.args.out.now s.pre.1.0 s.pre.1.1 c.loop-i.i c.loop-i-test.true c.loop-i.out c.loop-i.invariant
 
 loop-holds : tie.Need-loop-i-init invariant-loop-i decreases-loop-i
 loop-holds c =
@@ -38,12 +38,12 @@ loop-again : tie.Need-loop-i-preserved invariant-loop-i decreases-loop-i
 loop-again c =
     let e = c.before.before in
     let s = start e.before in
-    telling-goes hot_elsewhere (state s) s.args.w s.args.n s.args.keys.now s.args.out.now s.pre.1.0 s.pre.1.1 e.before.loop-i.i e.loop-i-test.true e.before.loop-i.out e.before.loop-i.invariant c.is_primary_of_any.result c.is_primary_of_any.ensures
+    telling-goes hot_elsewhere (state s) s.args.w s.args.n s.args.keys.now s.args.out.now s.pre.1.0 s.pre.1.1 e.loop-i.i e.loop-i-test.true e.loop-i.out e.loop-i.invariant c.is_primary_of_any.result c.is_primary_of_any.ensures
 
 returns : tie.Need-returns invariant-loop-i decreases-loop-i
 returns c =
     let s = start c.before in
-    telling-ends hot_elsewhere (state s) s.args.w s.args.n s.args.keys.now s.args.out.now c.before.loop-i.out c.before.loop-i.i c.before.loop-i.invariant c.loop-i-test.false
+    telling-ends hot_elsewhere (state s) s.args.w s.args.n s.args.keys.now s.args.out.now c.loop-i.out c.loop-i.i c.loop-i.invariant c.loop-i-test.false
 
 pub primary_each_spec : {M : Type 1} → statement M
 primary_each_spec =
@@ -58,7 +58,7 @@ primary_each_spec =
     (λ c κs. (start c.before.before).pre.0)
     (λ c. room c.before.before)
     (λ c. omega (arith, room c.before.before))
-    (λ c. omega (arith, c.before.before.loop-i-test.true))
+    (λ c. omega (arith, c.loop-i-test.true))
     loop-again
-    (λ c. c.before.loop-i.invariant.1)
+    (λ c. c.loop-i.invariant.1)
     returns)

@@ -18,7 +18,7 @@ decreases-loop-i self peers snapshot-keys contested key n snapshot-starts contes
 
 loop-holds : tie.Need-loop-i-init invariant-loop-i decreases-loop-i
 loop-holds c =
-    let s = c.before.before.before.before.before.args in
+    let s = c.args in
     (omega arith, total-starts s.self (tables s.peers.now s.snapshot-keys.now s.contested.now) s.key)
 
 abbrev start : tie.In-loop-i invariant-loop-i decreases-loop-i → tie.Start invariant-loop-i decreases-loop-i
@@ -29,27 +29,27 @@ own-keys-requires c κs =
     let e = c.before.before in
     let st = start e in
     let s = st.args in
-    starts-room s.self (tables s.peers.now s.snapshot-keys.now s.contested.now) s.starts st.pre e.before.loop-i.i e.loop-i-test.true
+    starts-room s.self (tables s.peers.now s.snapshot-keys.now s.contested.now) s.starts st.pre e.loop-i.i e.loop-i-test.true
 
 heard-among-own-requires : tie.Need-heard_among_own-said-requires invariant-loop-i decreases-loop-i
 heard-among-own-requires c κs =
     let e = c.before.before.before in
     let st = start e in
     let s = st.args in
-    (st.pre.ready, (own-told s.self (tables s.peers.now s.snapshot-keys.now s.contested.now) s.starts st.pre e.before.loop-i.i e.loop-i-test.true c.own_keys-own.result c.own_keys-own.ensures, e.loop-i-test.true))
+    (st.pre.ready, (own-told s.self (tables s.peers.now s.snapshot-keys.now s.contested.now) s.starts st.pre e.loop-i.i e.loop-i-test.true c.own_keys-own.result c.own_keys-own.ensures, e.loop-i-test.true))
 
 loop-again : tie.Need-loop-i-preserved invariant-loop-i decreases-loop-i
 loop-again c =
     let e = c.before.before.before.before.before in
     let s = (start e).args in
-    let l = e.before.loop-i in
+    let l = e.loop-i in
     let t = tables s.peers.now s.snapshot-keys.now s.contested.now in
-    (omega (arith, e.loop-i-test.true), ap (λ (x : Float). total_from x s.key (state_of s.self t) (map peer_of (drop (l.i + 1) (records 12 s.self.peers s.peers.now)))) (c.add_heard-sum.ensures ∙ ap (add_heard l.sum) c.before.heard_among_own-said.ensures) ∙ sym (total-goes s.self t s.key (start e).requires.ready l.sum l.i e.loop-i-test.true) ∙ l.invariant.1)
+    (omega (arith, e.loop-i-test.true), ap (λ (x : Float). total_from x s.key (state_of s.self t) (map peer_of (drop (l.i + 1) (records 12 s.self.peers s.peers.now)))) (c.add_heard-sum.ensures ∙ ap (add_heard l.sum) c.heard_among_own-said.ensures) ∙ sym (total-goes s.self t s.key (start e).requires.ready l.sum l.i e.loop-i-test.true) ∙ l.invariant.1)
 
 returns : tie.Need-returns invariant-loop-i decreases-loop-i
 returns c =
-    let s = c.before.before.before.before.before.before.before.args in
-    let l = c.before.loop-i in
+    let s = c.args in
+    let l = c.loop-i in
     sym (total-ends s.self (tables s.peers.now s.snapshot-keys.now s.contested.now) s.key l.sum l.i (omega arith)) ∙ l.invariant.1
 
 pub sum_heard_spec : {M : Type 1} → statement M
