@@ -8,6 +8,7 @@ use native.Mathlib.Omega.{arith}
 use lib.Pow.{pow_mono, pow_pos}
 use Rattle.demand.proofs.Weight.Division.{Divided, none, bit-clear, bit-set, quotient, quotient-lt}
 use Rattle.demand.proofs.decay.ratio_by_bits.Statement.{statement}
+use Rattle.demand.proofs.decay.ratio_by_bits.Lts.{then-rest-c, else-rest-c}
 use Rattle.demand.proofs.decay.ratio_by_bits.Tie as tie
 
 abbrev invariant-loop : tie.invariant-loop
@@ -44,10 +45,10 @@ loop-again : tie.Need-loop-preserved invariant-loop decreases-loop
 loop-again c =
     let l = c.before.before in
     let i = l.loop.invariant in
-    ⊎_elim
-    (λ w. rw (w.1, w.2) (kept _ _ _ _ _ c.loop-test.true i.3 (bit-clear _ _ _ _ _ w.0.taken i.4)))
-    (λ w. rw (w.1, w.2) (kept _ _ _ _ _ c.loop-test.true i.3 (bit-set _ _ _ _ _ w.0.left i.4)))
-    c.if-rest-c.branch
+    elim c.if-rest-c.branch [
+      then-rest-c w ↦ rw (w.y-is, w.rest-is) (kept _ _ _ _ _ c.loop-test.true i.3 (bit-clear _ _ _ _ _ w.if-rest-c.true i.4))
+    | else-rest-c w ↦ rw (w.y-is, w.rest-is) (kept _ _ _ _ _ c.loop-test.true i.3 (bit-set _ _ _ _ _ w.if-rest-c.false i.4))
+    ]
 
 done : (r c y rest i : ℕ) → i ≤ 52 → 52 ≤ i → Divided r (2 ^ i) c y rest → y ≡ r * 2 ^ 52 / c
 done r c y rest i h k d =
