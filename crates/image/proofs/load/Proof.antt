@@ -50,30 +50,24 @@ returns c =
 
 store-requires : tie.Need-store-requires
 store-requires c κs =
-    let k = c.before.before.before.before.before.before in
-    let j = k.before in
-    let e = asked j in
+    let e = asked c.before.before.before.before.before.before.before in
     let s = begun e.before in (
-      j.scan-found.ensures,
-      image-fits (bytes s) (lent s) (peers_lent s) (room e) k.in-Is.loaded (judged-yes k) j.scan-found.result j.scan-found.ensures,
+      c.scan-found.ensures,
+      image-fits (bytes s) (lent s) (peers_lent s) (room e) c.in-Is.loaded (judged-yes c.before.before.before.before.before.before) c.scan-found.result c.scan-found.ensures,
     )
 
 returns-2 : tie.Need-returns-in-No
 returns-2 c =
-    let k = c in
-    let e = asked k.before in
+    let e = asked c.before in
     let s = begun e.before in
-    refused-image (bytes s) (lent s) (peers_lent s) (room e) k.in-No.no (judged-no k)
+    refused-image (bytes s) (lent s) (peers_lent s) (room e) c.in-No.no (judged-no c)
 
 returns-3 : tie.Need-returns-in-Is
 returns-3 c =
-    let o = c.before.before.before.before.before.before.before.before.before.before.before.before in
-    let k = o.before.before.before.before.before.before.before in
-    let j = k.before in
-    let e = asked j in
+    let e = asked c.before.before.before.before.before.before.before.before.before.before.before.before.before.before.before.before.before.before.before.before in
     let s = begun e.before in
-    image-loaded (bytes s) (lent s) (peers_lent s) (room e) k.in-Is.loaded (judged-yes k) j.scan-found.result j.scan-found.ensures _ _
-    o.store.ensures
+    image-loaded (bytes s) (lent s) (peers_lent s) (room e) c.in-Is.loaded (judged-yes c.before.before.before.before.before.before.before.before.before.before.before.before.before.before.before.before.before.before.before) c.scan-found.result c.scan-found.ensures _ _
+    c.store.ensures
 
 pub load_spec : {M : Type 1} → statement M
 load_spec =

@@ -9,11 +9,10 @@ use Rattle.image.proofs.save.Tie as tie
 
 save-asked-requires : tie.Need-save_asked-requires
 save-asked-requires c κs =
-    let f = c.before in
-    let s = f.args in
-    f.first_of-no.ensures
+    let s = c.args in
+    c.first_of-no.ensures
     ∙ first-of-both s.limiter (tables s.keys.now s.hot.now s.shadows.now) s.peers
-    (peer-state.tables s.peer_table.now s.snapshot-keys.now s.contested.now) _ _ f.ask-here.ensures f.ask-there.ensures
+    (peer-state.tables s.peer_table.now s.snapshot-keys.now s.contested.now) _ _ c.ask-here.ensures c.ask-there.ensures
 
 pub save_spec : {M : Type 1} → statement M
 save_spec =

@@ -36,9 +36,8 @@ returns-2 c =
 returns-3 : tie.Need-returns
 unfolding within
 returns-3 c =
-    let e = c.before.before in
-    let s = e.args in
-    goes _ _ _ (keys_fit e) (goes _ _ _ (hot-fits c) (ap (λ (m : ℕ). leb (4 * m) s.shadows) e.at_most-size.ensures))
+    let s = c.args in
+    goes _ _ _ (keys_fit c.before.before) (goes _ _ _ (hot-fits c) (ap (λ (m : ℕ). leb (4 * m) s.shadows) c.at_most-size.ensures))
 
 pub have_room_spec : {M : Type 1} → statement M
 have_room_spec =

@@ -56,49 +56,41 @@ follows-requires c κs = omega (arith, bound c)
 
 returns-2 : tie.Need-returns-then-not-follows invariant-loop-i decreases-loop-i
 returns-2 c =
-    let l = c.before.before in
-    let e = l.before.before in
-    let s = (start e).args in
-    scan-order are_entry_words 6 s.n s.hot.now (omega arith) (room e) l.loop-i.i l.loop-i-test.true (told-no c.follows.ensures c.if-not-follows.true)
-    ∙ asked e
+    let s = (start c.before.before.before.before).args in
+    scan-order are_entry_words 6 s.n s.hot.now (omega arith) (room c.before.before.before.before) c.loop-i.i c.loop-i-test.true (told-no c.follows.ensures c.if-not-follows.true)
+    ∙ asked c.before.before.before.before
 
 is-entry-requires : tie.Need-is_entry-requires invariant-loop-i decreases-loop-i
 is-entry-requires c κs = omega (arith, bound c.before.before)
 
 -- the words of the turn are those of its record
-record-told : (c : tie.After-is_entry invariant-loop-i decreases-loop-i) → let l = c.before.before.before in let s = (start l.before.before).args in c.is_entry.result ≡ are_entry_words (get_or (records 6 s.n s.hot.now) l.loop-i.i [])
+record-told : (c : tie.After-is_entry invariant-loop-i decreases-loop-i) → let l = c in let s = (start l.before.before.before.before.before).args in c.is_entry.result ≡ are_entry_words (get_or (records 6 s.n s.hot.now) l.loop-i.i [])
 record-told c =
-    let l = c.before.before.before in
-    let s = (start l.before.before).args in
-    c.is_entry.ensures ∙ record-entry s.n s.hot.now l.loop-i.i l.loop-i-test.true
+    let s = (start c.before.before.before.before.before).args in
+    c.is_entry.ensures ∙ record-entry s.n s.hot.now c.loop-i.i c.loop-i-test.true
 
 returns-3 : tie.Need-returns-then-not-is_entry invariant-loop-i decreases-loop-i
 returns-3 c =
-    let l = c.before.before.before.before in
-    let e = l.before.before in
-    let s = (start e).args in
-    scan-record are_entry_words 6 s.n s.hot.now (omega arith) (room e) l.loop-i.i l.loop-i-test.true (told-no (record-told c.before) c.if-not-is_entry.true)
-    ∙ asked e
+    let s = (start c.before.before.before.before.before.before).args in
+    scan-record are_entry_words 6 s.n s.hot.now (omega arith) (room c.before.before.before.before.before.before) c.loop-i.i c.loop-i-test.true (told-no (record-told c.before) c.if-not-is_entry.true)
+    ∙ asked c.before.before.before.before.before.before
 
 add-i : tie.Need-overflow_add-i invariant-loop-i decreases-loop-i
-add-i c = let l = c.before.before.before.before in omega (arith, bound l)
+add-i c = let l = c in omega (arith, bound l.before.before.before.before)
 
 loop-less : tie.Need-loop-i-smaller invariant-loop-i decreases-loop-i
-loop-less c = let l = c.before.before.before.before in omega (arith, l.loop-i-test.true)
+loop-less c = let l = c in omega (arith, l.loop-i-test.true)
 
 loop-again : tie.Need-loop-i-preserved invariant-loop-i decreases-loop-i
 loop-again c =
-    let f = c.before.before in
-    let l = f.before.before in
-    let s = (start l.before.before).args in
-    scan_step are_entry_words 6 s.n s.hot.now l.loop-i.i l.loop-i.invariant l.loop-i-test.true (told-yes f.follows.ensures f.if-not-follows.false) (told-yes (record-told c.before) c.if-not-is_entry.false)
+    let s = (start c.before.before.before.before.before.before).args in
+    scan_step are_entry_words 6 s.n s.hot.now c.loop-i.i c.loop-i.invariant c.loop-i-test.true (told-yes c.follows.ensures c.if-not-follows.false) (told-yes (record-told c.before) c.if-not-is_entry.false)
 
 returns-4 : tie.Need-returns invariant-loop-i decreases-loop-i
 returns-4 c =
-    let e = c.before.before in
-    let s = (start e).args in
-    scan-done are_entry_words 6 s.n s.hot.now (omega arith) (room e) c.loop-i.i c.loop-i.invariant c.loop-i-test.false
-    ∙ asked e
+    let s = (start c.before.before).args in
+    scan-done are_entry_words 6 s.n s.hot.now (omega arith) (room c.before.before) c.loop-i.i c.loop-i.invariant c.loop-i-test.false
+    ∙ asked c.before.before
 
 pub are_valid_spec : {M : Type 1} → statement M
 are_valid_spec =

@@ -9,8 +9,7 @@ returns c = first-follows _ _ _ c.if-at-lt-WORDS.true
 
 returns-2 : tie.Need-returns
 returns-2 c =
-    let e = c.before.before in
-    next-follows 6 e.args.at e.args.hot.now e.if-at-lt-WORDS.false
+    next-follows 6 c.args.at c.args.hot.now c.if-at-lt-WORDS.false
 
 pub follows_spec : {M : Type 1} → statement M
 follows_spec =

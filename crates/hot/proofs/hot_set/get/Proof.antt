@@ -27,13 +27,13 @@ of-words-requires : tie.Need-of_words-requires
 of-words-requires c κs = within c
 
 returns : tie.Need-returns-in-At
-returns c = let s = start c.before in ap some c.of_words.ensures ∙ got-at s.args.n s.args.hot.now s.pre s.args.key _ (found c.before)
+returns c = let s = start c.before in ap some c.of_words.ensures ∙ got-at s.args.n s.args.hot.now s.requires s.args.key _ (found c.before)
 
 returns-2 : tie.Need-returns-in-Gap
-returns-2 c = let s = c.before.before.before in got-gap s.args.n s.args.hot.now s.requires s.args.key _ (sym c.in-Gap.is ∙ c.find.ensures)
+returns-2 c = let s = c in got-gap s.args.n s.args.hot.now s.requires s.args.key _ (sym c.in-Gap.is ∙ c.find.ensures)
 
 returns-3 : tie.Need-returns-in-Unfit
-returns-3 c = let s = c.before.before.before in never-unfit s.args.n s.args.hot.now s.requires s.args.key (sym c.in-Unfit.is ∙ c.find.ensures)
+returns-3 c = let s = c in never-unfit s.args.n s.args.hot.now s.requires s.args.key (sym c.in-Unfit.is ∙ c.find.ensures)
 
 pub get_spec : {M : Type 1} → statement M
 get_spec =

@@ -7,8 +7,7 @@ use Rattle.hot.proofs.hot_set.is_entry.Tie as tie
 
 returns : tie.Need-returns
 returns c =
-    let s = c.before.before.before.before.before.before in
-    c.are_words.ensures ∙ sym (is-entry-at s.args.at s.args.hot.now)
+    c.are_words.ensures ∙ sym (is-entry-at c.args.at c.args.hot.now)
 
 pub is_entry_spec : {M : Type 1} → statement M
 is_entry_spec =

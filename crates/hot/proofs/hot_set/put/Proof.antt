@@ -7,27 +7,15 @@ use Rattle.hot.proofs.hot_set.put.Tie as tie
 
 returns : tie.Need-returns-in-At
 returns c =
-    let o = c.before.before in
-    let i = o.before.before.before in
-    let f = i.before in
-    let w = f.before.before in
-    let s = w.before.before in
-    o.overwrite.ensures.1 ∙ put-at s.args.n s.args.hot.now s.requires.0 s.args.entry _ w.words-r.ensures _ (sym i.in-At.is ∙ f.find.ensures)
+    c.overwrite.ensures.1 ∙ put-at c.args.n c.args.hot.now c.requires.0 c.args.entry _ c.words-r.ensures _ (sym c.in-At.is ∙ c.find.ensures)
 
 returns-2 : tie.Need-returns-in-Gap
 returns-2 c =
-    let o = c.before.before in
-    let i = o.before.before.before in
-    let f = i.before in
-    let w = f.before.before in
-    let s = w.before.before in
-    o.insert.ensures.1 ∙ put-gap s.args.n s.args.hot.now s.requires.0 s.args.entry _ w.words-r.ensures _ s.requires.1 (sym i.in-Gap.is ∙ f.find.ensures)
+    c.insert.ensures.1 ∙ put-gap c.args.n c.args.hot.now c.requires.0 c.args.entry _ c.words-r.ensures _ c.requires.1 (sym c.in-Gap.is ∙ c.find.ensures)
 
 returns-3 : tie.Need-returns-in-Unfit
 returns-3 c =
-    let f = c.before in
-    let s = f.before.before.before.before in
-    never-unfit s.args.n s.args.hot.now s.requires.0 s.args.entry.key (sym c.in-Unfit.is ∙ f.find.ensures)
+    never-unfit c.args.n c.args.hot.now c.requires.0 c.args.entry.key (sym c.in-Unfit.is ∙ c.find.ensures)
 
 pub put_spec : {M : Type 1} → statement M
 put_spec =

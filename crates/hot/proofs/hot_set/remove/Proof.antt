@@ -7,23 +7,15 @@ use Rattle.hot.proofs.hot_set.remove.Tie as tie
 
 returns : tie.Need-returns-in-At
 returns c =
-    let o = c.before.before in
-    let i = o.before.before in
-    let f = i.before in
-    let s = f.before.before.before in
-    o.remove.ensures.1 ∙ removed-at s.args.n s.args.hot.now s.requires s.args.key _ (sym i.in-At.is ∙ f.find.ensures)
+    c.remove.ensures.1 ∙ removed-at c.args.n c.args.hot.now c.requires c.args.key _ (sym c.in-At.is ∙ c.find.ensures)
 
 returns-2 : tie.Need-returns-in-Gap
 returns-2 c =
-    let f = c.before in
-    let s = f.before.before.before in
-    removed-none s.args.n s.args.hot.now s.requires s.args.key _ (sym c.in-Gap.is ∙ f.find.ensures)
+    removed-none c.args.n c.args.hot.now c.requires c.args.key _ (sym c.in-Gap.is ∙ c.find.ensures)
 
 returns-3 : tie.Need-returns-in-Unfit
 returns-3 c =
-    let f = c.before in
-    let s = f.before.before.before in
-    never-unfit s.args.n s.args.hot.now s.requires s.args.key (sym c.in-Unfit.is ∙ f.find.ensures)
+    never-unfit c.args.n c.args.hot.now c.requires c.args.key (sym c.in-Unfit.is ∙ c.find.ensures)
 
 pub remove_spec : {M : Type 1} → statement M
 remove_spec =

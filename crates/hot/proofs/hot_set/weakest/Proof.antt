@@ -23,7 +23,7 @@ last : (c : tie.After-loop-i invariant-loop-i decreases-loop-i) → c.loop-i.lea
 last c = let f = c.requires.0.fit in let w = c.loop-i.invariant.within in let m = c.loop-i.invariant.passed in omega arith
 
 loop-holds : tie.Need-loop-i-init invariant-loop-i decreases-loop-i
-loop-holds c = let s = c.before in weakest-start s.args.n s.args.hot.now s.requires.0 s.requires.1
+loop-holds c = let s = c in weakest-start s.args.n s.args.hot.now s.requires.0 s.requires.1
 
 mul-total-less : tie.Need-overflow_mul-i invariant-loop-i decreases-loop-i
 mul-total-less c = omega (arith, sizes c)
@@ -50,21 +50,18 @@ shared-slice-read-total-less-2 : tie.Need-bounds-hot-least invariant-loop-i decr
 shared-slice-read-total-less-2 c = omega (arith, sizes c.before.before)
 
 add-i : tie.Need-overflow_add-i-in-loop-i invariant-loop-i decreases-loop-i
-add-i c = let l = c.before.before.before.before in omega (arith, sizes l)
+add-i c = let l = c in omega (arith, sizes l.before.before.before.before)
 
 loop-less : tie.Need-loop-i-smaller invariant-loop-i decreases-loop-i
-loop-less c = let l = c.before.before.before.before in omega (arith, l.loop-i-test.true)
+loop-less c = let l = c in omega (arith, l.loop-i-test.true)
 
 loop-again : tie.Need-loop-i-preserved invariant-loop-i decreases-loop-i
 loop-again c =
-    let t = c.before in
-    let l = t.before.before.before in
-    let s = l.before.before.before in
-    let i = l.loop-i.i in
+    let i = c.loop-i.i in
     ⊎_elim
-    (λ w. subst (λ (m : ℕ). Weakest s.args.n s.args.hot.now m (i + 1)) (sym w.1) (weakest-next s.args.n s.args.hot.now s.requires.0 _ i l.loop-i.invariant l.loop-i-test.true (sym t.total_less.ensures ∙ w.0.taken)))
-    (λ w. subst (λ (m : ℕ). Weakest s.args.n s.args.hot.now m (i + 1)) (sym w.1) (weakest-same s.args.n s.args.hot.now s.requires.0 _ i l.loop-i.invariant l.loop-i-test.true (sym t.total_less.ensures ∙ w.0.left)))
-    c.if-total_less.branch
+    (λ w. subst (λ (m : ℕ). Weakest c.args.n c.args.hot.now m (i + 1)) (sym w.1) (weakest-next c.args.n c.args.hot.now c.requires.0 _ i c.loop-i.invariant c.loop-i-test.true (sym c.total_less.ensures ∙ w.0.true)))
+    (λ w. subst (λ (m : ℕ). Weakest c.args.n c.args.hot.now m (i + 1)) (sym w.1) (weakest-same c.args.n c.args.hot.now c.requires.0 _ i c.loop-i.invariant c.loop-i-test.true (sym c.total_less.ensures ∙ w.0.false)))
+    c.if-total_less.branch-raw
 
 mul-of-words : tie.Need-overflow_mul-least-2 invariant-loop-i decreases-loop-i
 mul-of-words c = omega (arith, last c)
@@ -74,9 +71,7 @@ of-words-requires c κs = last c
 
 returns : tie.Need-returns invariant-loop-i decreases-loop-i
 returns c =
-    let l = c.before in
-    let s = l.before.before.before in
-    weakest-done s.args.n s.args.hot.now s.requires.0 _ _ _ l.loop-i.invariant l.loop-i-test.false c.of_words.ensures
+    weakest-done c.args.n c.args.hot.now c.requires.0 _ _ _ c.loop-i.invariant c.loop-i-test.false c.of_words.ensures
 
 pub weakest_spec : {M : Type 1} → statement M
 weakest_spec =

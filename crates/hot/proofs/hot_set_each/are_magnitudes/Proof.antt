@@ -24,30 +24,24 @@ loop-holds c = (omega arith, refl)
 
 returns : tie.Need-returns-then-not-is_magnitude invariant-loop-i decreases-loop-i
 returns c =
-    let l = c.before.before.before.before in
-    let s = l.before.before in
     let h = c.loop-i-test.true in
-    sym (sym l.loop-i.invariant.1
-    ∙ all-stop magnitude _ (take s.args.n s.args.demands.now) l.loop-i.i (omega (arith, length-take-le s.args.n s.args.demands.now s.requires))
-    (ap magnitude (get_or-take s.args.n s.args.demands.now l.loop-i.i _ h) ∙ sym c.is_magnitude.ensures ∙ c.if-not-is_magnitude.true))
+    sym (sym c.loop-i.invariant.1
+    ∙ all-stop magnitude _ (take c.args.n c.args.demands.now) c.loop-i.i (omega (arith, length-take-le c.args.n c.args.demands.now c.requires))
+    (ap magnitude (get_or-take c.args.n c.args.demands.now c.loop-i.i _ h) ∙ sym c.is_magnitude.ensures ∙ c.if-not-is_magnitude.true))
 
 loop-again : tie.Need-loop-i-preserved invariant-loop-i decreases-loop-i
 loop-again c =
-    let l = c.before.before.before.before in
-    let s = l.before.before in
     let h = c.loop-i-test.true in (
       omega arith,
-      all-next magnitude _ (take s.args.n s.args.demands.now) l.loop-i.i (omega (arith, length-take-le s.args.n s.args.demands.now s.requires))
-          (ap magnitude (get_or-take s.args.n s.args.demands.now l.loop-i.i _ h) ∙ sym c.is_magnitude.ensures ∙ c.if-not-is_magnitude.false)
-          ∙ l.loop-i.invariant.1,
+      all-next magnitude _ (take c.args.n c.args.demands.now) c.loop-i.i (omega (arith, length-take-le c.args.n c.args.demands.now c.requires))
+          (ap magnitude (get_or-take c.args.n c.args.demands.now c.loop-i.i _ h) ∙ sym c.is_magnitude.ensures ∙ c.if-not-is_magnitude.false)
+          ∙ c.loop-i.invariant.1,
     )
 
 returns-2 : tie.Need-returns invariant-loop-i decreases-loop-i
 returns-2 c =
-    let l = c.before in
-    let s = l.before.before in
-    sym (sym l.loop-i.invariant.1
-    ∙ all_end magnitude nan (take s.args.n s.args.demands.now) l.loop-i.i (omega (arith, length-take-le s.args.n s.args.demands.now s.requires, c.loop-i-test.false)))
+    sym (sym c.loop-i.invariant.1
+    ∙ all_end magnitude nan (take c.args.n c.args.demands.now) c.loop-i.i (omega (arith, length-take-le c.args.n c.args.demands.now c.requires, c.loop-i-test.false)))
 
 pub are_magnitudes_spec : {M : Type 1} → statement M
 are_magnitudes_spec =

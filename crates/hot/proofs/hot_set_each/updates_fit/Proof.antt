@@ -10,20 +10,15 @@ returns c = no_keys _ _ _ _ _ _ (told-no c.fits.ensures c.if-not-fits.true)
 
 returns-2 : tie.Need-returns-then-demands-n
 returns-2 c =
-    let e = c.before in
-    no-demands _ _ _ _ _ _ (told-yes e.fits.ensures e.if-not-fits.false) c.if-demands-n.true
+    no-demands _ _ _ _ _ _ (told-yes c.fits.ensures c.if-not-fits.false) c.if-demands-n.true
 
 returns-3 : tie.Need-returns-then-thresholds-n
 returns-3 c =
-    let d = c.before in
-    let e = d.before in
-    no-thresholds _ _ _ _ _ _ (told-yes e.fits.ensures e.if-not-fits.false) d.if-demands-n.false c.if-thresholds-n.true
+    no-thresholds _ _ _ _ _ _ (told-yes c.fits.ensures c.if-not-fits.false) c.if-demands-n.false c.if-thresholds-n.true
 
 returns-4 : tie.Need-returns
 returns-4 c =
-    let d = c.before in
-    let e = d.before in
-    by_flags _ _ _ _ _ _ (told-yes e.fits.ensures e.if-not-fits.false) d.if-demands-n.false c.if-thresholds-n.false
+    by_flags _ _ _ _ _ _ (told-yes c.fits.ensures c.if-not-fits.false) c.if-demands-n.false c.if-thresholds-n.false
 
 pub updates_fit_spec : {M : Type 1} → statement M
 updates_fit_spec = tie.close (tie.spec (λ c κs. search rules) returns returns-2 returns-3 returns-4)

@@ -12,29 +12,22 @@ use Rattle.image.proofs.judge.has_valid_limiter.Tie as tie
 -- each table is long enough for as many records as may be found
 read-table-requires : tie.Need-read_table-requires
 read-table-requires c κs =
-    let s = c.before.before in
-    (omega (arith, s.requires.1.keys, length-replicate {A = ℕ} 90112 0), omega (arith, s.requires.0.keys), refl)
+    (omega (arith, c.requires.1.keys, length-replicate {A = ℕ} 90112 0), omega (arith, c.requires.0.keys), refl)
 
 read-table-requires-2 : tie.Need-read_table-requires-2
 read-table-requires-2 c κs =
-    let s = c.before.before.before.before.before in
-    (omega (arith, s.requires.1.hot, length-replicate {A = ℕ} 384 0), omega (arith, s.requires.0.hot), refl)
+    (omega (arith, c.requires.1.hot, length-replicate {A = ℕ} 384 0), omega (arith, c.requires.0.hot), refl)
 
 read-table-requires-3 : tie.Need-read_table-requires-3
 read-table-requires-3 c κs =
-    let s = c.before.before.before.before.before.before.before.before in
-    (omega (arith, s.requires.1.shadows, length-replicate {A = ℕ} 16384 0), omega (arith, s.requires.0.shadows), refl)
+    (omega (arith, c.requires.1.shadows, length-replicate {A = ℕ} 16384 0), omega (arith, c.requires.0.shadows), refl)
 
 returns : tie.Need-returns
 returns c =
-    let third = c.before.before.before.before.before in
-    let second = third.before.before.before in
-    let first = second.before.before.before in
-    let s = first.before.before.before in
     ap (λ (n : ℕ). eqb n 0) c.ask.ensures
-    ∙ limiter-asked _ _ s.requires.0 s.requires.1 s.args.limiter s.requires.2 _
+    ∙ limiter-asked _ _ c.requires.0 c.requires.1 c.args.limiter c.requires.2 _
     (replicate 90112 0) (replicate 384 0) (replicate 16384 0)
-    first.read_table.ensures second.read_table-2.ensures third.read_table-3.ensures
+    c.read_table.ensures c.read_table-2.ensures c.read_table-3.ensures
     (length-replicate {A = ℕ} 90112 0) (length-replicate {A = ℕ} 384 0) (length-replicate {A = ℕ} 16384 0)
 
 pub has_valid_limiter_spec : {M : Type 1} → statement M

@@ -12,32 +12,24 @@ use Rattle.image.proofs.judge.has_valid_peers.Tie as tie
 -- each table is long enough for as many records as may be found
 read-table-requires : tie.Need-read_table-requires
 read-table-requires c κs =
-    let s = c.before.before in
-    (omega (arith, s.requires.1.peers, length-replicate {A = ℕ} 384 0), omega (arith, s.requires.0.peers), refl)
+    (omega (arith, c.requires.1.peers, length-replicate {A = ℕ} 384 0), omega (arith, c.requires.0.peers), refl)
 
 read-table-requires-2 : tie.Need-read_table-requires-2
 read-table-requires-2 c κs =
-    let s = c.before.before.before.before.before in
-    (omega (arith, s.requires.1.snapshot-keys, length-replicate {A = ℕ} 8192 0), omega (arith, s.requires.0.snapshot-keys), refl)
+    (omega (arith, c.requires.1.snapshot-keys, length-replicate {A = ℕ} 8192 0), omega (arith, c.requires.0.snapshot-keys), refl)
 
 read-table-requires-3 : tie.Need-read_table-requires-3
 read-table-requires-3 c κs =
-    let s = c.before.before.before.before.before.before.before.before in
-    (omega (arith, s.requires.1.contested, length-replicate {A = ℕ} 49152 0), omega (arith, s.requires.0.contested), refl)
+    (omega (arith, c.requires.1.contested, length-replicate {A = ℕ} 49152 0), omega (arith, c.requires.0.contested), refl)
 
 returns : tie.Need-returns
 returns c =
-    let of = c.before.before.before.before in
-    let third = of.before.before in
-    let second = third.before.before.before in
-    let first = second.before.before.before in
-    let s = first.before.before.before in
     ap (λ (n : ℕ). eqb n 0) c.ask.ensures
-    ∙ peers-asked _ _ s.requires.0 s.requires.1 _
+    ∙ peers-asked _ _ c.requires.0 c.requires.1 _
     (replicate 384 0) (replicate 8192 0) (replicate 49152 0)
-    first.read_table.ensures second.read_table-2.ensures third.read_table-3.ensures
+    c.read_table.ensures c.read_table-2.ensures c.read_table-3.ensures
     (length-replicate {A = ℕ} 384 0) (length-replicate {A = ℕ} 8192 0) (length-replicate {A = ℕ} 49152 0)
-    _ of.peers_of.ensures
+    _ c.peers_of.ensures
 
 pub has_valid_peers_spec : {M : Type 1} → statement M
 has_valid_peers_spec =

@@ -45,7 +45,7 @@ reads : (l : tie.After-limiter_of-limiter) → let s = begun (counted l) in Read
 reads l =
     let s = begun (counted l) in
     subst (λ (ws : List ℕ). Reads ws (found s) l.limiter_of-limiter.result)
-    (words-read (bytes s) (found s) s.pre (few (counted l)) (replicate 13 0) _ (length-replicate {A = ℕ} 13 0) l.read_table.ensures)
+    (words-read (bytes s) (found s) s.requires (few (counted l)) (replicate 13 0) _ (length-replicate {A = ℕ} 13 0) l.read_table.ensures)
     l.limiter_of-limiter.ensures
 
 -- the settings' words beside those that were read
@@ -58,7 +58,7 @@ same-is a =
     let s = begun (counted l) in
     a.are_same.ensures
     ∙ (λ i. same (a.settings_words-again.ensures i)
-    (words-read (bytes s) (found s) s.pre (few (counted l)) (replicate 13 0) _ (length-replicate {A = ℕ} 13 0) l.read_table.ensures i))
+    (words-read (bytes s) (found s) s.requires (few (counted l)) (replicate 13 0) _ (length-replicate {A = ℕ} 13 0) l.read_table.ensures i))
 
 returns : tie.Need-returns-then-not-are_few
 returns c = alone-no 13 _ (no-few _ _ c.requires (told-no c.are_few.ensures c.if-not-are_few.true))
@@ -68,64 +68,57 @@ count-in-requires c κs = few c
 
 returns-2 : tie.Need-returns-then-not-is_end
 returns-2 c =
-    let n = c.before in
-    alone-no 13 _ (no_end _ _ (begun n.before.before).requires (told-no (end_is n) c.if-not-is_end.true))
+    alone-no 13 _ (no_end _ _ (begun c.before.before.before).requires (told-no (end_is c.before) c.if-not-is_end.true))
 
 read-table-requires : tie.Need-read_table-requires
 read-table-requires c κs =
-    let e = c.before.before.before.before in
-    let r = (begun e).requires.settings in
-    (omega (arith, (few e).settings, length-replicate {A = ℕ} 13 0), omega (arith, r.ends, r.within), refl)
+    let r = (begun c.before.before.before.before).requires.settings in
+    (omega (arith, (few c.before.before.before.before).settings, length-replicate {A = ℕ} 13 0), omega (arith, r.ends, r.within), refl)
 
 returns-3 : tie.Need-returns-then-not-are_same
 returns-3 c =
     let l = made c.before in
     let e = counted l in
-    alone-no 13 _ (no_same _ _ (begun e).pre (few e) l.limiter_of-limiter.result (reads l) (told-no (same-is c.before) c.if-not-are_same.true))
+    alone-no 13 _ (no_same _ _ (begun e).requires (few e) l.limiter_of-limiter.result (reads l) (told-no (same-is c.before) c.if-not-are_same.true))
 
 has-valid-limiter-requires : tie.Need-has_valid_limiter-requires
 has-valid-limiter-requires c κs =
     let l = made c.before in
-    let e = counted l in ((begun e).pre, few e, (reads l).counts)
+    let e = counted l in ((begun e).requires, few e, (reads l).counts)
 
 returns-4 : tie.Need-returns-then-not-has_valid_limiter
 returns-4 c =
-    let t = c.before.before in
-    let l = made t.before in
+    let l = made c.before.before.before in
     let e = counted l in
-    alone-no 13 _ (no-limiter _ _ (begun e).pre (few e) l.limiter_of-limiter.result (reads l) (told-yes (same-is t.before) t.if-not-are_same.false)
+    alone-no 13 _ (no-limiter _ _ (begun e).requires (few e) l.limiter_of-limiter.result (reads l) (told-yes (same-is c.before.before.before) c.if-not-are_same.false)
     (told-no c.has_valid_limiter.ensures c.if-not-has_valid_limiter.true))
 
 has-valid-peers-requires : tie.Need-has_valid_peers-requires
 has-valid-peers-requires c κs =
     let l = made c.before.before.before in
-    let e = counted l in ((begun e).pre, few e)
+    let e = counted l in ((begun e).requires, few e)
 
 returns-5 : tie.Need-returns-then-not-has_valid_peers
 returns-5 c =
-    let t = c.before.before.before.before in
-    let l = made t.before in
+    let l = made c.before.before.before.before.before in
     let e = counted l in
-    alone-no 13 _ (no-peers _ _ (begun e).pre (few e) l.limiter_of-limiter.result (reads l) (told-yes (same-is t.before) t.if-not-are_same.false)
+    alone-no 13 _ (no-peers _ _ (begun e).requires (few e) l.limiter_of-limiter.result (reads l) (told-yes (same-is c.before.before.before.before.before) c.if-not-are_same.false)
     (told-no c.has_valid_peers.ensures c.if-not-has_valid_peers.true))
 
 returns-6 : tie.Need-returns
 returns-6 c =
-    let p = c.before in
-    let k = p.before.before in
-    let t = k.before.before in
-    let l = made t.before in
+    let l = made c.before.before.before.before.before.before in
     let e = counted l in
     let s = begun e in
-    let q = told-yes (same-is t.before) t.if-not-are_same.false in
+    let q = told-yes (same-is c.before.before.before.before.before.before) c.if-not-are_same.false in
     ap (λ (x : Loaded). given x)
     ((λ i. record { limiter = l.limiter_of-limiter.result; peers = c.peers_of-peers.ensures i })
-    ∙ values-read _ _ s.pre (few e) l.limiter_of-limiter.result (reads l) q)
+    ∙ values-read _ _ s.requires (few e) l.limiter_of-limiter.result (reads l) q)
     ∙ alone-yes 13 _
-    (is-image _ _ s.pre (few e) l.limiter_of-limiter.result (reads l) q (all-bytes (bytes s) (λ i. omega (arith, e.shared_slice_known-1.given i)))
+    (is-image _ _ s.requires (few e) l.limiter_of-limiter.result (reads l) q (all-bytes (bytes s) (λ i. omega (arith, e.shared_slice_known-1.given i)))
     (told-yes (end_is l.before.before.before.before.before) l.if-not-is_end.left)
-    (told-yes k.has_valid_limiter.ensures k.if-not-has_valid_limiter.false)
-    (told-yes p.has_valid_peers.ensures p.if-not-has_valid_peers.false))
+    (told-yes c.has_valid_limiter.ensures c.if-not-has_valid_limiter.false)
+    (told-yes c.has_valid_peers.ensures c.if-not-has_valid_peers.false))
 
 pub judge_spec : {M : Type 1} → statement M
 judge_spec =

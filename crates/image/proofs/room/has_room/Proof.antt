@@ -19,23 +19,14 @@ record-word-requires-2 c κs = omega (arith, begins-room 1 0 _ (told-yes c.begin
 
 returns-2 : tie.Need-returns-then-not-have_room
 returns-2 c =
-    let h = c.before in
-    let o = h.before in
-    let t = o.before in
-    let e = t.before in
-    room-short _ _ _ _ _ _ _ (told-yes e.begins.ensures e.if-not-begins.false) t.record_word-table_size.ensures o.record_word-hot_set_size.ensures
-    (told-no h.have_room.ensures c.if-not-have_room.true)
+    room-short _ _ _ _ _ _ _ (told-yes c.begins.ensures c.if-not-begins.false) c.record_word-table_size.ensures c.record_word-hot_set_size.ensures
+    (told-no c.have_room.ensures c.if-not-have_room.true)
 
 returns-3 : tie.Need-returns
 returns-3 c =
-    let y = c.before in
-    let h = y.before in
-    let o = h.before in
-    let t = o.before in
-    let e = t.before in
     c.peers_fit.ensures
-    ∙ room-peers _ _ _ _ _ _ _ (told-yes e.begins.ensures e.if-not-begins.false) t.record_word-table_size.ensures o.record_word-hot_set_size.ensures
-    (told-yes h.have_room.ensures y.if-not-have_room.false)
+    ∙ room-peers _ _ _ _ _ _ _ (told-yes c.begins.ensures c.if-not-begins.false) c.record_word-table_size.ensures c.record_word-hot_set_size.ensures
+    (told-yes c.have_room.ensures c.if-not-have_room.false)
 
 pub has_room_spec : {M : Type 1} → statement M
 has_room_spec =

@@ -23,16 +23,14 @@ returns-3 c = let s = (start c.before.before).args in none_first s.at s.from.now
 
 returns-4 : tie.Need-returns-then-from-at-ne71
 returns-4 c =
-    let e = c.before.before in
-    let s = (start e.before.before).args in
-    none-second s.at s.from.now e.if-from-at-ne82.false c.if-from-at-ne71.true
+    let s = (start c.before.before.before.before).args in
+    none-second s.at s.from.now c.if-from-at-ne82.false c.if-from-at-ne71.true
 
 returns-5 : tie.Need-returns
 returns-5 c =
-    let f = c.before.before in
-    let e = first f in
+    let e = first c.before.before in
     let s = (start e.before.before).args in
-    c.record_of.ensures ∙ by_kind s.at s.from.now e.if-from-at-ne82.left f.if-from-at-ne71.false
+    c.record_of.ensures ∙ by_kind s.at s.from.now e.if-from-at-ne82.left c.if-from-at-ne71.false
 
 pub record_at_spec : {M : Type 1} → statement M
 record_at_spec =

@@ -24,19 +24,17 @@ few c = omega (arith, count-few (start c).args.kind, (kind-count (start c).args.
 returns : tie.Need-returns-then-len-at
 returns c =
     let s = start c.before in
-    short-record s.args.kind s.args.at s.args.len _ (kind-count s.args.kind _ (answered c.before)).1 (omega (arith, c.if-len-at.true, s.pre))
+    short-record s.args.kind s.args.at s.args.len _ (kind-count s.args.kind _ (answered c.before)).1 (omega (arith, c.if-len-at.true, s.requires))
 
 returns-2 : tie.Need-returns-in-NoKind
 returns-2 c =
-    let w = c.before in
-    let s = w.before in
-    no-record-of s.args.kind s.args.at s.args.len (no_kind s.args.kind (sym (ap words_told c.in-NoKind.is) ∙ w.word_count.ensures))
+    no-record-of c.args.kind c.args.at c.args.len (no_kind c.args.kind (sym (ap words_told c.in-NoKind.is) ∙ c.word_count.ensures))
 
 returns-3 : tie.Need-returns-else-len-at
 returns-3 c =
     let s = start c.before in
     let k = kind-count s.args.kind _ (answered c.before) in
-    whole-record s.args.kind s.args.at s.args.len _ k.0 k.1 (omega (arith, c.if-len-at.false, s.pre))
+    whole-record s.args.kind s.args.at s.args.len _ k.0 k.1 (omega (arith, c.if-len-at.false, s.requires))
 
 pub record_of_spec : {M : Type 1} → statement M
 record_of_spec =

@@ -9,15 +9,11 @@ use Rattle.image.proofs.rows.words_of.Tie as tie
 
 returns : tie.Need-returns-in-NoKind
 returns c =
-    let w = c.before in
-    let s = w.before in
-    contradiction (sym s.requires ∙ no_kind s.args.kind (sym (ap words_told c.in-NoKind.is) ∙ w.word_count.ensures))
+    contradiction (sym c.requires ∙ no_kind c.args.kind (sym (ap words_told c.in-NoKind.is) ∙ c.word_count.ensures))
 
 returns-2 : tie.Need-returns-in-Is
 returns-2 c =
-    let n = c in
-    let w = n.before in
-    (kind-count w.args.kind _ (sym (ap words_told n.in-Is.is) ∙ w.word_count.ensures)).1
+    (kind-count c.args.kind _ (sym (ap words_told c.in-Is.is) ∙ c.word_count.ensures)).1
 
 pub words_of_spec : {M : Type 1} → statement M
 words_of_spec = tie.close (tie.spec (λ c κs. search rules) (λ c. search rules) (λ c. search rules) returns returns-2)

@@ -15,15 +15,11 @@ stored k = stored_cap (cap_of k)
 
 returns : tie.Need-returns-then-x
 returns c =
-    let k = c.before in
-    let s = k in
-    cap-kept s.in-At.x k.known_told-1.given.0.1 c.if-x.true ∙ ap stored (sym s.in-At.is)
+    cap-kept c.in-At.x c.known_told-1.given.0.1 c.if-x.true ∙ ap stored (sym c.in-At.is)
 
 returns-3 : tie.Need-returns-else-x
 returns-3 c =
-    let k = c.before in
-    let s = k in
-    cap-dropped s.in-At.x k.known_told-1.given.0.1 c.if-x.false ∙ ap stored (sym s.in-At.is)
+    cap-dropped c.in-At.x c.known_told-1.given.0.1 c.if-x.false ∙ ap stored (sym c.in-At.is)
 
 pub stored_spec : {M : Type 1} → statement M
 stored_spec = tie.close (tie.spec (λ c. search rules) (λ c. search rules) returns (λ c. search rules) returns-3)

@@ -10,46 +10,32 @@ returns c = first-no 1 _ (told-no c.has_room.ensures c.if-not-has_room.true)
 
 returns-2 : tie.Need-returns-then-not-is_rate
 returns-2 c =
-    let e = c.before.before in
-    first-yes 1 _ (told-yes e.has_room.ensures e.if-not-has_room.false) (first-no 3 _ (told-no c.is_rate.ensures c.if-not-is_rate.true))
+    first-yes 1 _ (told-yes c.has_room.ensures c.if-not-has_room.false) (first-no 3 _ (told-no c.is_rate.ensures c.if-not-is_rate.true))
 
 returns-3 : tie.Need-returns-then-not-burst_fits
 returns-3 c =
-    let f = c.before.before in
-    let e = f.before.before in
-    first-yes 1 _ (told-yes e.has_room.ensures e.if-not-has_room.false)
-    (first-yes 3 _ (told-yes f.is_rate.ensures f.if-not-is_rate.false) (first-no 4 _ (told-no c.burst_fits.ensures c.if-not-burst_fits.true)))
+    first-yes 1 _ (told-yes c.has_room.ensures c.if-not-has_room.false)
+    (first-yes 3 _ (told-yes c.is_rate.ensures c.if-not-is_rate.false) (first-no 4 _ (told-no c.burst_fits.ensures c.if-not-burst_fits.true)))
 
 returns-4 : tie.Need-returns-then-not-has_factors
 returns-4 c =
-    let g = c.before.before in
-    let f = g.before.before in
-    let e = f.before.before in
-    first-yes 1 _ (told-yes e.has_room.ensures e.if-not-has_room.false)
-    (first-yes 3 _ (told-yes f.is_rate.ensures f.if-not-is_rate.false)
-    (first-yes 4 _ (told-yes g.burst_fits.ensures g.if-not-burst_fits.false) (first-no 5 _ (told-no c.has_factors.ensures c.if-not-has_factors.true))))
+    first-yes 1 _ (told-yes c.has_room.ensures c.if-not-has_room.false)
+    (first-yes 3 _ (told-yes c.is_rate.ensures c.if-not-is_rate.false)
+    (first-yes 4 _ (told-yes c.burst_fits.ensures c.if-not-burst_fits.false) (first-no 5 _ (told-no c.has_factors.ensures c.if-not-has_factors.true))))
 
 returns-5 : tie.Need-returns-then-not-has_sizes
 returns-5 c =
-    let h = c.before.before in
-    let g = h.before.before in
-    let f = g.before.before in
-    let e = f.before.before in
-    first-yes 1 _ (told-yes e.has_room.ensures e.if-not-has_room.false)
-    (first-yes 3 _ (told-yes f.is_rate.ensures f.if-not-is_rate.false)
-    (first-yes 4 _ (told-yes g.burst_fits.ensures g.if-not-burst_fits.false)
-    (first-yes 5 _ (told-yes h.has_factors.ensures h.if-not-has_factors.false) (first-no 6 _ (told-no c.has_sizes.ensures c.if-not-has_sizes.true)))))
+    first-yes 1 _ (told-yes c.has_room.ensures c.if-not-has_room.false)
+    (first-yes 3 _ (told-yes c.is_rate.ensures c.if-not-is_rate.false)
+    (first-yes 4 _ (told-yes c.burst_fits.ensures c.if-not-burst_fits.false)
+    (first-yes 5 _ (told-yes c.has_factors.ensures c.if-not-has_factors.false) (first-no 6 _ (told-no c.has_sizes.ensures c.if-not-has_sizes.true)))))
 
 returns-6 : tie.Need-returns
 returns-6 c =
-    let h = c.before.before in
-    let g = h.before.before in
-    let f = g.before.before in
-    let e = f.before.before in
-    first-yes 1 _ (told-yes e.has_room.ensures e.if-not-has_room.false)
-    (first-yes 3 _ (told-yes f.is_rate.ensures f.if-not-is_rate.false)
-    (first-yes 4 _ (told-yes g.burst_fits.ensures g.if-not-burst_fits.false)
-    (first-yes 5 _ (told-yes h.has_factors.ensures h.if-not-has_factors.false)
+    first-yes 1 _ (told-yes c.has_room.ensures c.if-not-has_room.false)
+    (first-yes 3 _ (told-yes c.is_rate.ensures c.if-not-is_rate.false)
+    (first-yes 4 _ (told-yes c.burst_fits.ensures c.if-not-burst_fits.false)
+    (first-yes 5 _ (told-yes c.has_factors.ensures c.if-not-has_factors.false)
     (first-yes 6 _ (told-yes c.has_sizes.ensures c.if-not-has_sizes.false) first-none))))
 
 pub ask_spec : {M : Type 1} → statement M

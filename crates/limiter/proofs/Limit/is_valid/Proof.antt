@@ -9,8 +9,7 @@ use Rattle.limiter.proofs.Limit.is_valid.Tie as tie
 
 returns : tie.Need-returns
 returns c =
-    let s = c.before.before.before in
-    c.is_limit.ensures ∙ ap (λ (w : ℕ). is_limit w s.args.self.burst) c.to_bits.ensures ∙ limit_is s.args.self s.well_formed.0.1.1.0.1
+    c.is_limit.ensures ∙ ap (λ (w : ℕ). is_limit w c.args.self.burst) c.to_bits.ensures ∙ limit_is c.args.self c.well_formed.0.1.1.0.1
 
 pub is_valid_spec : {M : Type 1} → statement M
 is_valid_spec = tie.close (tie.spec (λ c κs. search rules) (λ c. search rules) (λ c κs. search rules) returns)

@@ -13,13 +13,11 @@ is-valid-requires c κs = told-yes c.has_room.ensures c.if-not-has_room.false
 
 returns-2 : tie.Need-returns-then-not-is_valid
 returns-2 c =
-    let e = c.before.before in
-    first-yes 1 _ (told-yes e.has_room.ensures e.if-not-has_room.false) (first-no 2 _ (told-no c.is_valid.ensures c.if-not-is_valid.true))
+    first-yes 1 _ (told-yes c.has_room.ensures c.if-not-has_room.false) (first-no 2 _ (told-no c.is_valid.ensures c.if-not-is_valid.true))
 
 returns-3 : tie.Need-returns
 returns-3 c =
-    let e = c.before.before in
-    first-yes 1 _ (told-yes e.has_room.ensures e.if-not-has_room.false)
+    first-yes 1 _ (told-yes c.has_room.ensures c.if-not-has_room.false)
     (first-yes 2 _ (told-yes c.is_valid.ensures c.if-not-is_valid.false) first-none)
 
 pub ask_spec : {M : Type 1} → statement M

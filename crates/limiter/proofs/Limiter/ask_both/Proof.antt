@@ -7,40 +7,27 @@ use Rattle.limiter.proofs.Limiter.ask_both.Statement.{statement}
 use Rattle.limiter.proofs.Limiter.ask_both.Tie as tie
 
 returns : tie.Need-returns-then-here-eq1
-returns c = let b = c.before in let a = b.before in one-here _ _ _ _ _ a.ask-here.result a.ask-here.ensures c.if-here-eq1.true
+returns c = let b = c in let a = b in one-here _ _ _ _ _ a.ask-here.result a.ask-here.ensures c.if-here-eq1.true
 
 returns-2 : tie.Need-returns-then-there-eq1
 returns-2 c =
-    let b = c.before.before in
-    let s = b.args in
+    let s = c.args in
     let t = tables s.keys.now s.hot.now s.shadows.now in
-    one-there (have_room s.self.config (lengths t)) (is_valid (units_in s.self) s.self t) _ _ (cluster_questions s.cluster_size) b.ask-there.result
-    b.ask-there.ensures c.if-there-eq1.true
+    one-there (have_room s.self.config (lengths t)) (is_valid (units_in s.self) s.self t) _ _ (cluster_questions s.cluster_size) c.ask-there.result
+    c.ask-there.ensures c.if-there-eq1.true
 
 returns-3 : tie.Need-returns-then-here-ne0
 returns-3 c =
-    let e = c.before in
-    let d = e.before in
-    let b = d.before in
-    let a = b.before in
-    two_here _ _ _ _ _ a.ask-here.result b.ask-there.result a.ask-here.ensures b.ask-there.ensures d.if-here-eq1.false e.if-there-eq1.false c.if-here-ne0.true
+    two_here _ _ _ _ _ c.ask-here.result c.ask-there.result c.ask-here.ensures c.ask-there.ensures c.if-here-eq1.false c.if-there-eq1.false c.if-here-ne0.true
 
 returns-4 : tie.Need-returns-then-there-ne0
 returns-4 c =
-    let f = c.before in
-    let e = f.before in
-    let b = e.before.before in
-    let a = b.before in
-    two-there _ _ _ _ _ a.ask-here.result b.ask-there.result a.ask-here.ensures b.ask-there.ensures f.if-here-ne0.false e.if-there-eq1.false c.if-there-ne0.true
+    two-there _ _ _ _ _ c.ask-here.result c.ask-there.result c.ask-here.ensures c.ask-there.ensures c.if-here-ne0.false c.if-there-eq1.false c.if-there-ne0.true
 
 returns-5 : tie.Need-returns
 returns-5 c =
-    let g = c.before in
-    let f = g.before in
-    let b = f.before.before.before in
-    let a = b.before in
-    both-pass _ _ _ _ _ a.ask-here.result b.ask-there.result c.ask_cluster.result a.ask-here.ensures b.ask-there.ensures f.if-here-ne0.false
-    g.if-there-ne0.false c.ask_cluster.ensures
+    both-pass _ _ _ _ _ c.ask-here.result c.ask-there.result c.ask_cluster.result c.ask-here.ensures c.ask-there.ensures c.if-here-ne0.false
+    c.if-there-ne0.false c.ask_cluster.ensures
 
 pub ask_both_spec : {M : Type 1} → statement M
 ask_both_spec =

@@ -20,16 +20,12 @@ others s = cluster_questions s.args.cluster_size
 
 returns : tie.Need-returns-then-no-ne0
 returns c =
-    let o = c.before in
-    let s = o.before.before.before.before in
-    first_more (before s) (others s) _ o.ask-no.ensures c.if-no-ne0.true
+    first_more (before c.before.before.before.before.before) (others c.before.before.before.before.before) _ c.ask-no.ensures c.if-no-ne0.true
 
 returns-2 : tie.Need-returns
 returns-2 c =
-    let o = c.before.before in
-    let s = o.before.before.before.before in
     c.ask_cluster.ensures
-    ∙ first_rest (before s) (others s) (passed_none (before s) _ (lit< tt, (lit< tt, tt)) o.ask-no.ensures c.if-no-ne0.false)
+    ∙ first_rest (before c.before.before.before.before.before.before) (others c.before.before.before.before.before.before) (passed_none (before c.before.before.before.before.before.before) _ (lit< tt, (lit< tt, tt)) c.ask-no.ensures c.if-no-ne0.false)
 
 pub ask_cluster_spec : {M : Type 1} → statement M
 ask_cluster_spec = tie.close (tie.spec (λ c κs. search rules) returns (λ c κs. search rules) returns-2)

@@ -50,9 +50,8 @@ returns c = first-no 1 _ (told-no c.fits-2.ensures c.if-not-fits.true)
 
 returns-2 : tie.Need-returns-then-no-ne0
 returns-2 c =
-    let e = c.before.before in
-    let s = start e in
-    first-yes 1 _ (long e) (first_more (before s) (last s) _ c.ask_cluster-no.ensures c.if-no-ne0.true)
+    let s = start c.before.before in
+    first-yes 1 _ (long c.before.before) (first_more (before s) (last s) _ c.ask_cluster-no.ensures c.if-no-ne0.true)
 
 returns-3 : tie.Need-returns-then-not-fits-2
 returns-3 c = rest c.before.before (first-no 16 _ (sym (each-room _ _) ∙ told-no c.fits3.ensures c.if-not-fits-2.true))

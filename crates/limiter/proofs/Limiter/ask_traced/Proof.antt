@@ -30,23 +30,18 @@ rest e shadow = let s = start e in
 
 returns : tie.Need-returns-then-no-ne0
 returns c =
-    let s = c.before.before.before.before.before in
-    first_more (before s) (others s (shadow_limit s.args.shadow)) _ c.ask-no.ensures c.if-no-ne0.true
+    first_more (before c.before.before.before.before.before) (others c.before.before.before.before.before (shadow_limit c.args.shadow)) _ c.ask-no.ensures c.if-no-ne0.true
 
 returns-2 : tie.Need-returns-in-Unset
 returns-2 c =
-    let t = c.before in
-    let e = t.before in
-    let s = start e in
-    c.ask_limit.ensures ∙ rest e none ∙ sym (ap (λ (x : Option Limit). first_no (before s ++ others s x)) (ap shadow_limit t.in-Unset.is))
+    let s = start c.before.before in
+    c.ask_limit.ensures ∙ rest c.before.before none ∙ sym (ap (λ (x : Option Limit). first_no (before s ++ others s x)) (ap shadow_limit c.in-Unset.is))
 
 returns-3 : tie.Need-returns-in-Of
 returns-3 c =
-    let t = c.before in
-    let e = t.before in
-    let s = start e in
-    c.ask_limits.ensures ∙ rest e (some t.in-Of.tried)
-    ∙ sym (ap (λ (x : Option Limit). first_no (before s ++ others s x)) (ap shadow_limit t.in-Of.is))
+    let s = start c.before.before in
+    c.ask_limits.ensures ∙ rest c.before.before (some c.in-Of.tried)
+    ∙ sym (ap (λ (x : Option Limit). first_no (before s ++ others s x)) (ap shadow_limit c.in-Of.is))
 
 pub ask_traced_spec : {M : Type 1} → statement M
 ask_traced_spec =

@@ -19,36 +19,32 @@ abbrev others : tie.Start → List Question
 others s = cluster_questions s.args.cluster_size
 
 abbrev start : tie.Else-no-ne0 → tie.Start
-start e = e.before.before.before.before.before.before
+start e = e.before.before.before.before.before
 
 asked : (e : tie.Else-no-ne0) → let s = start e in Passed s.args.self (lent s) (others s)
 asked e = let s = start e in passed s.args.self (lent s) (others s) _ (lit< tt, tt) e.ask_cluster-no.ensures e.if-no-ne0.false
 
 returns : tie.Need-returns-then-no-ne0
 returns c =
-    let s = c.before.before.before.before.before.before in
-    let x = here s.args.self (lent s) in
-    refused-before (key_decision (units_in s.args.self) x s.args.key (own_limit x) s.args.reading s.args.cluster_size) s.args.self (lent s)
-    (state_questions s.args.self (lent s) ++ others s)
-    (check_key_questions (units_in s.args.self) x s.args.key s.args.reading s.args.cluster_size)
-    (check_in (units_in s.args.self) x s.args.key (own_limit x) s.args.reading s.args.cluster_size) _ c.ask_cluster-no.ensures c.if-no-ne0.true
+    let x = here c.args.self (lent c.before.before.before.before.before) in
+    refused-before (key_decision (units_in c.args.self) x c.args.key (own_limit x) c.args.reading c.args.cluster_size) c.args.self (lent c.before.before.before.before.before)
+    (state_questions c.args.self (lent c.before.before.before.before.before) ++ others c.before.before.before.before.before)
+    (check_key_questions (units_in c.args.self) x c.args.key c.args.reading c.args.cluster_size)
+    (check_in (units_in c.args.self) x c.args.key (own_limit x) c.args.reading c.args.cluster_size) _ c.ask_cluster-no.ensures c.if-no-ne0.true
 
 check-key-requires : tie.Need-check_key-requires
 unfolding state_of
 check-key-requires c κs =
-    let e = c.before.before.before in
-    let s = start e in
-    let p = asked e in
+    let s = start c.before.before.before in
+    let p = asked c.before.before.before in
     (ready s.args.self (lent s) p.room p.ok, own-burst s.args.self (lent s) p.room p.ok)
 
 returns-2 : tie.Need-returns
 unfolding state_of
 returns-2 c =
-    let k = c.before.before in
-    let e = k.before.before.before.before in
-    let s = start e in
-    checks-lifted s.args.self (lent s) (others s) (asked e) s.args.key s.args.self.config.limit s.args.reading
-    s.args.cluster_size _ k.check_key.result k.check_key.ensures
+    let s = start c.before.before.before.before.before.before in
+    checks-lifted s.args.self (lent s) (others s) (asked c.before.before.before.before.before.before) s.args.key s.args.self.config.limit s.args.reading
+    s.args.cluster_size _ c.check_key.result c.check_key.ensures
 
 pub check_spec : {M : Type 1} → statement M
 check_spec = tie.close (tie.spec (λ c κs. search rules) (λ c. search rules) returns check-key-requires (λ c. search rules) returns-2)

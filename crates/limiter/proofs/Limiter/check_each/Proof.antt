@@ -10,7 +10,7 @@ abbrev lent : tie.Start → LimiterTables
 lent s = tables s.args.keys.now s.args.hot.now s.args.shadows.now
 
 abbrev start : tie.Else-no-ne0 → tie.Start
-start e = e.before.before.before.before.before.before.before.before.before
+start e = e.before.before.before.before.before.before.before
 
 asked : (e : tie.Else-no-ne0)
     → let s = start e in Asked s.args.self (lent s) s.args.list.now s.args.count s.args.cluster_size s.args.out.now
@@ -21,8 +21,7 @@ asked e =
 
 returns : tie.Need-returns-then-no-ne0
 returns c =
-    let s = c.before.before.before.before.before.before.before.before.before in
-    each-refused s.args.self (lent s) s.args.list.now s.args.count s.args.cluster_size s.args.out.now _
+    each-refused c.args.self (lent c.before.before.before.before.before.before.before) c.args.list.now c.args.count c.args.cluster_size c.args.out.now _
     c.ask_each-no.ensures c.if-no-ne0.true
 
 check-pairs-requires : tie.Need-check_pairs-requires
@@ -30,11 +29,9 @@ check-pairs-requires c κs = (asked c.before.before).ready
 
 returns-2 : tie.Need-returns
 returns-2 c =
-    let k = c.before.before.before.before in
-    let e = k.before.before.before in
-    let s = start e in
-    each_lifted s.args.self (lent s) s.args.list.now s.args.count s.args.cluster_size s.args.out.now (asked e)
-    k.check_pairs.result _ _ k.check_pairs.ensures
+    let s = start c.before.before.before.before.before.before.before in
+    each_lifted s.args.self (lent s) s.args.list.now s.args.count s.args.cluster_size s.args.out.now (asked c.before.before.before.before.before.before.before)
+    c.check_pairs.result _ _ c.check_pairs.ensures
 
 pub check_each_spec : {M : Type 1} → statement M
 check_each_spec =

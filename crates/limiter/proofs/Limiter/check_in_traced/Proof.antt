@@ -19,7 +19,7 @@ abbrev lent : tie.Start → LimiterTables
 lent s = tables s.args.keys.now s.args.hot.now s.args.shadows.now
 
 abbrev start : tie.Else-no-ne0 → tie.Start
-start e = e.before.before.before.before.before.before.before
+start e = e.before.before.before.before.before
 
 -- the questions before those of the key are passed
 abbrev PassedWith : tie.Start → Option Limit → Type 0
@@ -33,27 +33,22 @@ asked e =
 
 returns : tie.Need-returns-then-no-ne0
 returns c =
-    let s = c.before.before.before.before.before.before.before in
-    traced-refused s.args.self (lent s) s.args.key s.args.limit s.args.reading s.args.cluster_size
-    (shadow_limit s.args.shadow) _ c.ask_traced-no.ensures c.if-no-ne0.true
+    traced-refused c.args.self (lent c.before.before.before.before.before) c.args.key c.args.limit c.args.reading c.args.cluster_size
+    (shadow_limit c.args.shadow) _ c.ask_traced-no.ensures c.if-no-ne0.true
 
 trace-none-requires : tie.Need-trace_none-requires
 trace-none-requires c κs =
-    let m = c.before.before in
-    let e = m.before in
-    let s = start e in
-    let p = subst (PassedWith s) (ap shadow_limit m.in-Unset.is) (asked e) in (
+    let s = start c.before.before.before in
+    let p = subst (PassedWith s) (ap shadow_limit c.in-Unset.is) (asked c.before.before.before) in (
       ready s.args.self (lent s) p.room p.ok,
       (shadows-ready s.args.self (lent s) p.room p.ok, burst-passed s.args.limit s.args.cluster_size p.rest),
     )
 
 trace-with-requires : tie.Need-trace_with-requires
 trace-with-requires c κs =
-    let m = c.before.before in
-    let e = m.before in
-    let s = start e in
-    let tried = m.in-Of.tried in
-    let p : PassedWith s (some tried) = subst (PassedWith s) (ap shadow_limit m.in-Of.is) (asked e) in
+    let s = start c.before.before.before in
+    let tried = c.in-Of.tried in
+    let p : PassedWith s (some tried) = subst (PassedWith s) (ap shadow_limit c.in-Of.is) (asked c.before.before.before) in
     let g : Given s.args.key s.args.limit s.args.reading =
     record {
       key_word = word_of s.fits.key.fits;
@@ -73,21 +68,15 @@ trace-with-requires c κs =
 
 returns-2 : tie.Need-returns-in-Unset
 returns-2 c =
-    let o = c.before.before.before.before in
-    let m = o.before.before.before in
-    let e = m.before in
-    let s = start e in
+    let s = start c.before.before.before.before.before.before.before.before in
     traced-done s.args.self (lent s) s.args.key s.args.limit s.args.reading s.args.cluster_size (shadow_limit s.args.shadow) _
-    (ap shadow_limit m.in-Unset.is) (asked e) o.trace_none.result _ _ o.trace_none.ensures
+    (ap shadow_limit c.in-Unset.is) (asked c.before.before.before.before.before.before.before.before) c.trace_none.result _ _ c.trace_none.ensures
 
 returns-3 : tie.Need-returns-in-Of
 returns-3 c =
-    let o = c.before.before.before.before in
-    let m = o.before.before.before in
-    let e = m.before in
-    let s = start e in
+    let s = start c.before.before.before.before.before.before.before.before in
     traced-done s.args.self (lent s) s.args.key s.args.limit s.args.reading s.args.cluster_size (shadow_limit s.args.shadow) _
-    (ap shadow_limit m.in-Of.is) (asked e) o.trace_with.result _ _ o.trace_with.ensures
+    (ap shadow_limit c.in-Of.is) (asked c.before.before.before.before.before.before.before.before) c.trace_with.result _ _ c.trace_with.ensures
 
 pub check_in_traced_spec : {M : Type 1} → statement M
 check_in_traced_spec =

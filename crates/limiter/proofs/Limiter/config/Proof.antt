@@ -25,7 +25,7 @@ returns : tie.Need-returns-then-no-ne0
 returns c = let s = start c.before in answer-no _ (state_questions s.args.self (lent s)) _ c.ask-no.ensures c.if-no-ne0.true
 
 returns-2 : tie.Need-returns
-returns-2 c = let e = c.before in let s = start e.before in tells s.args.self (lent s) (asked e) _ _ refl
+returns-2 c = let e = c in let s = start e.before.before in tells s.args.self (lent s) (asked e.before) _ _ refl
 
 pub config_spec : {M : Type 1} → statement M
 config_spec = tie.close (tie.spec (λ c κs. search rules) returns returns-2)

@@ -30,34 +30,23 @@ start e = e.before.before.before.before
 
 returns : tie.Need-returns-then-not-is_valid
 returns c =
-    let s = c.before.before.before.before in
-    stop _ _ (told-no c.is_valid.ensures c.if-not-is_valid.true) ∙ settings-are s.args.self (widths s)
+    stop _ _ (told-no c.is_valid.ensures c.if-not-is_valid.true) ∙ settings-are c.args.self (widths c.before.before.before.before)
 
 returns-2 : tie.Need-returns-then-not-is_alpha
 returns-2 c =
-    let e = c.before.before in
-    goes _ _ false (told-yes e.is_valid.ensures e.if-not-is_valid.false) (stop _ _ (told-no c.is_alpha.ensures c.if-not-is_alpha.true)) ∙ settings-are (start e).args.self (widths (start e))
+    goes _ _ false (told-yes c.is_valid.ensures c.if-not-is_valid.false) (stop _ _ (told-no c.is_alpha.ensures c.if-not-is_alpha.true)) ∙ settings-are (start c.before.before).args.self (widths (start c.before.before))
 
 returns-3 : tie.Need-returns-then-not-is_floor_factor
 returns-3 c =
-    let f = c.before.before in
-    let e = f.before.before in
-    goes _ _ false (told-yes e.is_valid.ensures e.if-not-is_valid.false) (goes _ _ false (told-yes f.is_alpha.ensures f.if-not-is_alpha.false) (stop _ _ (told-no c.is_floor_factor.ensures c.if-not-is_floor_factor.true))) ∙ settings-are (start e).args.self (widths (start e))
+    goes _ _ false (told-yes c.is_valid.ensures c.if-not-is_valid.false) (goes _ _ false (told-yes c.is_alpha.ensures c.if-not-is_alpha.false) (stop _ _ (told-no c.is_floor_factor.ensures c.if-not-is_floor_factor.true))) ∙ settings-are (start c.before.before.before.before).args.self (widths (start c.before.before.before.before))
 
 returns-4 : tie.Need-returns-then-not-has_sizes
 returns-4 c =
-    let g = c.before.before in
-    let f = g.before.before in
-    let e = f.before.before in
-    goes _ _ false (told-yes e.is_valid.ensures e.if-not-is_valid.false) (goes _ _ false (told-yes f.is_alpha.ensures f.if-not-is_alpha.false) (goes _ _ false (told-yes g.is_floor_factor.ensures g.if-not-is_floor_factor.false) (stop _ _ (told-no c.has_sizes.ensures c.if-not-has_sizes.true)))) ∙ settings-are (start e).args.self (widths (start e))
+    goes _ _ false (told-yes c.is_valid.ensures c.if-not-is_valid.false) (goes _ _ false (told-yes c.is_alpha.ensures c.if-not-is_alpha.false) (goes _ _ false (told-yes c.is_floor_factor.ensures c.if-not-is_floor_factor.false) (stop _ _ (told-no c.has_sizes.ensures c.if-not-has_sizes.true)))) ∙ settings-are (start c.before.before.before.before.before.before).args.self (widths (start c.before.before.before.before.before.before))
 
 returns-5 : tie.Need-returns
 returns-5 c =
-    let h = c.before in
-    let g = h.before.before in
-    let f = g.before.before in
-    let e = f.before.before in
-    goes _ _ _ (told-yes e.is_valid.ensures e.if-not-is_valid.false) (goes _ _ _ (told-yes f.is_alpha.ensures f.if-not-is_alpha.false) (goes _ _ _ (told-yes g.is_floor_factor.ensures g.if-not-is_floor_factor.false) (goes _ _ _ (told-yes h.has_sizes.ensures h.if-not-has_sizes.false) c.is_valid-2.ensures))) ∙ settings-are (start e).args.self (widths (start e))
+    goes _ _ _ (told-yes c.is_valid.ensures c.if-not-is_valid.false) (goes _ _ _ (told-yes c.is_alpha.ensures c.if-not-is_alpha.false) (goes _ _ _ (told-yes c.is_floor_factor.ensures c.if-not-is_floor_factor.false) (goes _ _ _ (told-yes c.has_sizes.ensures c.if-not-has_sizes.false) c.is_valid-2.ensures))) ∙ settings-are (start c.before.before.before.before.before.before.before).args.self (widths (start c.before.before.before.before.before.before.before))
 
 pub has_valid_settings_spec : {M : Type 1} → statement M
 has_valid_settings_spec =

@@ -27,9 +27,8 @@ returns c = let s = start c.before in answer-no _ (state_questions s.args.self (
 returns-2 : tie.Need-returns
 unfolding state_of
 returns-2 c =
-    let e = c.before.before in
-    let s = start e.before in
-    c.hot_since.ensures ∙ tells_hot s.args.self (lent s) (asked e) _
+    let s = start c.before.before.before in
+    c.hot_since.ensures ∙ tells_hot s.args.self (lent s) (asked c.before.before) _
 
 pub hot_since_spec : {M : Type 1} → statement M
 hot_since_spec = tie.close (tie.spec (λ c κs. search rules) returns (λ c κs. search rules) returns-2)

@@ -29,7 +29,7 @@ is-hot-requires c κs = let s = start c.before in let p = asked c in lent-hot s.
 
 returns-2 : tie.Need-returns
 unfolding state_of
-returns-2 c = let e = c.before in let s = start e.before in tells s.args.self (lent s) (asked e) _ _ c.is_hot.ensures
+returns-2 c = let e = c in let s = start e.before.before in tells s.args.self (lent s) (asked e.before) _ _ c.is_hot.ensures
 
 pub is_hot_spec : {M : Type 1} → statement M
 is_hot_spec = tie.close (tie.spec (λ c κs. search rules) returns is-hot-requires returns-2)

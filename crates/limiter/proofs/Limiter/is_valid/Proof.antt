@@ -17,13 +17,12 @@ use Rattle.limiter.proofs.States.StateValidLaws.{units-of-accepted}
 abbrev words : tie.Start → LimiterTables
 words s = tables s.args.keys.now s.args.hot.now s.args.shadows.now
 
-scanned : (c : tie.After-shared_slice_known-3-1) → let s = c.before.before.before in is_scanned (units_in s.args.self) s.args.self (words s) ≡ is_valid (units_in s.args.self) s.args.self (words s)
+scanned : (c : tie.After-shared_slice_known-3-1) → let s = c in is_scanned (units_in s.args.self) s.args.self (words s.before.before.before) ≡ is_valid (units_in s.args.self) s.args.self (words s.before.before.before)
 scanned c =
-    let s = c.before.before.before in
-    scanned-is-valid (units_in s.args.self) (units-of-accepted (settings_of s.args.self)) s.args.self (words s) s.requires
-    (all_words s.args.keys.now (λ i. omega (arith, c.shared_slice_known-1.given i)))
-    (all_words s.args.hot.now (λ i. omega (arith, c.shared_slice_known-2-1.given i)))
-    (all_words s.args.shadows.now (λ i. omega (arith, c.shared_slice_known-3-1.given i)))
+    scanned-is-valid (units_in c.args.self) (units-of-accepted (settings_of c.args.self)) c.args.self (words c.before.before.before) c.requires
+    (all_words c.args.keys.now (λ i. omega (arith, c.shared_slice_known-1.given i)))
+    (all_words c.args.hot.now (λ i. omega (arith, c.shared_slice_known-2-1.given i)))
+    (all_words c.args.shadows.now (λ i. omega (arith, c.shared_slice_known-3-1.given i)))
 
 abbrev start : tie.Else-not-has_valid_settings → tie.Start
 start e = e.before.before.before.before.before
@@ -45,8 +44,7 @@ are-keys-requires c κs = (roomy c.before).keys
 returns-2 : tie.Need-returns-then-not-are_keys
 unfolding is_scanned units_for
 returns-2 c =
-    let e = c.before.before.before in
-    goes _ _ false (sized e) (stop _ _ (told-no c.are_keys.ensures c.if-not-are_keys.true)) ∙ scanned e.before.before
+    goes _ _ false (sized c.before.before.before) (stop _ _ (told-no c.are_keys.ensures c.if-not-are_keys.true)) ∙ scanned c.before.before.before.before.before
 
 -- the keys are valid, so the others can be looked up in them
 abbrev before-keys : tie.Else-not-are_keys → tie.Else-not-has_valid_settings
@@ -68,20 +66,17 @@ are-hot-requires c κs = (ready c, (roomy (before-keys c)).hot)
 returns-3 : tie.Need-returns-then-not-are_hot
 unfolding is_scanned
 returns-3 c =
-    let f = c.before.before in
-    let e = before-keys f in
-    goes _ _ false (sized e) (goes _ _ false (passed f) (stop _ _ (told-no c.are_hot.ensures c.if-not-are_hot.true))) ∙ scanned e.before.before
+    let e = before-keys c.before.before in
+    goes _ _ false (sized e) (goes _ _ false (passed c.before.before) (stop _ _ (told-no c.are_hot.ensures c.if-not-are_hot.true))) ∙ scanned e.before.before
 
 are-shadows-requires : tie.Need-are_shadows-requires
-are-shadows-requires c κs = let f = c.before.before in (ready f, (roomy (before-keys f)).shadows)
+are-shadows-requires c κs = let f = c in (ready f.before.before, (roomy (before-keys f.before.before)).shadows)
 
 returns-4 : tie.Need-returns
 unfolding is_scanned units_for
 returns-4 c =
-    let g = c.before in
-    let f = g.before.before in
-    let e = before-keys f in
-    goes _ _ _ (sized e) (goes _ _ _ (passed f) (goes _ _ _ (told-yes g.are_hot.ensures g.if-not-are_hot.false) c.are_shadows.ensures)) ∙ scanned e.before.before
+    let e = before-keys c.before.before.before in
+    goes _ _ _ (sized e) (goes _ _ _ (passed c.before.before.before) (goes _ _ _ (told-yes c.are_hot.ensures c.if-not-are_hot.false) c.are_shadows.ensures)) ∙ scanned e.before.before
 
 pub is_valid_spec : {M : Type 1} → statement M
 is_valid_spec =

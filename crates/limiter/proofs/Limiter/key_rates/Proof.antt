@@ -33,25 +33,20 @@ find-key-requires c κs = let s = start c.before in let p = asked c in ready s.a
 rates-of-requires : tie.Need-rates_of-requires
 unfolding units_for
 rates-of-requires c κs =
-    let k = c.before in
-    let f = k.before in
-    let s = start f.before.before in
-    let p = asked f.before in
-    found-valid s.args.self s.args.keys.now (ready s.args.self (lent s) p.room p.ok) s.args.key _ f.find_key.ensures _ k.in-Is.is
+    let s = start c.before.before.before.before in
+    let p = asked c.before.before.before in
+    found-valid s.args.self s.args.keys.now (ready s.args.self (lent s) p.room p.ok) s.args.key _ c.find_key.ensures _ c.in-Is.is
 
 returns-2 : tie.Need-returns-in-Untracked
 returns-2 c =
-    let f = c.before in
-    let s = start f.before.before in
-    tells-untracked s.args.self (lent s) (asked f.before) s.args.key _ f.find_key.ensures (rates_of (parameters_of (settings_of s.args.self))) c.in-Untracked.is
+    let s = start c.before.before.before in
+    tells-untracked s.args.self (lent s) (asked c.before.before) s.args.key _ c.find_key.ensures (rates_of (parameters_of (settings_of s.args.self))) c.in-Untracked.is
 
 returns-3 : tie.Need-returns-in-Is
 returns-3 c =
-    let k = c.before.before in
-    let f = k.before in
-    let s = start f.before.before in
-    tells-key s.args.self (lent s) (asked f.before) s.args.key _ f.find_key.ensures (rates_of (parameters_of (settings_of s.args.self))) _ k.in-Is.is _
-    (c.rates_of.ensures ∙ ap (λ (x : Parameters). rates_of x (key_record k.in-Is.state)) c.parameters_of.ensures)
+    let s = start c.before.before.before.before.before in
+    tells-key s.args.self (lent s) (asked c.before.before.before.before) s.args.key _ c.find_key.ensures (rates_of (parameters_of (settings_of s.args.self))) _ c.in-Is.is _
+    (c.rates_of.ensures ∙ ap (λ (x : Parameters). rates_of x (key_record c.in-Is.state)) c.parameters_of.ensures)
 
 pub key_rates_spec : {M : Type 1} → statement M
 key_rates_spec =

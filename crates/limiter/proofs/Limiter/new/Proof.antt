@@ -10,7 +10,7 @@ use Rattle.limiter.proofs.Limiter.new.Statement.{statement}
 use Rattle.limiter.proofs.Limiter.new.Tie as tie
 
 abbrev asked : tie.After-ask-no → List Question
-asked o = let s = o.before.before.before.before in new_questions s.args.config (tables s.args.keys.now s.args.hot.now s.args.shadows.now)
+asked o = let s = o in new_questions s.args.config (tables s.args.keys.now s.args.hot.now s.args.shadows.now)
 
 returns : tie.Need-returns-then-no-ne0
 returns c = answer-no _ (asked c.before) _ c.ask-no.ensures c.if-no-ne0.true

@@ -13,8 +13,7 @@ use Rattle.limiter.proofs.Limiter.new_key_quota.Tie as tie
 
 abbrev asked : tie.After-ask_limit-no → List Question
 asked o =
-    let s = o.before.before.before.before in
-    state_questions s.args.self (tables s.args.keys.now s.args.hot.now s.args.shadows.now) ++ (limit_questions s.args.limit ++ cluster_questions s.args.cluster_size)
+    state_questions o.args.self (tables o.args.keys.now o.args.hot.now o.args.shadows.now) ++ (limit_questions o.args.limit ++ cluster_questions o.args.cluster_size)
 
 returns : tie.Need-returns-then-no-ne0
 returns c = answer-no _ (asked c.before) _ c.ask_limit-no.ensures c.if-no-ne0.true
@@ -22,9 +21,8 @@ returns c = answer-no _ (asked c.before) _ c.ask_limit-no.ensures c.if-no-ne0.tr
 returns-2 : tie.Need-returns
 unfolding state_of
 returns-2 c =
-    let e = c.before in
-    let qs = asked e.before in
-    ap given c.cold_quota.ensures ∙ answer-passed _ qs (passed_none qs _ (lit< tt, (lit< tt, (lit< tt, (lit< tt, (lit< tt, tt))))) e.ask_limit-no.ensures e.if-no-ne0.false)
+    let qs = asked c.before.before in
+    ap given c.cold_quota.ensures ∙ answer-passed _ qs (passed_none qs _ (lit< tt, (lit< tt, (lit< tt, (lit< tt, (lit< tt, tt))))) c.ask_limit-no.ensures c.if-no-ne0.false)
 
 pub new_key_quota_spec : {M : Type 1} → statement M
 new_key_quota_spec = tie.close (tie.spec (λ c κs. search rules) returns (λ c κs. search rules) returns-2)

@@ -29,16 +29,13 @@ find-key-requires c κs = let s = start c.before in let p = asked c in ready s.a
 
 returns-2 : tie.Need-returns-in-Untracked
 returns-2 c =
-    let f = c.before in
-    let s = start f.before.before in
-    tells-untracked s.args.self (lent s) (asked f.before) s.args.key _ f.find_key.ensures (λ (k : KeyRecord). k.gcra.quota) c.in-Untracked.is
+    let s = start c.before.before.before in
+    tells-untracked s.args.self (lent s) (asked c.before.before) s.args.key _ c.find_key.ensures (λ (k : KeyRecord). k.gcra.quota) c.in-Untracked.is
 
 returns-3 : tie.Need-returns-in-Is
 returns-3 c =
-    let x = c.before.before in
-    let f = x.before in
-    let s = start f.before.before in
-    tells-key s.args.self (lent s) (asked f.before) s.args.key _ f.find_key.ensures (λ (k : KeyRecord). k.gcra.quota) _ x.in-Is.is _ refl
+    let s = start c.before.before.before.before.before in
+    tells-key s.args.self (lent s) (asked c.before.before.before.before) s.args.key _ c.find_key.ensures (λ (k : KeyRecord). k.gcra.quota) _ c.in-Is.is _ refl
 
 pub quota_spec : {M : Type 1} → statement M
 quota_spec =

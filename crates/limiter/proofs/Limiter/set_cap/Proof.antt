@@ -23,17 +23,15 @@ asked e = let s = start e.before in past s.args.self (lent s) _ e.ask-no.ensures
 
 returns : tie.Need-returns-then-no-ne0
 returns c =
-    let o = c.before in
-    let s = start o in
+    let s = start c.before in
     let qs = state_questions s.args.self (lent s) in
-    record { answered = answer-no _ qs _ o.ask-no.ensures c.if-no-ne0.true; limiter = kept-no _ _ qs _ o.ask-no.ensures c.if-no-ne0.true }
+    record { answered = answer-no _ qs _ c.ask-no.ensures c.if-no-ne0.true; limiter = kept-no _ _ qs _ c.ask-no.ensures c.if-no-ne0.true }
 
 returns-2 : tie.Need-returns
 returns-2 c =
-    let e = c.before.before in
-    let s = start e.before in
+    let s = start c.before.before.before in
     let qs = state_questions s.args.self (lent s) in
-    let p = asked e in
+    let p = asked c.before.before in
     record {
       answered = answer-passed _ qs p.all;
       limiter = c.with_cap.ensures ∙ cap-set s.args.self (lent s) p s.args.cap _ c.stored.ensures ∙ changed-passed _ _ qs p.all;

@@ -29,13 +29,12 @@ abbrev after : tie.Start → LimiterState
 after s = tick (parameters_of (settings_of s.args.self)) (units_in s.args.self) s.args.reading s.args.cluster_size (here s.args.self (lent s))
 
 abbrev start : tie.After-ask_cluster-no → tie.Start
-start c = c.before.before.before.before.before.before.before
+start c = c.before.before.before.before
 
 returns : tie.Need-returns-then-no-ne0
 returns c =
-    let k = c.before in
-    let s = start k in
-    ticking-no (asks s) (after s) s.args.self (lent s) k.ask_cluster-no.result k.ask_cluster-no.ensures c.if-no-ne0.true
+    let s = start c.before in
+    ticking-no (asks s) (after s) s.args.self (lent s) c.ask_cluster-no.result c.ask_cluster-no.ensures c.if-no-ne0.true
 
 asked : (e : tie.Else-no-ne0) → let s = start e.before in Passed s.args.self (lent s) (cluster_questions s.args.cluster_size)
 asked e =
@@ -44,9 +43,8 @@ asked e =
 
 pass-one-requires : tie.Need-pass_one-passed-requires
 pass-one-requires c κs =
-    let e = c.before.before.before in
-    let s = start e.before in
-    let p = asked e in
+    let s = start c.before.before.before.before in
+    let p = asked c.before.before.before in
     pass-ready s.args.self (lent s) p.room p.ok _ (omega (arith, few_keys s.args.self (lent s) p.room p.ok))
 
 abbrev began : tie.After-pass_one-passed → tie.Else-no-ne0
@@ -54,29 +52,26 @@ began c = c.before.before.before.before
 
 finish-tick-requires : tie.Need-finish_tick-limiter-requires
 finish-tick-requires c κs =
-    let k = c.before.before.before.before.before.before.before.before.before.before in
-    let e = began k in
+    let e = began c.before.before.before.before.before.before.before.before.before in
     let s = start e.before in
     let p = asked e in
     let l = s.args.self in
     let n = s.args.cluster_size in
-    finishing l (lent s) p.room p.ok (parameters_of (settings_of l)) (no_others n) s.args.reading n k.pass_one-passed.result _ _ _
-    (k.pass_one-passed.ensures (no_others n) (none_elsewhere (units_in l) l.keys s.args.keys.now (few_keys l (lent s) p.room p.ok).0)) _ (omega arith)
+    finishing l (lent s) p.room p.ok (parameters_of (settings_of l)) (no_others n) s.args.reading n c.pass_one-passed.result _ _ _
+    (c.pass_one-passed.ensures (no_others n) (none_elsewhere (units_in l) l.keys s.args.keys.now (few_keys l (lent s) p.room p.ok).0)) _ (omega arith)
     (size-passed n p.rest)
 
 returns-2 : tie.Need-returns
 returns-2 c =
-    let d = c.before.before.before.before in
-    let k = d.before.before.before.before.before.before.before.before.before.before.before in
-    let e = began k in
+    let e = began c.before.before.before.before.before.before.before.before.before.before.before.before.before.before in
     let s = start e.before in
     let p = asked e in
     let l = s.args.self in
     let n = s.args.cluster_size in
-    let h = k.pass_one-passed.ensures (no_others n) (none_elsewhere (units_in l) l.keys s.args.keys.now (few_keys l (lent s) p.room p.ok).0) in
-    ticking-done (asks s) (after s) l (lent s) d.finish_tick-limiter.result _ p.all
-    (ticked l (lent s) p.room p.ok (parameters_of (settings_of l)) (no_others n) s.args.reading n k.pass_one-passed.result _ _ _ h true _ (even-share l n _ _)
-    d.finish_tick-limiter.result _ _ d.finish_tick-limiter.ensures)
+    let h = c.pass_one-passed.ensures (no_others n) (none_elsewhere (units_in l) l.keys s.args.keys.now (few_keys l (lent s) p.room p.ok).0) in
+    ticking-done (asks s) (after s) l (lent s) c.finish_tick-limiter.result _ p.all
+    (ticked l (lent s) p.room p.ok (parameters_of (settings_of l)) (no_others n) s.args.reading n c.pass_one-passed.result _ _ _ h true _ (even-share l n _ _)
+    c.finish_tick-limiter.result _ _ c.finish_tick-limiter.ensures)
 
 pub tick_spec : {M : Type 1} → statement M
 tick_spec =

@@ -31,7 +31,7 @@ asked : (s : tie.Start) → BothPassed s.args.self (lent s) s.args.peers (theirs
 asked s = both-passed s.args.self (lent s) s.args.peers (theirs s) s.args.cluster_size s.requires
 
 abbrev told : tie.After-hot_elsewhere_of_each → tie.After-shared_slice_known-3-1
-told c = c.before.before.before
+told c = c.before.before
 
 pass-one-requires : tie.Need-pass_one-passed-requires
 pass-one-requires c κs =
@@ -44,11 +44,11 @@ abbrev began : tie.After-pass_one-passed → tie.After-hot_elsewhere_of_each
 began c = c.before.before.before.before.before
 
 abbrev summed : tie.After-total_of_each → tie.After-pass_one-passed
-summed c = c.before.before.before.before.before.before.before.before
+summed c = c.before.before.before.before.before.before.before
 
 finish-tick-requires : tie.Need-finish_tick-requires
 finish-tick-requires c κs =
-    let k = summed c.before.before.before.before.before.before in
+    let k = summed c.before.before.before.before.before in
     let b = began k in
     let e = told b in
     let s = start e in
@@ -65,7 +65,7 @@ abbrev ended : tie.After-slice_known-7-1 → tie.After-finish_tick
 ended c = c.before.before.before.before
 
 abbrev over : tie.After-finish_tick → tie.After-total_of_each
-over c = c.before.before.before.before.before.before.before
+over c = c.before.before.before.before.before.before
 
 same_length : tie.Need-shape_of-keys
 same_length c =

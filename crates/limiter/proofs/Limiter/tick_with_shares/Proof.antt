@@ -31,13 +31,12 @@ after s =
     tick_with_shares (parameters_of (settings_of s.args.self)) (units_in s.args.self) (peer-state.state_of s.args.peers (theirs s)) s.args.reading s.args.cluster_size (here s.args.self (lent s))
 
 abbrev start : tie.After-ask_both-no → tie.Start
-start c = c.before.before.before.before.before.before.before.before.before.before
+start c = c.before.before.before.before.before.before.before
 
 returns : tie.Need-returns-then-no-ne0
 returns c =
-    let k = c.before in
-    let s = start k in
-    ticking-no (asks s) (after s) s.args.self (lent s) k.ask_both-no.result k.ask_both-no.ensures c.if-no-ne0.true
+    let s = start c.before in
+    ticking-no (asks s) (after s) s.args.self (lent s) c.ask_both-no.result c.ask_both-no.ensures c.if-no-ne0.true
 
 -- every question is answered 'yes'
 all_passed : (e : tie.Else-no-ne0) → passes (asks (start e.before)) ≡ true
@@ -48,10 +47,8 @@ tick-asked-requires c κs = all_passed c.before.before.before
 
 returns-2 : tie.Need-returns
 returns-2 c =
-    let a = c.before.before.before.before.before.before in
-    let e = a.before.before.before.before in
-    let s = start e.before in
-    ticking-done (asks s) (after s) s.args.self (lent s) a.tick_asked-limiter.result _ (all_passed e) a.tick_asked-limiter.ensures
+    let s = start c.before.before.before.before.before.before.before.before.before.before.before in
+    ticking-done (asks s) (after s) s.args.self (lent s) c.tick_asked-limiter.result _ (all_passed c.before.before.before.before.before.before.before.before.before.before) c.tick_asked-limiter.ensures
 
 pub tick_with_shares_spec : {M : Type 1} → statement M
 tick_with_shares_spec =

@@ -30,7 +30,7 @@ is-tracked-requires c κs = let s = start c.before in let p = asked c in lent-ke
 
 returns-2 : tie.Need-returns
 unfolding state_of units_for
-returns-2 c = let e = c.before in let s = start e.before in tells s.args.self (lent s) (asked e) _ _ c.is_tracked.ensures
+returns-2 c = let e = c in let s = start e.before.before in tells s.args.self (lent s) (asked e.before) _ _ c.is_tracked.ensures
 
 pub tracked_spec : {M : Type 1} → statement M
 tracked_spec = tie.close (tie.spec (λ c κs. search rules) returns is-tracked-requires returns-2)

@@ -8,14 +8,11 @@ use Rattle.limiter.proofs.checks.are_bursts.Tie as tie
 
 returns : tie.Need-returns-then-burst_fits
 returns c =
-    let t = c.before in
-    let s = t.before.before in
-    c.burst_fits-then-burst_fits.ensures ∙ sym (ap (λ (b : Bool). b && valid_burst s.args.y) (sym t.burst_fits.ensures ∙ t.if-burst_fits.true))
+    c.burst_fits-then-burst_fits.ensures ∙ sym (ap (λ (b : Bool). b && valid_burst c.args.y) (sym c.burst_fits.ensures ∙ c.if-burst_fits.true))
 
 returns-2 : tie.Need-returns-else-burst_fits
 returns-2 c =
-    let s = c.before.before in
-    sym (ap (λ (b : Bool). b && valid_burst s.args.y) (sym c.burst_fits.ensures ∙ c.if-burst_fits.false))
+    sym (ap (λ (b : Bool). b && valid_burst c.args.y) (sym c.burst_fits.ensures ∙ c.if-burst_fits.false))
 
 pub are_bursts_spec : {M : Type 1} → statement M
 are_bursts_spec = tie.close (tie.spec (λ c κs. search rules) (λ c κs. search rules) returns returns-2)

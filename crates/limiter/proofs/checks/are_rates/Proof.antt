@@ -8,14 +8,11 @@ use Rattle.limiter.proofs.checks.are_rates.Tie as tie
 
 returns : tie.Need-returns-then-is_rate
 returns c =
-    let t = c.before in
-    let s = t.before.before in
-    c.is_rate-then-is_rate.ensures ∙ sym (ap (λ (b : Bool). b && is_rate s.args.y) (sym t.is_rate.ensures ∙ t.if-is_rate.true))
+    c.is_rate-then-is_rate.ensures ∙ sym (ap (λ (b : Bool). b && is_rate c.args.y) (sym c.is_rate.ensures ∙ c.if-is_rate.true))
 
 returns-2 : tie.Need-returns-else-is_rate
 returns-2 c =
-    let s = c.before.before in
-    sym (ap (λ (b : Bool). b && is_rate s.args.y) (sym c.is_rate.ensures ∙ c.if-is_rate.false))
+    sym (ap (λ (b : Bool). b && is_rate c.args.y) (sym c.is_rate.ensures ∙ c.if-is_rate.false))
 
 pub are_rates_spec : {M : Type 1} → statement M
 are_rates_spec = tie.close (tie.spec (λ c κs. search rules) (λ c κs. search rules) returns returns-2)

@@ -10,13 +10,11 @@ returns c = first-no 8 _ (told-no c.has_place.ensures c.if-not-has_place.true)
 
 returns-2 : tie.Need-returns-then-not-has_room
 returns-2 c =
-    let p = c.before.before.before in
-    first-yes 8 _ (told-yes p.has_place.ensures p.if-not-has_place.false) (first-no 9 _ (told-no c.has_room.ensures c.if-not-has_room.true))
+    first-yes 8 _ (told-yes c.has_place.ensures c.if-not-has_place.false) (first-no 9 _ (told-no c.has_room.ensures c.if-not-has_room.true))
 
 returns-3 : tie.Need-returns
 returns-3 c =
-    let p = c.before.before.before in
-    first-yes 8 _ (told-yes p.has_place.ensures p.if-not-has_place.false)
+    first-yes 8 _ (told-yes c.has_place.ensures c.if-not-has_place.false)
     (first-yes 9 _ (told-yes c.has_room.ensures c.if-not-has_room.false) first-none)
 
 pub ask_key_spec : {M : Type 1} → statement M

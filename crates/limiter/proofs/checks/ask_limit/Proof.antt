@@ -10,15 +10,12 @@ returns c = first-no 3 _ (told-no c.is_rate.ensures c.if-not-is_rate.true)
 
 returns-2 : tie.Need-returns-then-not-burst_fits
 returns-2 c =
-    let r = c.before.before in
-    first-yes 3 _ (told-yes r.is_rate.ensures r.if-not-is_rate.false) (first-no 4 _ (told-no c.burst_fits.ensures c.if-not-burst_fits.true))
+    first-yes 3 _ (told-yes c.is_rate.ensures c.if-not-is_rate.false) (first-no 4 _ (told-no c.burst_fits.ensures c.if-not-burst_fits.true))
 
 returns-3 : tie.Need-returns
 returns-3 c =
-    let b = c.before in
-    let r = b.before.before in
-    first-yes 3 _ (told-yes r.is_rate.ensures r.if-not-is_rate.false)
-    (first-yes 4 _ (told-yes b.burst_fits.ensures b.if-not-burst_fits.false) c.ask_cluster.ensures)
+    first-yes 3 _ (told-yes c.is_rate.ensures c.if-not-is_rate.false)
+    (first-yes 4 _ (told-yes c.burst_fits.ensures c.if-not-burst_fits.false) c.ask_cluster.ensures)
 
 pub ask_limit_spec : {M : Type 1} → statement M
 ask_limit_spec = tie.close (tie.spec (λ c κs. search rules) returns (λ c κs. search rules) returns-2 (λ c κs. search rules) returns-3)

@@ -10,15 +10,12 @@ returns c = first-no 3 _ (told-no c.are_rates.ensures c.if-not-are_rates.true)
 
 returns-2 : tie.Need-returns-then-not-are_bursts
 returns-2 c =
-    let r = c.before.before in
-    first-yes 3 _ (told-yes r.are_rates.ensures r.if-not-are_rates.false) (first-no 4 _ (told-no c.are_bursts.ensures c.if-not-are_bursts.true))
+    first-yes 3 _ (told-yes c.are_rates.ensures c.if-not-are_rates.false) (first-no 4 _ (told-no c.are_bursts.ensures c.if-not-are_bursts.true))
 
 returns-3 : tie.Need-returns
 returns-3 c =
-    let b = c.before in
-    let r = b.before.before in
-    first-yes 3 _ (told-yes r.are_rates.ensures r.if-not-are_rates.false)
-    (first-yes 4 _ (told-yes b.are_bursts.ensures b.if-not-are_bursts.false) c.ask_cluster.ensures)
+    first-yes 3 _ (told-yes c.are_rates.ensures c.if-not-are_rates.false)
+    (first-yes 4 _ (told-yes c.are_bursts.ensures c.if-not-are_bursts.false) c.ask_cluster.ensures)
 
 pub ask_limits_spec : {M : Type 1} → statement M
 ask_limits_spec = tie.close (tie.spec (λ c κs. search rules) returns (λ c κs. search rules) returns-2 (λ c κs. search rules) returns-3)

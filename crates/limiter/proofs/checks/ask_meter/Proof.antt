@@ -27,19 +27,16 @@ left g now r v h = h.left ∙ sym (changed-passed (check g now) g (ask_quota g.q
 
 returns : tie.Need-returns-in-Is
 returns c =
-    let o = c.before.before in
-    let s = o.before in (
-      given_is (ask_quota s.args.gcra.quota) _ (decision s.args.gcra s.args.reading) o.check-asked.ensures.decided
+    let s = c in (
+      given_is (ask_quota s.args.gcra.quota) _ (decision s.args.gcra s.args.reading) c.check-asked.ensures.decided
           (sym (ap check_answer c.in-Is.is)),
-      left _ _ _ s.requires o.check-asked.ensures,
+      left _ _ _ s.requires c.check-asked.ensures,
     )
 
 returns-2 : tie.Need-returns-in-No
 returns-2 c =
-    let o = c.before.before in
-    let s = o.before in
-    never-refused (ask_quota s.args.gcra.quota) _ (decision s.args.gcra s.args.reading) (asked s.args.gcra s.requires)
-    o.check-asked.ensures.decided (sym (ap check_answer c.in-No.is))
+    never-refused (ask_quota c.args.gcra.quota) _ (decision c.args.gcra c.args.reading) (asked c.args.gcra c.requires)
+    c.check-asked.ensures.decided (sym (ap check_answer c.in-No.is))
 
 pub ask_meter_spec : {M : Type 1} → statement M
 ask_meter_spec = tie.close (tie.spec (λ c κs. search rules) (λ c. search rules) (λ c. search rules) returns returns-2)

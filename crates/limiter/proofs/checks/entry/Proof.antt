@@ -22,7 +22,7 @@ found c = sym c.in-At.is ∙ c.find.ensures
 readable : (c : tie.In-At) → Readable (c.in-At.place * 22) (start c).args.keys.now
 readable c =
     let s = start c in
-    readable-found s.args.limiter s.args.keys.now s.pre s.args.key c.in-At.place (found c)
+    readable-found s.args.limiter s.args.keys.now s.requires s.args.key c.in-At.place (found c)
 
 mul-of-words : tie.Need-overflow_mul-place
 mul-of-words c = omega (arith, (readable c).within)
@@ -33,32 +33,27 @@ of-words-requires c κs = readable c
 returns : tie.Need-returns-in-At
 unfolding units_for
 returns c =
-    let k = c.before.before in
-    let s = start k in
+    let s = start c.before.before in
     record {
       state = c.limited.ensures ∙ ap (limited s.args.limit) c.of_words-known.ensures
-          ∙ entered-found s.args.limiter s.args.keys.now s.pre s.args.key _ (found k) s.args.limit s.args.reading
+          ∙ entered-found s.args.limiter s.args.keys.now s.requires s.args.key _ (found c.before.before) s.args.limit s.args.reading
           s.args.cluster_size;
-      place = found k;
+      place = found c.before.before;
     }
 
 returns-2 : tie.Need-returns-in-Gap
 returns-2 c =
-    let g = c.before in
-    let s = g.before.before.before in
-    let e = sym g.in-Gap.is ∙ g.find.ensures in
+    let e = sym c.in-Gap.is ∙ c.find.ensures in
     record {
       state = c.new_key.ensures
-          ∙ entered-new s.args.limiter s.args.keys.now s.requires s.args.key _ e s.args.limit s.args.reading
-          s.args.cluster_size;
+          ∙ entered-new c.args.limiter c.args.keys.now c.requires c.args.key _ e c.args.limit c.args.reading
+          c.args.cluster_size;
       place = e;
     }
 
 returns-3 : tie.Need-returns-in-Unfit
 returns-3 c =
-    let f = c.before.before in
-    let s = f.before.before in
-    never-unfit-key s.args.limiter s.args.keys.now s.requires s.args.key (sym c.in-Unfit.is ∙ f.find.ensures)
+    never-unfit-key c.args.limiter c.args.keys.now c.requires c.args.key (sym c.in-Unfit.is ∙ c.find.ensures)
 
 pub entry_spec : {M : Type 1} → statement M
 entry_spec =

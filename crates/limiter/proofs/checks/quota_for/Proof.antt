@@ -15,18 +15,16 @@ use Rattle.limiter.specs.Steps.KeySteps.{units}
 returns : tie.Need-returns-in-Is
 unfolding quota_per_second
 returns c =
-    let o = c.before in
-    let s = o.args in
+    let s = c.args in
     any-burst units s.rate s.burst _
-    (given_is ((4 asks valid_burst 1) ∷ []) _ (per_second units s.rate 1) o.per_second.ensures
+    (given_is ((4 asks valid_burst 1) ∷ []) _ (per_second units s.rate 1) c.per_second.ensures
     (sym (ap quota_answer c.in-Is.is)))
 
 returns-2 : tie.Need-returns-in-No
 unfolding quota_per_second passes
 returns-2 c =
-    let o = c.before in
-    let s = o.args in
-    never-refused ((4 asks valid_burst 1) ∷ []) _ (per_second units s.rate 1) refl o.per_second.ensures
+    let s = c.args in
+    never-refused ((4 asks valid_burst 1) ∷ []) _ (per_second units s.rate 1) refl c.per_second.ensures
     (sym (ap quota_answer c.in-No.is))
 
 pub quota_for_spec : {M : Type 1} → statement M

@@ -18,54 +18,43 @@ after s = raised s.args.attempts s.args.denials s.args.shadow_denials s.args.gcr
 
 returns : tie.Need-returns-then-no-ne0
 returns c =
-    let o = c.before in
-    let s = o.before.before in
-    raises-no s.args.limiter s.args.keys.now (after s) _
-    (o.ask_key-no.ensures
+    raises-no c.args.limiter c.args.keys.now (after c.before.before.before) _
+    (c.ask_key-no.ensures
     ∙ ap first_no
-    (questions-are s.args.limiter s.args.keys.now s.requires.0 s.args.entry s.requires.1.0 s.args.attempts s.args.denials
-    s.args.shadow_denials s.args.gcra))
+    (questions-are c.args.limiter c.args.keys.now c.requires.0 c.args.entry c.requires.1.0 c.args.attempts c.args.denials
+    c.args.shadow_denials c.args.gcra))
     c.if-no-ne0.true
 
 raised-requires : tie.Need-raised-requires
 raised-requires c κs =
-    let o = c.before.before in
-    let s = o.before.before in
-    (place-passed s.args.limiter s.args.entry s.args.attempts s.args.denials s.args.shadow_denials _ o.ask_key-no.ensures
+    (place-passed c.args.limiter c.args.entry c.args.attempts c.args.denials c.args.shadow_denials _ c.ask_key-no.ensures
     c.if-no-ne0.false).1
 
 put-requires : tie.Need-put-requires
 put-requires c κs =
-    let r = c.before in
-    let e = r.before.before in
-    let s = e.before.before.before in (
+    let s = c in (
       s.requires.0,
       (
         subst (λ (j : ℕ). Placed s.args.limiter s.args.keys.now j s.args.entry.tracked s.args.entry.place)
-            (sym (ap (λ (k : KeyRecord). k.key) r.raised.ensures)) s.requires.1.0,
+            (sym (ap (λ (k : KeyRecord). k.key) c.raised.ensures)) s.requires.1.0,
         (
           (place-passed s.args.limiter s.args.entry s.args.attempts s.args.denials s.args.shadow_denials _
-              e.ask_key-no.ensures e.if-no-ne0.false).0,
-          ap (λ (k : KeyRecord). valid_quota (units_in s.args.limiter) k.gcra.quota) r.raised.ensures ∙ s.requires.1.1,
+              c.ask_key-no.ensures c.if-no-ne0.false).0,
+          ap (λ (k : KeyRecord). valid_quota (units_in s.args.limiter) k.gcra.quota) c.raised.ensures ∙ s.requires.1.1,
         ),
       ),
     )
 
 returns-2 : tie.Need-returns
 returns-2 c =
-    let p = c.before.before in
-    let r = p.before.before in
-    let e = r.before.before in
-    let o = e.before in
-    let s = o.before.before in
-    raises-done s.args.limiter s.args.keys.now (after s) _
-    (o.ask_key-no.ensures
+    raises-done c.args.limiter c.args.keys.now (after c.before.before.before.before.before.before.before.before.before) _
+    (c.ask_key-no.ensures
     ∙ ap first_no
-    (questions-are s.args.limiter s.args.keys.now s.requires.0 s.args.entry s.requires.1.0 s.args.attempts s.args.denials
-    s.args.shadow_denials s.args.gcra))
-    e.if-no-ne0.false _ _
-    (subst (λ (k : KeyRecord). Puts s.args.limiter s.args.keys.now k p.put.result p.put.new.1.0) r.raised.ensures
-    p.put.ensures)
+    (questions-are c.args.limiter c.args.keys.now c.requires.0 c.args.entry c.requires.1.0 c.args.attempts c.args.denials
+    c.args.shadow_denials c.args.gcra))
+    c.if-no-ne0.false _ _
+    (subst (λ (k : KeyRecord). Puts c.args.limiter c.args.keys.now k c.put.result c.put.new.1.0) c.raised.ensures
+    c.put.ensures)
 
 pub raise_spec : {M : Type 1} → statement M
 raise_spec = tie.close (tie.spec (λ c κs. search rules) returns raised-requires put-requires (λ c. search rules) returns-2)

@@ -14,16 +14,14 @@ use Rattle.limiter.specs.Steps.KeySteps.{units}
 returns : tie.Need-returns-in-Is
 unfolding quota_pack
 returns c =
-    let o = c.before in
-    let q = o.args.quota in
-    given_is (ask_quota q) _ (pack units q) o.pack.ensures (sym (ap number_answer c.in-Is.is))
+    let q = c.args.quota in
+    given_is (ask_quota q) _ (pack units q) c.pack.ensures (sym (ap number_answer c.in-Is.is))
 
 returns-2 : tie.Need-returns-in-No
 unfolding quota_pack passes
 returns-2 c =
-    let o = c.before in
-    let q = o.args.quota in
-    never-refused (ask_quota q) _ (pack units q) (and_intro (valid_quota units q) true o.requires refl) o.pack.ensures
+    let q = c.args.quota in
+    never-refused (ask_quota q) _ (pack units q) (and_intro (valid_quota units q) true c.requires refl) c.pack.ensures
     (sym (ap number_answer c.in-No.is))
 
 pub packed_spec : {M : Type 1} → statement M

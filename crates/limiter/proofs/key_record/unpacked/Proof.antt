@@ -15,16 +15,14 @@ use Rattle.limiter.specs.Steps.KeySteps.{units}
 returns : tie.Need-returns-in-Is
 unfolding quota_unpack
 returns c =
-    let o = c.before in
-    let w = o.args.packed in
-    given_is ((14 asks unpacks w) ∷ []) _ (unpack units w) o.unpack.ensures (sym (ap quota_answer c.in-Is.is))
+    let w = c.args.packed in
+    given_is ((14 asks unpacks w) ∷ []) _ (unpack units w) c.unpack.ensures (sym (ap quota_answer c.in-Is.is))
 
 returns-2 : tie.Need-returns-in-No
 unfolding quota_unpack passes
 returns-2 c =
-    let o = c.before in
-    let w = o.args.packed in
-    never-refused ((14 asks unpacks w) ∷ []) _ (unpack units w) (and_intro (unpacks w) true o.requires refl) o.unpack.ensures
+    let w = c.args.packed in
+    never-refused ((14 asks unpacks w) ∷ []) _ (unpack units w) (and_intro (unpacks w) true c.requires refl) c.unpack.ensures
     (sym (ap quota_answer c.in-No.is))
 
 pub unpacked_spec : {M : Type 1} → statement M

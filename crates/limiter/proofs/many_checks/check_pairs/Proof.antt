@@ -24,19 +24,19 @@ start e = origin e.before
 
 -- the pair of a turn is within the list
 inside : (e : tie.In-loop-i invariant-loop-i decreases-loop-i) → e.loop-i.i * 2 + 2 ≤ length (start e).args.list.now
-inside e = let s = start e in omega (arith, e.loop-i-test.true, fits_le (length s.args.list.now) 2 s.args.count s.pre.pairs)
+inside e = let s = start e in omega (arith, e.loop-i-test.true, fits_le (length s.args.list.now) 2 s.args.count s.requires.pairs)
 
 -- the tables are as long as they were
 same_keys : (a : tie.At-loop-i invariant-loop-i decreases-loop-i) → length a.loop-i.keys ≡ length (origin a).args.keys.now
 same_keys a =
     let s = origin a in
-    reached-keys s.args.limiter s.args.keys.now s.args.list.now s.args.count s.args.cluster_size s.args.out.now s.pre
+    reached-keys s.args.limiter s.args.keys.now s.args.list.now s.args.count s.args.cluster_size s.args.out.now s.requires
     a.loop-i.i a.loop-i.left a.loop-i.keys a.loop-i.out a.loop-i.invariant.1
 
 same-output : (a : tie.At-loop-i invariant-loop-i decreases-loop-i) → length a.loop-i.out ≡ length (origin a).args.out.now
 same-output a =
     let s = origin a in
-    reached-output s.args.limiter s.args.keys.now s.args.list.now s.args.count s.args.cluster_size s.args.out.now s.pre
+    reached-output s.args.limiter s.args.keys.now s.args.list.now s.args.count s.args.cluster_size s.args.out.now s.requires
     a.loop-i.i a.loop-i.left a.loop-i.keys a.loop-i.out a.loop-i.invariant.1 a.loop-i.invariant.0
 
 -- there is a place for its answer
@@ -45,7 +45,7 @@ room e = omega (arith, e.loop-i-test.true, (start e).requires.output, same-outpu
 
 loop-holds : tie.Need-loop-i-init invariant-loop-i decreases-loop-i
 loop-holds c =
-    let s = c.before.before.before.before.before in (
+    let s = c in (
       omega arith,
       reached-none s.args.limiter s.args.keys.now s.args.list.now s.args.count s.args.cluster_size
           s.args.out.now s.requires,
@@ -71,12 +71,11 @@ shared-slice-read-check-key-2 c = omega (arith, inside c.before.before.before)
 
 check-key-requires : tie.Need-check_key-checked-requires invariant-loop-i decreases-loop-i
 check-key-requires c κs =
-    let e = c.before.before.before in
-    let s = start e in
-    let a = e.loop-i in (
-      reached-ready s.args.limiter s.args.keys.now s.args.list.now s.args.count s.args.cluster_size s.args.out.now s.pre
+    let s = start c.before.before.before in
+    let a = c.loop-i in (
+      reached-ready s.args.limiter s.args.keys.now s.args.list.now s.args.count s.args.cluster_size s.args.out.now s.requires
           a.i a.left a.keys a.out a.invariant.1,
-      pairs-burst s.args.limiter s.args.keys.now s.args.list.now s.args.count s.args.cluster_size s.args.out.now s.pre,
+      pairs-burst s.args.limiter s.args.keys.now s.args.list.now s.args.count s.args.cluster_size s.args.out.now s.requires,
     )
 
 abbrev turn : tie.After-put_answer-arg-1 invariant-loop-i decreases-loop-i → tie.In-loop-i invariant-loop-i decreases-loop-i
@@ -96,15 +95,13 @@ loop-less c = omega (arith, (turn c.before.before.before.before).loop-test.taken
 
 loop-again : tie.Need-loop-i-preserved invariant-loop-i decreases-loop-i
 loop-again c =
-    let w = c.before.before.before in
-    let k = w.before.before.before.before in
-    let e = turn w.before in
+    let e = turn c.before.before.before.before in
     let s = start e in
     let a = e.loop-i in (
       omega (arith, e.loop-i-test.taken),
-      reached-next s.args.limiter s.args.keys.now s.args.list.now s.args.count s.args.cluster_size s.args.out.now s.pre
-          a.i a.left a.keys a.out a.inv.1 k.check_key-checked.result _ _ k.check_key-checked.ensures w.put_answer.ensures
-          (word_of (k.shared_slice_known-in-loop-i-2-1.given (a.i * 2)).fits) (word_of (k.shared_slice_known-in-loop-i-2-1.given (a.i * 2 + 1)).fits),
+      reached-next s.args.limiter s.args.keys.now s.args.list.now s.args.count s.args.cluster_size s.args.out.now s.requires
+          a.i a.left a.keys a.out a.inv.1 c.check_key-checked.result _ _ c.check_key-checked.ensures c.put_answer.ensures
+          (word_of (c.shared_slice_known-in-loop-i-2-1.given (a.i * 2)).fits) (word_of (c.shared_slice_known-in-loop-i-2-1.given (a.i * 2 + 1)).fits),
     )
 
 same_length : tie.Need-shape_of-keys invariant-loop-i decreases-loop-i

@@ -15,8 +15,7 @@ slice-write-out-3 c = simp length-set (omega arith)
 
 returns : tie.Need-returns
 returns c =
-    let s = c.before.before in
-    put_three (check_answer s.args.answer) _ s.args.out.now s.args.at c.answer_words-words.ensures s.requires
+    put_three (check_answer c.args.answer) _ c.args.out.now c.args.at c.answer_words-words.ensures c.requires
 
 pub put_answer_spec : {M : Type 1} → statement M
 put_answer_spec =

@@ -14,10 +14,9 @@ decreases-loop-i from n stays to₀ kept₀ i₀ to kept i = n - i
 
 loop-again : tie.Need-loop-i-preserved invariant-loop-i decreases-loop-i
 loop-again c =
-    let l = c.before.before in
-    let k = l.loop-i.invariant in
-    ⊎_elim (λ w. copy-next _ _ _ _ _ _ _ k l.loop-i-test.true w.0.taken w.2 w.3)
-    (λ w. copy-skip _ _ _ _ _ _ _ k l.loop-i-test.true w.0.left w.1 w.2) c.if-stays-i.branch
+    let k = c.loop-i.invariant in
+    ⊎_elim (λ w. copy-next _ _ _ _ _ _ _ k c.loop-i-test.true w.0.true w.2 w.3)
+    (λ w. copy-skip _ _ _ _ _ _ _ k c.loop-i-test.true w.0.false w.1 w.2) c.if-stays-i.branch-raw
 
 pub copy_flagged_spec : {M : Type 1} → statement M
 copy_flagged_spec =

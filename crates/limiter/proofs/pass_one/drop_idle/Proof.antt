@@ -7,12 +7,8 @@ use Rattle.limiter.specs.Steps.KeySteps.{units}
 
 returns : tie.Need-returns
 returns c =
-    let k = c.before.before in
-    let q = k.before.before.before.before.before in
-    let m = q.before.before.before.before in
-    let s = m.before.before.before.before.before.before.before in
-    dropped units s.args.silent s.args.reading s.args.n s.args.keys.now s.args.hots.now s.args.flags.now _ k.keep_flagged.result _ _
-    s.requires.1.0 m.mark_busy.ensures q.copy_flagged.ensures k.keep_flagged.ensures
+    dropped units c.args.silent c.args.reading c.args.n c.args.keys.now c.args.hots.now c.args.flags.now _ c.keep_flagged.result _ _
+    c.requires.1.0 c.mark_busy.ensures c.copy_flagged.ensures c.keep_flagged.ensures
 
 pub drop_idle_spec : {M : Type 1} → statement M
 drop_idle_spec =

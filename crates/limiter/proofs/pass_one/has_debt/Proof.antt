@@ -6,14 +6,11 @@ use Rattle.limiter.proofs.pass_one.has_debt.Tie as tie
 
 returns : tie.Need-returns-in-Is
 returns c =
-    let d = c in
-    let h = d.before in
-    debt-given h.args.meter h.args.reading _ d.in-Is.debt h.has_debt.ensures d.in-Is.is
+    debt-given c.args.meter c.args.reading _ c.in-Is.debt c.has_debt.ensures c.in-Is.is
 
 returns-2 : tie.Need-returns-in-No
 returns-2 c =
-    let h = c.before in
-    absurd (debt-never h.args.meter h.args.reading _ _ h.has_debt.ensures c.in-No.is h.requires)
+    absurd (debt-never c.args.meter c.args.reading _ _ c.has_debt.ensures c.in-No.is c.requires)
 
 pub has_debt_spec : {M : Type 1} → statement M
 has_debt_spec = tie.close (tie.spec (λ c κs. search rules) (λ c. search rules) (λ c. search rules) returns returns-2)

@@ -8,9 +8,8 @@ use Rattle.limiter.proofs.pass_one.is_elsewhere.Tie as tie
 
 returns : tie.Need-returns-then-held
 returns c =
-    let t = c.before in
-    let demand : Bool = is_demand t.args.silent t.args.rate in
-    c.is_demand.ensures ∙ sym (ap (λ (b : Bool). demand && b) t.if-held.true ∙ and-true demand)
+    let demand : Bool = is_demand c.args.silent c.args.rate in
+    c.is_demand.ensures ∙ sym (ap (λ (b : Bool). demand && b) c.if-held.true ∙ and-true demand)
 
 returns-2 : tie.Need-returns
 returns-2 c = let demand : Bool = is_demand c.args.silent c.args.rate in sym (ap (λ (b : Bool). demand && b) c.if-held.false ∙ and-false demand)

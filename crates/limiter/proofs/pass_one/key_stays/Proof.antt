@@ -24,48 +24,38 @@ long s = row-long units units-accepted s.args.r.now s.requires
 
 returns-2 : tie.Need-returns-then-is_demand
 returns-2 c =
-    let d = c.before in
-    let f = d.before in
-    let e = cold d in
+    let e = cold c.before in
     let s = start e in
-    stays-demand units s.args.silent s.args.r.now s.args.reading s.args.hot e.if-hot.left f.from_bits.result f.from_bits.ensures
-    (sym d.is_demand.ensures ∙ c.if-is_demand.true)
+    stays-demand units s.args.silent s.args.r.now s.args.reading s.args.hot e.if-hot.left c.from_bits.result c.from_bits.ensures
+    (sym c.is_demand.ensures ∙ c.if-is_demand.true)
 
 returns-3 : tie.Need-returns-then-r-gt0
 returns-3 c =
-    let n = c.before.before in
-    let d = n.before in
-    let f = d.before in
-    let e = cold d in
+    let e = cold c.before.before.before in
     let s = start e in
-    stays-pending units s.args.silent s.args.r.now s.args.reading s.args.hot e.if-hot.left f.from_bits.result f.from_bits.ensures
-    (sym d.is_demand.ensures ∙ n.if-is_demand.false) c.if-r-gt0.true
+    stays-pending units s.args.silent s.args.r.now s.args.reading s.args.hot e.if-hot.left c.from_bits.result c.from_bits.ensures
+    (sym c.is_demand.ensures ∙ c.if-is_demand.false) c.if-r-gt0.true
 
 -- the key's words, once its attempts are read
 abbrev at-start : tie.Else-r-gt0 → tie.Start
 at-start c = start (cold c.before.before.before)
 
 meter-of-words-requires : tie.Need-meter_of_words-requires
-meter-of-words-requires c κs = let s = at-start c in (omega (arith, long s), word-unpacks units units-accepted s.args.r.now s.pre)
+meter-of-words-requires c κs = let s = at-start c in (omega (arith, long s), word-unpacks units units-accepted s.args.r.now s.requires)
 
 has-debt-requires : tie.Need-has_debt-requires
 has-debt-requires c κs =
     let s = at-start c.before in
-    ap (λ (g : Gcra). valid_quota units g.quota) c.meter_of_words.ensures ∙ quota-valid units s.args.r.now s.pre
+    ap (λ (g : Gcra). valid_quota units g.quota) c.meter_of_words.ensures ∙ quota-valid units s.args.r.now s.requires
 
 returns-4 : tie.Need-returns
 returns-4 c =
-    let m = c.before in
-    let q = m.before in
-    let n = q.before.before in
-    let d = n.before in
-    let f = d.before in
-    let e = cold d in
+    let e = cold c.before.before.before.before.before in
     let s = start e in
-    stays-debt units s.args.silent s.args.r.now s.args.reading s.args.hot e.if-hot.left f.from_bits.result f.from_bits.ensures
-    (sym d.is_demand.ensures ∙ n.if-is_demand.false)
-    (omega (arith, q.if-r-gt0.false)) c.has_debt.result
-    (c.has_debt.ensures ∙ ap (λ (g : Gcra). has_debt g s.args.reading) m.meter_of_words.ensures)
+    stays-debt units s.args.silent s.args.r.now s.args.reading s.args.hot e.if-hot.left c.from_bits.result c.from_bits.ensures
+    (sym c.is_demand.ensures ∙ c.if-is_demand.false)
+    (omega (arith, c.if-r-gt0.false)) c.has_debt.result
+    (c.has_debt.ensures ∙ ap (λ (g : Gcra). has_debt g s.args.reading) c.meter_of_words.ensures)
 
 pub key_stays_spec : {M : Type 1} → statement M
 key_stays_spec =

@@ -25,11 +25,10 @@ inside c = omega (arith, row 22 (start c).args.n c.loop-i.i c.loop-i-test.true, 
 
 loop-again : tie.Need-loop-i-preserved invariant-loop-i decreases-loop-i
 loop-again c =
-    let l = c.before.before.before in
-    let s = start l in
-    let h = l.loop-i-test.true in
-    busy-more _ _ _ _ _ _ _ _ _ l.loop-i.invariant s.pre.1 h c.key_stays.result _
-    (lent_is units s.args.n s.args.keys.now l.loop-i.i h) c.key_stays.ensures
+    let s = start c.before.before.before in
+    let h = c.loop-i-test.true in
+    busy-more _ _ _ _ _ _ _ _ _ c.loop-i.invariant s.requires.1 h c.key_stays.result _
+    (lent_is units s.args.n s.args.keys.now c.loop-i.i h) c.key_stays.ensures
 
 pub mark_busy_spec : {M : Type 1} → statement M
 mark_busy_spec =
@@ -44,8 +43,8 @@ mark_busy_spec =
     (λ c. omega (arith, inside c))
     (λ c. omega (arith, inside c))
     (λ c. omega (arith, inside c))
-    (λ c. omega (arith, (start c.before.before).pre.1))
-    (λ c κs. let l = c.before.before in lent_again _ _ _ _ l.loop-i-test.true (start l).requires.0)
+    (λ c. omega (arith, (start c.before.before).requires.1))
+    (λ c κs. let l = c in lent_again _ _ _ _ l.loop-i-test.true (start l.before.before).requires.0)
     (λ c. omega (arith, c.loop-i.invariant.fit))
     (λ c. omega arith)
     (λ c. omega arith)

@@ -18,15 +18,13 @@ decreases-loop-i keys n silent alpha cluster-size elsewhere demands₀ threshold
 
 loop-holds : tie.Need-loop-i-init invariant-loop-i decreases-loop-i
 loop-holds c =
-    let s = c.before.before.before.before.before in
-    measure-none _ _ _ _ _ _ _ _ _ _ s.requires.0.1 s.requires.1.0 s.requires.1.1 s.requires.1.2
+    measure-none _ _ _ _ _ _ _ _ _ _ c.requires.0.1 c.requires.1.0 c.requires.1.1 c.requires.1.2
 
 -- the record is within the words
 inside : (c : tie.In-loop-i invariant-loop-i decreases-loop-i)
     → c.loop-i.i * 22 + 22 ≤ length c.args.keys.now
 inside c =
-    let s = c.before.before.before.before.before.before.before in
-    omega (arith, row 22 s.args.n c.loop-i.i c.loop-i-test.true, s.requires.0.0)
+    omega (arith, row 22 c.args.n c.loop-i.i c.loop-i-test.true, c.requires.0.0)
 
 abbrev read : tie.After-from_bits-rate invariant-loop-i decreases-loop-i → tie.In-loop-i invariant-loop-i decreases-loop-i
 read c = c.before.before
@@ -36,11 +34,10 @@ first c = c.before.before
 
 loop-again : tie.Need-loop-i-preserved invariant-loop-i decreases-loop-i
 loop-again c =
-    let x = c.before.before in
-    let f = first x in
+    let f = first c.before.before in
     let l = read f in
-    measure-more _ _ _ _ _ _ _ _ _ _ _ _ _ _ l.loop-i.inv l.loop-i-test.taken f.from_bits-rate.result x.from_bits.result
-    f.from_bits-rate.ensures x.from_bits.ensures c.is_elsewhere.result c.is_elsewhere.ensures
+    measure-more _ _ _ _ _ _ _ _ _ _ _ _ _ _ l.loop-i.inv l.loop-i-test.taken f.from_bits-rate.result c.from_bits.result
+    f.from_bits-rate.ensures c.from_bits.ensures c.is_elsewhere.result c.is_elsewhere.ensures
 
 pub measure_keys_spec : {M : Type 1} → statement M
 measure_keys_spec =

@@ -21,7 +21,7 @@ abbrev par : tie.After-fold_keys → Parameters
 par c = (given c).parameters_of-par.result
 
 abbrev folded : tie.After-hots-1 → tie.After-fold_keys
-folded c = c.before.before.before.before.before.before.before
+folded c = c.before.before.before.before.before
 
 abbrev updated : tie.After-drop_idle-arg-2-1 → tie.After-update_hot-entries
 updated c = c.before.before.before.before.before.before.before.before
@@ -36,31 +36,30 @@ unfolding units_for
 held c =
     let s = start c in
     passing-lent (par c) s.args.limiter s.args.keys.now s.args.hot.now s.args.elsewhere.now s.args.reading s.args.cluster_size
-    s.pre (reads s) _ c.fold_keys.ensures
+    s.requires (reads s) _ c.fold_keys.ensures
 
 update-hot-requires : tie.Need-update_hot-entries-requires
 update-hot-requires c κs =
     let f = folded c in
-    let p = (start f).pre in
+    let p = (start f).requires in
     ((held f, p.hot_lent, p.few), (p.flags_fit, p.few, p.few))
 
 drop-idle-requires : tie.Need-drop_idle-left-requires
 unfolding units_for
 drop-idle-requires c κs =
     let f = folded (updated c).before in
-    let p = (start f).pre in
+    let p = (start f).requires in
     ((held f, p.few, search rules), (search rules, p.flags_fit))
 
 returns : tie.Need-returns
 unfolding units_for
 returns c =
-    let d = c.before.before.before.before in
-    let u = updated d.before in
+    let u = updated c.before.before.before.before.before in
     let f = folded u.before in
     let s = start f in
     passes (par f) s.args.limiter s.args.keys.now s.args.hot.now s.args.elsewhere.now s.args.reading
-    s.args.cluster_size s.pre (reads s) _ f.fold_keys.ensures _ (given f).parameters_of-par.ensures
-    (record { keys = d.drop_idle-left.result; hot = u.update_hot-entries.result }) _ _ _ _ _ u.update_hot-entries.ensures d.drop_idle-left.ensures
+    s.args.cluster_size s.requires (reads s) _ f.fold_keys.ensures _ (given f).parameters_of-par.ensures
+    (record { keys = c.drop_idle-left.result; hot = u.update_hot-entries.result }) _ _ _ _ _ u.update_hot-entries.ensures c.drop_idle-left.ensures
 
 pub pass_one_spec : {M : Type 1} → statement M
 unfolding units_for

@@ -7,7 +7,7 @@ use mathlib.Core.Path.{refl}
 use Rattle.limiter.specs.State.{units_for, parameters_for}
 
 abbrev measured : tie.After-update_each → tie.After-measure_keys
-measured c = c.before.before.before.before.before.before.before.before.before.before
+measured c = c.before.before.before.before.before.before.before.before.before
 
 abbrev sized : tie.After-measure_keys → tie.After-u64_to_f64-size
 sized c = c.before.before.before.before
@@ -18,26 +18,23 @@ start c = c.before.before.before.before.before.before.before
 returns : tie.Need-returns-in-Is
 unfolding parameters_for units_for
 returns c =
-    let g = c in
-    let u = g.before.before.before.before.before in
-    let m = measured u in
+    let m = measured c.before.before.before.before.before in
     let z = sized m in
     let s = start z in
-    let p = s.pre in
+    let p = s.requires in
     each-done s.args.silent s.args.limiter s.args.reading s.args.cluster_size s.args.keys.now s.args.hot.now s.args.elsewhere.now
-    p.0.0 p.0.1 p.1.0 _ z.u64_to_f64-size.ensures _ _ _ m.measure_keys.ensures _ p.1.2 _ _ _ u.update_each.ensures _ refl
-    g.in-Is.left g.in-Is.is
+    p.0.0 p.0.1 p.1.0 _ z.u64_to_f64-size.ensures _ _ _ m.measure_keys.ensures _ p.1.2 _ _ _ c.update_each.ensures _ refl
+    c.in-Is.left c.in-Is.is
 
 returns-2 : tie.Need-returns-in-No
 unfolding units_for
 returns-2 c =
-    let u = c.before.before.before.before.before in
-    let m = measured u in
+    let m = measured c.before.before.before.before.before in
     let z = sized m in
     let s = start z in
-    let p = s.pre in
+    let p = s.requires in
     each-never s.args.silent s.args.limiter s.args.reading s.args.cluster_size s.args.keys.now s.args.hot.now s.args.elsewhere.now
-    p.0.0 p.0.1 p.1.0 _ z.u64_to_f64-size.ensures _ _ _ m.measure_keys.ensures _ p.1.2 _ _ _ u.update_each.ensures _ refl _
+    p.0.0 p.0.1 p.1.0 _ z.u64_to_f64-size.ensures _ _ _ m.measure_keys.ensures _ p.1.2 _ _ _ c.update_each.ensures _ refl _
     c.in-No.is
 
 pub update_hot_spec : {M : Type 1} → statement M

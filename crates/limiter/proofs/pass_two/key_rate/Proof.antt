@@ -31,57 +31,49 @@ begun c = c.before.before
 -- the place of a key that is found
 place : (c : tie.In-At) → let s = start (begun c.before) in c.in-At.place < s.args.h
 place c =
-    let f = c.before in
-    let s = start (begun f) in
-    (at-within s.args.h s.args.hot.now s.pre.1 _ _ (sym c.in-At.is ∙ f.find-found.ensures)).0
+    let s = start (begun c.before) in
+    (at-within s.args.h s.args.hot.now s.requires.1 _ _ (sym c.in-At.is ∙ c.find-found.ensures)).0
 
 hot-rate-requires : tie.Need-hot_rate-requires
 hot-rate-requires c κs =
     let b = begun c.before.before.before.before in
     let s = start b in
-    (ap is_rate b.from_bits-limit.ensures ∙ limit-passes units units-accepted s.args.r.now s.pre.0, s.pre.3)
+    (ap is_rate b.from_bits-limit.ensures ∙ limit-passes units units-accepted s.args.r.now s.requires.0, s.requires.3)
 
 returns : tie.Need-returns-in-At
 returns c =
-    let g = c.before.before in
-    let w = g.before.before in
-    let f = w.before in
-    let b = begun f in
+    let b = begun c.before.before.before.before.before in
     let s = start b in
-    rate-found units s.args.terms s.args.r.now s.args.h s.args.hot.now s.pre.1 s.args.totals.now s.args.elsewhere _ _
-    b.from_bits-limit.result g.from_bits.result c.hot_rate.result
-    (room s) (sym w.in-At.is ∙ f.find-found.ensures) b.from_bits-limit.ensures g.from_bits.ensures c.hot_rate.ensures
+    rate-found units s.args.terms s.args.r.now s.args.h s.args.hot.now s.requires.1 s.args.totals.now s.args.elsewhere _ _
+    b.from_bits-limit.result c.from_bits.result c.hot_rate.result
+    (room s) (sym c.in-At.is ∙ c.find-found.ensures) b.from_bits-limit.ensures c.from_bits.ensures c.hot_rate.ensures
 
 returns-2 : tie.Need-returns-in-Gap
 returns-2 c =
-    let w = c.before in
-    let f = w.before in
-    let b = begun f in
+    let b = begun c.before.before in
     let s = start b in
-    rate-absent units s.args.terms s.args.r.now s.args.h s.args.hot.now s.pre.1 s.args.totals.now s.args.elsewhere _
+    rate-absent units s.args.terms s.args.r.now s.args.h s.args.hot.now s.requires.1 s.args.totals.now s.args.elsewhere _
     b.from_bits-limit.result c.cold_rate.result
-    (sym w.in-Gap.is ∙ f.find-found.ensures) b.from_bits-limit.ensures c.cold_rate.ensures
+    (sym c.in-Gap.is ∙ c.find-found.ensures) b.from_bits-limit.ensures c.cold_rate.ensures
 
 returns-3 : tie.Need-returns-in-Unfit
 returns-3 c =
-    let w = c.before in
-    let f = w.before in
-    let s = start (begun f) in
-    never-unfit s.args.h s.args.hot.now s.pre.1 _ (sym w.in-Unfit.is ∙ f.find-found.ensures)
+    let s = start (begun c.before.before) in
+    never-unfit s.args.h s.args.hot.now s.requires.1 _ (sym c.in-Unfit.is ∙ c.find-found.ensures)
 
 pub key_rate_spec : {M : Type 1} → statement M
 key_rate_spec =
     tie.close
     (tie.spec
-    (λ c. omega (arith, long c.before.before.before))
+    (λ c. omega (arith, long c.before.before.before.before))
     (λ c κs. search rules)
     (λ c. omega (arith, long (start c.before)))
     (λ c κs. search rules)
     (λ c. search rules)
-    (λ c. omega (arith, long (start (begun c.before.before.before))))
+    (λ c. omega (arith, long (start (begun c.before.before))))
     (λ c κs. search rules)
-    (λ c. omega (arith, place c.before.before, (start (begun c.before.before.before.before)).requires.2))
-    (λ c. omega (arith, place c.before.before.before, (start (begun c.before.before.before.before.before)).requires.2))
+    (λ c. omega (arith, place c.before.before, (start (begun c.before.before.before)).requires.2))
+    (λ c. omega (arith, place c.before.before.before, (start (begun c.before.before.before.before)).requires.2))
     hot-rate-requires
     (λ c. search rules)
     (λ c κs. search rules)

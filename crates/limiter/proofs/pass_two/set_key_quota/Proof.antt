@@ -9,10 +9,7 @@ use Rattle.limiter.proofs.pass_two.set_key_quota.Tie as tie
 
 returns : tie.Need-returns
 returns c =
-    let q = c.before.before in
-    let k = q.before.before in
-    let s = k.before.before.before.before.before in
-    q.set_quota.ensures ∙ ap (λ (x : Float). quota_row units s.args.reading x s.args.r.now) k.key_rate-rate.ensures
+    c.set_quota.ensures ∙ ap (λ (x : Float). quota_row units c.args.reading x c.args.r.now) c.key_rate-rate.ensures
 
 pub set_key_quota_spec : {M : Type 1} → statement M
 set_key_quota_spec = tie.close (tie.spec (λ c κs. search rules) (λ c κs. search rules) (λ c. search rules) returns)

@@ -16,34 +16,31 @@ abbrev start : tie.After-quota_for-quota → tie.Start
 start c = c.before.before.before
 
 abbrev quota : tie.After-meter_of_words-meter → tie.After-quota_for-quota
-quota c = c.before.before
+quota c = c.before
 
 meter-of-words-requires : tie.Need-meter_of_words-meter-requires
-meter-of-words-requires c κs = let s = start c.before in (omega (arith, long s), word-unpacks units units-accepted s.args.r.now s.pre)
+meter-of-words-requires c κs = let s = start c in (omega (arith, long s), word-unpacks units units-accepted s.args.r.now s.requires)
 
 changed-requires : tie.Need-changed-requires
 changed-requires c κs =
     let q = quota c in
     let s = start q in
-    quotas-valid units units-accepted s.args.r.now s.pre s.args.rate s.args.reading q.quota_for-quota.result c.meter_of_words-meter.result
+    quotas-valid units units-accepted s.args.r.now s.requires s.args.rate s.args.reading q.quota_for-quota.result c.meter_of_words-meter.result
     q.quota_for-quota.ensures c.meter_of_words-meter.ensures
 
 meter-words-requires : tie.Need-meter_words-words-requires
 meter-words-requires c κs =
-    let m = c.before in
-    let q = quota m in
+    let q = quota c.before in
     let s = start q in
-    next-valid units units-accepted s.args.r.now s.pre s.args.rate s.args.reading q.quota_for-quota.result m.meter_of_words-meter.result
-    q.quota_for-quota.ensures m.meter_of_words-meter.ensures c.changed.result c.changed.ensures
+    next-valid units units-accepted s.args.r.now s.requires s.args.rate s.args.reading q.quota_for-quota.result c.meter_of_words-meter.result
+    q.quota_for-quota.ensures c.meter_of_words-meter.ensures c.changed.result c.changed.ensures
 
 returns : tie.Need-returns
 returns c =
-    let g = c.before in
-    let m = g.before in
-    let q = quota m in
+    let q = quota c.before.before in
     let s = start q in
-    quota-stored units units-accepted s.args.r.now s.pre s.args.rate s.args.reading q.quota_for-quota.result m.meter_of_words-meter.result
-    q.quota_for-quota.ensures m.meter_of_words-meter.ensures g.changed.result g.changed.ensures
+    quota-stored units units-accepted s.args.r.now s.requires s.args.rate s.args.reading q.quota_for-quota.result c.meter_of_words-meter.result
+    q.quota_for-quota.ensures c.meter_of_words-meter.ensures c.changed.result c.changed.ensures
     c.meter_words-words.result c.meter_words-words.ensures
 
 pub set_quota_spec : {M : Type 1} → statement M
@@ -51,7 +48,7 @@ set_quota_spec =
     tie.close
     (tie.spec
     (λ c. omega (arith, long c.before.before))
-    (λ c. let s = c.before.before in omega (arith, burst-small units units-accepted s.args.r.now s.requires))
+    (λ c. let s = c in omega (arith, burst-small units units-accepted s.args.r.now s.requires))
     (λ c κs. search rules)
     meter-of-words-requires
     changed-requires

@@ -29,11 +29,10 @@ start l = l.before.before.before.before.before
 
 loop-holds : tie.Need-loop-i-init invariant-loop-i decreases-loop-i
 loop-holds c =
-    let s = c.before.before.before.before in
-    let a = s.args in
+    let a = c.args in
     let es = entries a.h a.hot.now in
-    map-none 22 a.n _ a.keys.now (rows-wide units a.terms es a.totals.now a.reading a.n a.keys.now a.elsewhere.now s.requires.2)
-    (rows-many units a.terms es a.totals.now a.reading a.n a.keys.now a.elsewhere.now s.requires.2) s.requires.0.fit
+    map-none 22 a.n _ a.keys.now (rows-wide units a.terms es a.totals.now a.reading a.n a.keys.now a.elsewhere.now c.requires.2)
+    (rows-many units a.terms es a.totals.now a.reading a.n a.keys.now a.elsewhere.now c.requires.2) c.requires.0.fit
 
 -- record i is within the words
 inside :
@@ -45,24 +44,21 @@ inside c =
 
 set-key-quota-requires : tie.Need-set_key_quota-requires invariant-loop-i decreases-loop-i
 set-key-quota-requires c κs =
-    let t = c.before.before in
-    let s = start t.before in
-    (lent_key _ _ _ _ _ _ t.loop-i.invariant s.pre.0 t.loop-i-test.true, s.pre.1, s.pre.3, s.pre.4)
+    let s = start c.before.before.before in
+    (lent_key _ _ _ _ _ _ c.loop-i.invariant s.requires.0 c.loop-i-test.true, s.requires.1, s.requires.3, s.requires.4)
 
 loop-again : tie.Need-loop-i-preserved invariant-loop-i decreases-loop-i
 loop-again c =
-    let f = c.before.before in
-    let t = f.before.before.before in
-    let s = start t.before in
+    let s = start c.before.before.before.before.before.before in
     let a = s.args in
-    let l = t.loop-i in
-    let h = t.loop-i-test.true in
+    let l = c.loop-i in
+    let h = c.loop-i-test.true in
     let es = entries a.h a.hot.now in
     map_next _ _ _ _ _ _ l.invariant h _ _ refl
-    (f.set_key_quota.ensures
+    (c.set_key_quota.ensures
     ∙ ap (λ (r : List ℕ). quota_row units a.reading (rate_by a.terms es a.totals.now (get_or a.elsewhere.now l.i false) (key_of units r)) r)
     (map-here _ _ _ _ _ _ l.invariant h)
-    ∙ row_at units a.terms es a.totals.now a.reading a.n a.keys.now a.elsewhere.now s.pre.2 l.i h)
+    ∙ row_at units a.terms es a.totals.now a.reading a.n a.keys.now a.elsewhere.now s.requires.2 l.i h)
 
 pub set_quotas_spec : {M : Type 1} → statement M
 set_quotas_spec =
@@ -77,7 +73,7 @@ set_quotas_spec =
     (λ c. omega (arith, inside c))
     (λ c. omega (arith, inside c))
     (λ c. omega (arith, inside c))
-    (λ c. omega (arith, (start c.before.before.before).pre.2))
+    (λ c. omega (arith, (start c.before.before.before).requires.2))
     set-key-quota-requires
     (λ c. omega arith)
     (λ c. omega arith)

@@ -9,15 +9,11 @@ returns c = share-even _ _ _ _ c.u64_to_f64.result c.if-terms.true c.u64_to_f64.
 
 returns-2 : tie.Need-returns-in-Is
 returns-2 c =
-    let w = c in
-    let a = w.before in
-    share-by _ _ _ _ _ a.if-terms.false (share-given _ a.share.result _ a.share.ensures w.in-Is.is)
+    share-by _ _ _ _ _ c.if-terms.false (share-given _ c.share.result _ c.share.ensures c.in-Is.is)
 
 returns-3 : tie.Need-returns-in-No
 returns-3 c =
-    let a = c.before in
-    let s = a.before.before in
-    absurd (share-never _ a.share.result _ a.share.ensures c.in-No.is s.requires.0 s.requires.1.floor s.requires.1.size)
+    absurd (share-never _ c.share.result _ c.share.ensures c.in-No.is c.requires.0 c.requires.1.floor c.requires.1.size)
 
 pub share_of_spec : {M : Type 1} → statement M
 share_of_spec =

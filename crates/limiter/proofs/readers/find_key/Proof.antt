@@ -22,26 +22,23 @@ found c = sym c.in-At.is ∙ c.find.ensures
 readable : (c : tie.In-At) → Readable (c.in-At.place * 22) (start c.before).args.keys.now
 readable c =
     let s = start c.before in
-    readable-found s.args.limiter s.args.keys.now s.pre s.args.key c.in-At.place (found c)
+    readable-found s.args.limiter s.args.keys.now s.requires s.args.key c.in-At.place (found c)
 
 returns : tie.Need-returns-in-At
 unfolding units_for
 returns c =
-    let k = c.before in
-    let s = start k.before in
-    ap some c.of_words.ensures ∙ sym (ap first (those-key s.args.limiter s.args.keys.now s.pre s.args.key _ (found k)))
+    let s = start c.before.before in
+    ap some c.of_words.ensures ∙ sym (ap first (those-key s.args.limiter s.args.keys.now s.requires s.args.key _ (found c.before)))
 
 returns-2 : tie.Need-returns-in-Gap
 returns-2 c =
-    let f = c.before in
-    let s = start f in
-    sym (ap first (no_key s.args.limiter s.args.keys.now s.pre s.args.key _ (sym c.in-Gap.is ∙ f.find.ensures)))
+    let s = start c.before in
+    sym (ap first (no_key s.args.limiter s.args.keys.now s.requires s.args.key _ (sym c.in-Gap.is ∙ c.find.ensures)))
 
 returns-3 : tie.Need-returns-in-Unfit
 returns-3 c =
-    let f = c.before in
-    let s = start f in
-    never-unfit-key s.args.limiter s.args.keys.now s.pre s.args.key (sym c.in-Unfit.is ∙ f.find.ensures)
+    let s = start c.before in
+    never-unfit-key s.args.limiter s.args.keys.now s.requires s.args.key (sym c.in-Unfit.is ∙ c.find.ensures)
 
 pub find_key_spec : {M : Type 1} → statement M
 find_key_spec =

@@ -12,11 +12,9 @@ good s = key-says units (key_record s.args.state) s.requires
 returns : tie.Need-returns
 unfolding rates_of
 returns c =
-    let d = c.before in
-    let r = d.before in
     (λ i. record {
-      requests_per_sec = r.unbiased_rate.ensures i;
-      denied_per_sec = d.unbiased_rate-2.ensures i;
+      requests_per_sec = c.unbiased_rate.ensures i;
+      denied_per_sec = c.unbiased_rate-2.ensures i;
       shadow_denied_per_sec = c.unbiased_rate-3.ensures i;
     })
 

@@ -19,14 +19,11 @@ asked s =
 returns : tie.Need-returns-in-Is
 unfolding unbiased_rate
 returns c =
-    let r = c in
-    let u = r.before in
-    rate-given (asked u.before) _ r.in-Is.rate u.unbiased_rate.ensures r.in-Is.is
+    rate-given (asked c.before.before) _ c.in-Is.rate c.unbiased_rate.ensures c.in-Is.is
 
 returns-2 : tie.Need-returns-in-No
 returns-2 c =
-    let u = c.before in
-    absurd (rate-never (asked u.before) _ _ u.unbiased_rate.ensures c.in-No.is u.requires)
+    absurd (rate-never (asked c.before.before) _ _ c.unbiased_rate.ensures c.in-No.is c.requires)
 
 pub unbiased_rate_spec : {M : Type 1} → statement M
 unbiased_rate_spec = tie.close (tie.spec (λ c κs. search rules) (λ c. search rules) (λ c. search rules) returns returns-2)

@@ -19,10 +19,10 @@ start l = l.before.before.before.before
 
 -- the record of a turn, and the key that is found for it, are within their tables
 inside : (l : tie.In-loop-i invariant-loop-i decreases-loop-i) → let s = (start l).args in l.loop-i.i * s.w + s.w ≤ length s.t.now
-inside l = let s = start l in omega (arith, row s.args.w s.args.n l.loop-i.i l.loop-i-test.true, s.pre.1)
+inside l = let s = start l in omega (arith, row s.args.w s.args.n l.loop-i.i l.loop-i-test.true, s.requires.1)
 
 key-inside : (c : tie.Else-m-j invariant-loop-i decreases-loop-i) → c.seek-j.result * 22 + 22 ≤ length (start c.before.before.before).args.keys.now
-key-inside c = omega (arith, c.if-m-j.false, (start c.before.before.before).pre.2)
+key-inside c = omega (arith, c.if-m-j.false, (start c.before.before.before).requires.2)
 
 loop-holds : tie.Need-loop-i-init invariant-loop-i decreases-loop-i
 loop-holds c = refl
@@ -34,17 +34,15 @@ mul-id-2 : tie.Need-offset_bounds-t-i invariant-loop-i decreases-loop-i
 mul-id-2 c = omega (arith, inside c)
 
 shared-slice-read-id : tie.Need-bounds-t-i invariant-loop-i decreases-loop-i
-shared-slice-read-id c = omega (arith, inside c.before, (start c.before).pre.0)
+shared-slice-read-id c = omega (arith, inside c.before, (start c.before).requires.0)
 
 seek-requires : tie.Need-seek-j-requires invariant-loop-i decreases-loop-i
-seek-requires c κs = (start c.before).pre.2
+seek-requires c κs = (start c.before).requires.2
 
 returns : tie.Need-returns-then-m-j invariant-loop-i decreases-loop-i
 returns c =
-    let k = c.before in
-    let l = k.before.before in
-    let s = start l in
-    merge-out s.args.w s.args.n s.args.m s.args.t.now s.args.keys.now l.loop-i.i l.loop-i.j s.pre.0 l.loop-i.invariant l.loop-i-test.true k.seek-j.result k.seek-j.ensures c.if-m-j.true
+    let s = start c.before.before.before in
+    merge-out s.args.w s.args.n s.args.m s.args.t.now s.args.keys.now c.loop-i.i c.loop-i.j s.requires.0 c.loop-i.invariant c.loop-i-test.true c.seek-j.result c.seek-j.ensures c.if-m-j.true
 
 mul-if2 : tie.Need-overflow_mul-j invariant-loop-i decreases-loop-i
 mul-if2 c = omega (arith, key-inside c)
@@ -57,11 +55,8 @@ shared-slice-read-if2 c = omega (arith, key-inside c.before)
 
 returns-2 : tie.Need-returns-then-keys-j invariant-loop-i decreases-loop-i
 returns-2 c =
-    let e = c.before.before in
-    let k = e.before in
-    let l = k.before.before in
-    let s = start l in
-    merge-other s.args.w s.args.n s.args.m s.args.t.now s.args.keys.now l.loop-i.i l.loop-i.j s.pre.0 l.loop-i.invariant l.loop-i-test.true k.seek-j.result k.seek-j.ensures e.if-m-j.false c.if-keys-j.true
+    let s = start c.before.before.before.before.before in
+    merge-other s.args.w s.args.n s.args.m s.args.t.now s.args.keys.now c.loop-i.i c.loop-i.j s.requires.0 c.loop-i.invariant c.loop-i-test.true c.seek-j.result c.seek-j.ensures c.if-m-j.false c.if-keys-j.true
 
 add-i : tie.Need-overflow_add-i invariant-loop-i decreases-loop-i
 add-i c = omega (arith, c.loop-i-test.true)
@@ -74,16 +69,12 @@ loop-less c = omega (arith, c.loop-i-test.true)
 
 loop-again : tie.Need-loop-i-preserved invariant-loop-i decreases-loop-i
 loop-again c =
-    let e = c.before.before in
-    let k = e.before in
-    let l = k.before.before in
-    let s = start l in
-    merge-next s.args.w s.args.n s.args.m s.args.t.now s.args.keys.now l.loop-i.i l.loop-i.j s.pre.0 l.loop-i.invariant l.loop-i-test.true k.seek-j.result k.seek-j.ensures e.if-m-j.false c.if-keys-j.false
+    let s = start c.before.before.before.before.before in
+    merge-next s.args.w s.args.n s.args.m s.args.t.now s.args.keys.now c.loop-i.i c.loop-i.j s.requires.0 c.loop-i.invariant c.loop-i-test.true c.seek-j.result c.seek-j.ensures c.if-m-j.false c.if-keys-j.false
 
 returns-3 : tie.Need-returns invariant-loop-i decreases-loop-i
 returns-3 c =
-    let s = c.before.before.before.before in
-    merge-ends s.args.w s.args.n s.args.m s.args.t.now s.args.keys.now c.loop-i.i c.loop-i.j s.requires.0 c.loop-i.invariant c.loop-i-test.false
+    merge-ends c.args.w c.args.n c.args.m c.args.t.now c.args.keys.now c.loop-i.i c.loop-i.j c.requires.0 c.loop-i.invariant c.loop-i-test.false
 
 pub are_among_spec : {M : Type 1} → statement M
 are_among_spec =

@@ -15,10 +15,9 @@ use Rattle.limiter.proofs.scan.are_hot.Tie as tie
 -- what the call tells
 told : (c : tie.After-are_valid) → let s = c.args in c.are_valid.result ≡ are_records are_entry_words (records 6 s.n s.t.now)
 told c =
-    let s = c.before.before.before.before in
     c.are_valid.ensures
-    ∙ entries-told s.args.n s.args.t.now (omega (arith, c.if-size-n.false, s.requires.1))
-    (all_words s.args.t.now (λ i. omega (arith, c.shared_slice_known-1.given i)))
+    ∙ entries-told c.args.n c.args.t.now (omega (arith, c.if-size-n.false, c.requires.1))
+    (all_words c.args.t.now (λ i. omega (arith, c.shared_slice_known-1.given i)))
 
 returns : tie.Need-returns-then-size-n
 returns c =
@@ -27,22 +26,16 @@ returns c =
 
 returns-2 : tie.Need-returns-then-not-are_valid
 returns-2 c =
-    let few = c.before.before in
-    let s = few.args in
-    not-records are_entry_words 6 s.n s.size s.m s.t.now s.keys.now few.if-size-n.false (told-no (told c.before) c.if-not-are_valid.true)
+    let s = c.args in
+    not-records are_entry_words 6 s.n s.size s.m s.t.now s.keys.now c.if-size-n.false (told-no (told c.before) c.if-not-are_valid.true)
 
 are-among-requires : tie.Need-are_among-requires
 are-among-requires c κs =
-    let few = c.before.before in
-    let s = few.before.before.before in
-    (omega arith, omega (arith, few.if-size-n.false, s.requires.1), s.requires.0.fit)
+    (omega arith, omega (arith, c.if-size-n.false, c.requires.1), c.requires.0.fit)
 
 returns-3 : tie.Need-returns
 returns-3 c =
-    let e = c.before in
-    let few = e.before.before in
-    let s = few.before.before.before in
-    c.are_among.ensures ∙ by-merge are_entry_words 6 s.args.n s.args.size s.args.m s.args.t.now s.args.keys.now few.if-size-n.false (omega arith) (omega (arith, few.if-size-n.false, s.requires.1)) s.requires.0 (told-yes (told e.before) e.if-not-are_valid.false)
+    c.are_among.ensures ∙ by-merge are_entry_words 6 c.args.n c.args.size c.args.m c.args.t.now c.args.keys.now c.if-size-n.false (omega arith) (omega (arith, c.if-size-n.false, c.requires.1)) c.requires.0 (told-yes (told c.before.before) c.if-not-are_valid.false)
 
 pub are_hot_spec : {M : Type 1} → statement M
 are_hot_spec =

@@ -14,9 +14,8 @@ are-records-requires c κs = ((omega arith, λ h. refl), omega (arith, c.if-size
 
 returns-2 : tie.Need-returns
 returns-2 c =
-    let e = c.before in
-    let s = e.args in
-    c.are_records.ensures ∙ few_keys units s.size s.n s.t.now e.if-size-n.false
+    let s = c.args in
+    c.are_records.ensures ∙ few_keys units s.size s.n s.t.now c.if-size-n.false
 
 pub are_keys_spec : {M : Type 1} → statement M
 are_keys_spec = tie.close (tie.spec returns are-records-requires returns-2)

@@ -41,9 +41,8 @@ follows-requires c κs = omega (arith, inside c, some c)
 
 returns : tie.Need-returns-then-not-follows invariant-loop-i decreases-loop-i
 returns c =
-    let l = c.before.before in
-    let s = start l in
-    scan-order (are_words units) s.args.w s.args.n s.args.t.now (some l) s.pre.1 l.loop-i.i l.loop-i-test.true (told-no c.follows.ensures c.if-not-follows.true)
+    let s = start c.before.before in
+    scan-order (are_words units) s.args.w s.args.n s.args.t.now (some c.before.before) s.requires.1 c.loop-i.i c.loop-i-test.true (told-no c.follows.ensures c.if-not-follows.true)
 
 add-is-record : tie.Need-overflow_add-at invariant-loop-i decreases-loop-i
 add-is-record c = omega (arith, inside c.before.before)
@@ -63,36 +62,31 @@ lent l = let s = (start l).args in lent-record s.w s.n s.t.now l.loop-i.i l.loop
 
 is-record-requires : tie.Need-is_record-requires invariant-loop-i decreases-loop-i
 is-record-requires c κs =
-    let l = c.before.before.before in
-    let s = start l in
-    rw (ap length (lent l) ∙ record-length s.args.w s.args.n s.args.t.now l.loop-i.i l.loop-i-test.true s.pre.1) s.pre.0
+    let s = start c.before.before.before in
+    rw (ap length (lent c.before.before.before) ∙ record-length s.args.w s.args.n s.args.t.now c.loop-i.i c.loop-i-test.true s.requires.1) s.requires.0
 
-record-told : (c : tie.After-is_record invariant-loop-i decreases-loop-i) → let l = c.before.before.before.before in let s = (start l).args in c.is_record.result ≡ are_words units (get_or (records s.w s.n s.t.now) l.loop-i.i [])
+record-told : (c : tie.After-is_record invariant-loop-i decreases-loop-i) → let l = c in let s = (start l.before.before.before.before).args in c.is_record.result ≡ are_words units (get_or (records s.w s.n s.t.now) l.loop-i.i [])
 record-told c = c.is_record.ensures ∙ ap (are_words units) (lent c.before.before.before.before)
 
 returns-2 : tie.Need-returns-then-not-is_record invariant-loop-i decreases-loop-i
 returns-2 c =
-    let l = c.before.before.before.before.before in
-    let s = start l in
-    scan-record (are_words units) s.args.w s.args.n s.args.t.now (some l) s.pre.1 l.loop-i.i l.loop-i-test.true (told-no (record-told c.before) c.if-not-is_record.true)
+    let s = start c.before.before.before.before.before in
+    scan-record (are_words units) s.args.w s.args.n s.args.t.now (some c.before.before.before.before.before) s.requires.1 c.loop-i.i c.loop-i-test.true (told-no (record-told c.before) c.if-not-is_record.true)
 
 add-i : tie.Need-overflow_add-i invariant-loop-i decreases-loop-i
-add-i c = let l = c.before.before.before.before.before in omega (arith, l.loop-i-test.true)
+add-i c = let l = c in omega (arith, l.loop-i-test.true)
 
 loop-less : tie.Need-loop-i-smaller invariant-loop-i decreases-loop-i
-loop-less c = let l = c.before.before.before.before.before in omega (arith, l.loop-i-test.true)
+loop-less c = let l = c in omega (arith, l.loop-i-test.true)
 
 loop-again : tie.Need-loop-i-preserved invariant-loop-i decreases-loop-i
 loop-again c =
-    let e = c.before.before.before in
-    let l = e.before.before in
-    let s = start l in
-    scan_step (are_words units) s.args.w s.args.n s.args.t.now l.loop-i.i l.loop-i.invariant l.loop-i-test.true (told-yes e.follows.ensures e.if-not-follows.false) (told-yes (record-told c.before) c.if-not-is_record.false)
+    let s = start c.before.before.before.before.before in
+    scan_step (are_words units) s.args.w s.args.n s.args.t.now c.loop-i.i c.loop-i.invariant c.loop-i-test.true (told-yes c.follows.ensures c.if-not-follows.false) (told-yes (record-told c.before) c.if-not-is_record.false)
 
 returns-3 : tie.Need-returns invariant-loop-i decreases-loop-i
 returns-3 c =
-    let s = c.before.before.before in
-    scan-done (are_words units) s.args.w s.args.n s.args.t.now (omega (arith, s.requires.0.0)) s.requires.1 c.loop-i.i c.loop-i.invariant c.loop-i-test.false
+    scan-done (are_words units) c.args.w c.args.n c.args.t.now (omega (arith, c.requires.0.0)) c.requires.1 c.loop-i.i c.loop-i.invariant c.loop-i-test.false
 
 pub are_records_spec : {M : Type 1} → statement M
 are_records_spec =

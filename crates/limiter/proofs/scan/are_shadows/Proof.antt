@@ -18,22 +18,16 @@ are-records-requires c κs = ((omega arith, λ h. absurd (h refl)), omega (arith
 
 returns-2 : tie.Need-returns-then-not-are_records
 returns-2 c =
-    let few = c.before.before in
-    let s = few.args in
-    not-records (are_words units) 4 s.n s.size s.m s.t.now s.keys.now few.if-size-n.false (told-no c.are_records.ensures c.if-not-are_records.true)
+    let s = c.args in
+    not-records (are_words units) 4 s.n s.size s.m s.t.now s.keys.now c.if-size-n.false (told-no c.are_records.ensures c.if-not-are_records.true)
 
 are-among-requires : tie.Need-are_among-requires
 are-among-requires c κs =
-    let few = c.before.before in
-    let s = few.before.before.before in
-    (omega arith, omega (arith, few.if-size-n.false, s.requires.1), s.requires.0.fit)
+    (omega arith, omega (arith, c.if-size-n.false, c.requires.1), c.requires.0.fit)
 
 returns-3 : tie.Need-returns
 returns-3 c =
-    let e = c.before in
-    let few = e.before.before in
-    let s = few.before.before.before in
-    c.are_among.ensures ∙ by-merge (are_words units) 4 s.args.n s.args.size s.args.m s.args.t.now s.args.keys.now few.if-size-n.false (omega arith) (omega (arith, few.if-size-n.false, s.requires.1)) s.requires.0 (told-yes e.are_records.ensures e.if-not-are_records.false)
+    c.are_among.ensures ∙ by-merge (are_words units) 4 c.args.n c.args.size c.args.m c.args.t.now c.args.keys.now c.if-size-n.false (omega arith) (omega (arith, c.if-size-n.false, c.requires.1)) c.requires.0 (told-yes c.are_records.ensures c.if-not-are_records.false)
 
 pub are_shadows_spec : {M : Type 1} → statement M
 are_shadows_spec =

@@ -9,8 +9,7 @@ returns c = first-follows _ _ _ c.if-at-w.true
 
 returns-2 : tie.Need-returns
 returns-2 c =
-    let e = c.before.before in
-    next-follows e.args.w e.args.at e.args.t.now e.if-at-w.false
+    next-follows c.args.w c.args.at c.args.t.now c.if-at-w.false
 
 pub follows_spec : {M : Type 1} → statement M
 follows_spec =

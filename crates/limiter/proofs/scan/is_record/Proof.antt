@@ -8,16 +8,14 @@ use Rattle.limiter.specs.Steps.KeySteps.{units}
 
 returns : tie.Need-returns-then-words-eq-SHADOW_WORDS
 returns c =
-    let t = c.before.before.before.before in
-    c.is_meter.ensures ∙ four_are units t.args.words.now t.if-words-eq-SHADOW_WORDS.true
+    c.is_meter.ensures ∙ four_are units c.args.words.now c.if-words-eq-SHADOW_WORDS.true
 
 is-key-requires : tie.Need-is_key-requires
 is-key-requires c κs = c.requires.1 c.if-words-eq-SHADOW_WORDS.false
 
 returns-2 : tie.Need-returns
 returns-2 c =
-    let e = c.before in
-    c.is_key.ensures ∙ others-are units e.args.words.now e.if-words-eq-SHADOW_WORDS.false
+    c.is_key.ensures ∙ others-are units c.args.words.now c.if-words-eq-SHADOW_WORDS.false
 
 pub is_record_spec : {M : Type 1} → statement M
 is_record_spec =

@@ -34,9 +34,8 @@ shared-slice-read-if1 c = omega (arith, inside c.before)
 
 returns : tie.Need-returns-then-id-keys invariant-loop-j decreases-loop-j
 returns c =
-    let l = c.before.before in
-    let s = (start l).args in
-    seek-stops s.m s.id s.from s.keys.now l.loop-j.j l.loop-j.invariant l.loop-j-test.true c.if-id-keys.true
+    let s = (start c.before.before).args in
+    seek-stops s.m s.id s.from s.keys.now c.loop-j.j c.loop-j.invariant c.loop-j-test.true c.if-id-keys.true
 
 add-j : tie.Need-overflow_add-j invariant-loop-j decreases-loop-j
 add-j c = omega (arith, c.loop-j-test.true)
@@ -46,9 +45,8 @@ loop-less c = omega (arith, c.loop-j-test.true)
 
 loop-again : tie.Need-loop-j-preserved invariant-loop-j decreases-loop-j
 loop-again c =
-    let l = c.before.before in
-    let s = (start l).args in
-    seek-next s.m s.id s.from s.keys.now l.loop-j.j l.loop-j.invariant l.loop-j-test.true c.if-id-keys.false
+    let s = (start c.before.before).args in
+    seek-next s.m s.id s.from s.keys.now c.loop-j.j c.loop-j.invariant c.loop-j-test.true c.if-id-keys.false
 
 returns-2 : tie.Need-returns invariant-loop-j decreases-loop-j
 returns-2 c =

@@ -8,7 +8,7 @@ use Rattle.limiter.proofs.ticks.alpha_at.Statement.{statement}
 use Rattle.limiter.proofs.ticks.alpha_at.Tie as tie
 
 returns : tie.Need-returns-then-known-elapsed
-returns c = let s = c.before.before in s.requires ∙ ap (λ (e : ℕ). alpha_of e s.args.known.time_constant) c.if-known-elapsed.true
+returns c = let s = c in s.requires ∙ ap (λ (e : ℕ). alpha_of e s.args.known.time_constant) c.if-known-elapsed.true
 
 returns-2 : tie.Need-returns
 returns-2 c =

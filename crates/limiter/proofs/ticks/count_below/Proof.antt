@@ -23,8 +23,8 @@ loop-again c =
     let l = c.loop-i in
     let t = c.loop-i-test.true in
     let k = l.invariant in
-    ⊎_elim (λ w. (k.0, omega arith, omega arith, omega (arith, count-more _ _ k.0 _ _ _ t k.3 w.0.taken)))
-    (λ w. (k.0, omega arith, omega arith, omega (arith, count_same _ _ k.0 _ _ _ t k.3 w.0.left))) c.if-ranks-i.branch
+    ⊎_elim (λ w. (k.0, omega arith, omega arith, omega (arith, count-more _ _ k.0 _ _ _ t k.3 w.0.true)))
+    (λ w. (k.0, omega arith, omega arith, omega (arith, count_same _ _ k.0 _ _ _ t k.3 w.0.false))) c.if-ranks-i.branch-raw
 
 returns : tie.Need-returns invariant-loop-i decreases-loop-i
 returns c = let k = c.loop-i.invariant in count-all _ _ k.0 _ _ _ k.1 c.loop-i-test.false k.3

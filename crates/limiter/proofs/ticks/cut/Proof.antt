@@ -17,15 +17,13 @@ loop-holds c = cut-start _ _
 
 loop-again : tie.Need-loop-low-preserved-then-count_below-most invariant-loop-low decreases-loop-low
 loop-again c =
-    let b = c.before in
-    let l = b.loop-low in
-    cut_up _ _ _ _ _ l.invariant (omega arith) (omega (arith, b.count_below.ensures))
+    let l = c.loop-low in
+    cut_up _ _ _ _ _ l.invariant (omega arith) (omega (arith, c.count_below.ensures))
 
 loop-again-2 : tie.Need-loop-low-preserved invariant-loop-low decreases-loop-low
 loop-again-2 c =
-    let b = c.before in
-    let l = b.loop-low in
-    cut_down _ _ _ _ _ l.invariant (omega arith) (omega arith) (omega (arith, b.count_below.ensures))
+    let l = c.loop-low in
+    cut_down _ _ _ _ _ l.invariant (omega arith) (omega arith) (omega (arith, c.count_below.ensures))
 
 pub cut_spec : {M : Type 1} → statement M
 cut_spec =

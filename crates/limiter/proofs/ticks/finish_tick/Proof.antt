@@ -14,49 +14,44 @@ capped c = c.before.before.before.before
 enforce-cap-requires : tie.Need-enforce_cap-left-requires
 unfolding units_for
 enforce-cap-requires c κs =
-    let k = c.before.before.before in
-    let s = start k in
+    let s = start c.before.before.before in
     let a = s.args in
-    let m = k.before.before in (
+    let m = c in (
       quotas-lent a.limiter a.keys.now a.n a.hot.now a.h a.shadows.now a.elsewhere.now a.totals.now a.cluster_size
-          a.even a.reading s.pre _
+          a.even a.reading s.requires _
           (set-as a.limiter a.keys.now a.n a.hot.now a.h a.shadows.now a.elsewhere.now a.totals.now a.cluster_size
-          a.even a.reading s.pre _ m.cap_or_none.result m.cap_or_none.ensures k.set_quotas.ensures),
-      s.pre.hot_lent,
-      s.pre.keys_few,
+          a.even a.reading s.requires _ m.cap_or_none.result m.cap_or_none.ensures c.set_quotas.ensures),
+      s.requires.hot_lent,
+      s.requires.keys_few,
     )
 
 keep-tracked-requires : tie.Need-keep_tracked-tracked-requires
 unfolding units_for
 keep-tracked-requires c κs =
-    let e = c.before.before.before.before in
-    let k = capped e in
+    let k = capped c.before.before.before in
     let s = start k in
     let a = s.args in
-    let m = k.before.before in (
-      s.pre.shadows_fit,
+    let m = k in (
+      s.requires.shadows_fit,
       cap-lent a.limiter a.keys.now a.n a.hot.now a.h a.shadows.now a.elsewhere.now a.totals.now a.cluster_size
-          a.even a.reading s.pre _
+          a.even a.reading s.requires _
           (set-as a.limiter a.keys.now a.n a.hot.now a.h a.shadows.now a.elsewhere.now a.totals.now a.cluster_size
-          a.even a.reading s.pre _ m.cap_or_none.result m.cap_or_none.ensures k.set_quotas.ensures)
-          e.enforce_cap-left.result _ e.enforce_cap-left.ensures,
-      s.pre.shadows_few,
+          a.even a.reading s.requires _ m.cap_or_none.result m.cap_or_none.ensures k.set_quotas.ensures)
+          c.enforce_cap-left.result _ c.enforce_cap-left.ensures,
+      s.requires.shadows_few,
     )
 
 returns : tie.Need-returns
 unfolding units_for
 returns c =
-    let t = c.before.before in
-    let e = t.before.before.before.before.before in
-    let k = capped e in
+    let k = capped c.before.before.before.before.before.before in
     let s = start k in
     let a = s.args in
-    let m = k.before.before in
     finished a.limiter a.keys.now a.n a.hot.now a.h a.shadows.now a.elsewhere.now a.totals.now a.cluster_size
-    a.even a.reading s.pre _
+    a.even a.reading s.requires _
     (set-as a.limiter a.keys.now a.n a.hot.now a.h a.shadows.now a.elsewhere.now a.totals.now a.cluster_size
-    a.even a.reading s.pre _ m.cap_or_none.result m.cap_or_none.ensures k.set_quotas.ensures)
-    e.enforce_cap-left.result _ e.enforce_cap-left.ensures t.keep_tracked-tracked.result _ t.keep_tracked-tracked.ensures
+    a.even a.reading s.requires _ k.cap_or_none.result k.cap_or_none.ensures k.set_quotas.ensures)
+    c.enforce_cap-left.result _ c.enforce_cap-left.ensures c.keep_tracked-tracked.result _ c.keep_tracked-tracked.ensures
 
 pub finish_tick_spec : {M : Type 1} → statement M
 unfolding units_for

@@ -11,20 +11,14 @@ use Rattle.limiter.proofs.ticks.fold_estimate.Tie as tie
 
 returns : tie.Need-returns-then-elapsed-eq0
 returns c =
-    let e = c.before in
-    let s = e.before.before.before in
-    ((refl, s.requires.1), fold_same s.args.at s.args.t.now s.requires.0 s.args.known.time_constant s.args.reading s.requires.2 (sym e.saturating_sub-elapsed.ensures ∙ c.if-elapsed-eq0.true))
+    ((refl, c.requires.1), fold_same c.args.at c.args.t.now c.requires.0 c.args.known.time_constant c.args.reading c.requires.2 (sym c.saturating_sub-elapsed.ensures ∙ c.if-elapsed-eq0.true))
 
 returns-2 : tie.Need-returns
 returns-2 c =
-    let a = c.before.before.before in
-    let e = a.before in
-    let b = e.before in
-    let s = b.before.before.before in
-    let q = a.alpha_at-next.ensures in (
+    let q = c.alpha_at-next.ensures in (
       (ap (λ (x : Alpha). x.time_constant) q, q ∙ ap (λ (x : Alpha). alpha_of x.elapsed x.time_constant) (sym q)),
-      fold-stored s.args.at s.args.t.now s.requires.0 s.args.known.time_constant s.args.reading c.folded_by.result b.saturating_sub-elapsed.result a.alpha_at-next.result.value
-          b.saturating_sub-elapsed.ensures e.if-elapsed-eq0.false (ap (λ (x : Alpha). x.value) q) c.folded_by.ensures,
+      fold-stored c.args.at c.args.t.now c.requires.0 c.args.known.time_constant c.args.reading c.folded_by.result c.saturating_sub-elapsed.result c.alpha_at-next.result.value
+          c.saturating_sub-elapsed.ensures c.if-elapsed-eq0.false (ap (λ (x : Alpha). x.value) q) c.folded_by.ensures,
     )
 
 pub fold_estimate_spec : {M : Type 1} → statement M

@@ -32,7 +32,7 @@ denials s = folded s.args.denial_time_constant s.args.reading (key s).denials
 first : (c : tie.After-fold_estimate-demand) → let s = start c.before in c.fold_estimate-demand.new.0 ≡ key_words units (with_estimates (key s) (demand s) (key s).requests (key s).denials (key s).shadow_denials)
 first c =
     let s = start c.before in
-    folded-3 units (key s) (key s).demand (key s).requests (key s).denials (key s).shadow_denials s.args.r.now s.pre.0.exact (good s).demand _ _ s.args.time_constant s.args.reading s.pre.1.demand_for c.fold_estimate-demand.ensures.1
+    folded-3 units (key s) (key s).demand (key s).requests (key s).denials (key s).shadow_denials s.args.r.now s.requires.0.exact (good s).demand _ _ s.args.time_constant s.args.reading s.requires.1.demand_for c.fold_estimate-demand.ensures.1
 
 abbrev one : tie.After-fold_estimate-arg-2-1 → tie.After-fold_estimate-demand
 one c = c.before.before.before
@@ -41,7 +41,7 @@ second : (c : tie.After-fold_estimate-requests) → let s = start (one c.before)
 second c =
     let f = one c.before in
     let s = start f.before in
-    folded-7 units (key s) (demand s) (key s).requests (key s).denials (key s).shadow_denials _ (first f) (good s).requests _ _ s.args.denial_time_constant s.args.reading s.pre.1.denials_for c.fold_estimate-requests.ensures.1
+    folded-7 units (key s) (demand s) (key s).requests (key s).denials (key s).shadow_denials _ (first f) (good s).requests _ _ s.args.denial_time_constant s.args.reading s.requires.1.denials_for c.fold_estimate-requests.ensures.1
 
 abbrev two : tie.After-fold_estimate-arg-3-1 → tie.After-fold_estimate-requests
 two c = c.before.before.before
@@ -50,7 +50,7 @@ third : (c : tie.After-fold_estimate-denials) → let s = start (one (two c.befo
 third c =
     let f = two c.before in
     let s = start (one f.before).before in
-    folded-11 units (key s) (demand s) (requests s) (key s).denials (key s).shadow_denials _ (second f) (good s).denials _ _ s.args.denial_time_constant s.args.reading (f.fold_estimate-requests.ensures.0.0 ∙ s.pre.1.denials_for) c.fold_estimate-denials.ensures.1
+    folded-11 units (key s) (demand s) (requests s) (key s).denials (key s).shadow_denials _ (second f) (good s).denials _ _ s.args.denial_time_constant s.args.reading (f.fold_estimate-requests.ensures.0.0 ∙ s.requires.1.denials_for) c.fold_estimate-denials.ensures.1
 
 abbrev three : tie.After-fold_estimate-arg-4-1 → tie.After-fold_estimate-denials
 three c = c.before.before.before
@@ -58,15 +58,15 @@ three c = c.before.before.before
 requires-1 : tie.Need-fold_estimate-demand-requires
 requires-1 c κs =
     let s = start c in
-    let w = ready-3 units (key s) (key s).demand (key s).requests (key s).denials (key s).shadow_denials s.args.r.now s.pre.0.exact (good s).demand in
-    (w.0, s.pre.1.demand, w.1)
+    let w = ready-3 units (key s) (key s).demand (key s).requests (key s).denials (key s).shadow_denials s.args.r.now s.requires.0.exact (good s).demand in
+    (w.0, s.requires.1.demand, w.1)
 
 requires-2 : tie.Need-fold_estimate-requests-requires
 requires-2 c κs =
     let f = one c in
     let s = start f.before in
     let w = ready-7 units (key s) (demand s) (key s).requests (key s).denials (key s).shadow_denials _ (first f) (good s).requests in
-    (w.0, s.pre.1.denials, w.1)
+    (w.0, s.requires.1.denials, w.1)
 
 requires-3 : tie.Need-fold_estimate-denials-requires
 requires-3 c κs =
@@ -84,20 +84,19 @@ requires-4 c κs =
 
 returns : tie.Need-returns
 returns c =
-    let h = c.before.before in
-    let g = three h.before in
+    let g = three c.before.before.before in
     let f = two g.before in
     let b = one f.before in
     let s = start b.before in
-    let for = h.fold_estimate-shadow_denials.ensures.0.0 ∙ g.fold_estimate-denials.ensures.0.0 ∙ f.fold_estimate-requests.ensures.0.0 ∙ s.pre.1.denials_for in (
+    let for = c.fold_estimate-shadow_denials.ensures.0.0 ∙ g.fold_estimate-denials.ensures.0.0 ∙ f.fold_estimate-requests.ensures.0.0 ∙ s.requires.1.denials_for in (
       record {
-        demand_for = b.fold_estimate-demand.ensures.0.0 ∙ s.pre.1.demand_for;
+        demand_for = b.fold_estimate-demand.ensures.0.0 ∙ s.requires.1.demand_for;
         demand = b.fold_estimate-demand.ensures.0.1;
         denials_for = for;
-        denials = h.fold_estimate-shadow_denials.ensures.0.1;
+        denials = c.fold_estimate-shadow_denials.ensures.0.1;
       },
       folded-15 units (key s) (demand s) (requests s) (denials s) (key s).shadow_denials _ (third g) (good s).shadow_denials _ _ s.args.denial_time_constant s.args.reading
-          (g.fold_estimate-denials.ensures.0.0 ∙ f.fold_estimate-requests.ensures.0.0 ∙ s.pre.1.denials_for) h.fold_estimate-shadow_denials.ensures.1,
+          (g.fold_estimate-denials.ensures.0.0 ∙ f.fold_estimate-requests.ensures.0.0 ∙ s.requires.1.denials_for) c.fold_estimate-shadow_denials.ensures.1,
     )
 
 pub fold_key_spec : {M : Type 1} → statement M

@@ -24,10 +24,9 @@ start l = l.before.before.before.before
 
 loop-holds : tie.Need-loop-i-init invariant-loop-i decreases-loop-i
 loop-holds c =
-    let s = c.before.before.before in
-    let a = s.args in (
-      map-none 22 a.n _ a.keys.now (folded-wide units a.time_constant a.denial_time_constant a.reading a.n a.keys.now) (folded-many units a.time_constant a.denial_time_constant a.reading a.n a.keys.now) s.requires.fit,
-      first-alphas s.args.time_constant s.args.denial_time_constant _ _ c.first_alpha.ensures c.first_alpha-2.ensures,
+    let a = c.args in (
+      map-none 22 a.n _ a.keys.now (folded-wide units a.time_constant a.denial_time_constant a.reading a.n a.keys.now) (folded-many units a.time_constant a.denial_time_constant a.reading a.n a.keys.now) c.requires.fit,
+      first-alphas c.args.time_constant c.args.denial_time_constant _ _ c.first_alpha.ensures c.first_alpha-2.ensures,
     )
 
 -- record i is within the words
@@ -38,11 +37,9 @@ inside c =
 
 loop-again : tie.Need-loop-i-preserved invariant-loop-i decreases-loop-i
 loop-again c =
-    let f = c.before.before in
-    let t = f.before.before in
-    let s = start t.before in
-    let k = t.loop-i.invariant.0 in
-    (map_next _ _ _ _ _ _ k t.loop-i-test.true _ _ refl (f.fold_key-known.ensures.1 ∙ ap (folded_row units s.args.time_constant s.args.denial_time_constant s.args.reading) (map-here _ _ _ _ _ _ k t.loop-i-test.true) ∙ folded-at units s.args.time_constant s.args.denial_time_constant s.args.reading s.args.n s.args.keys.now t.loop-i.i t.loop-i-test.true), f.fold_key-known.ensures.0)
+    let s = start c.before.before.before.before.before in
+    let k = c.loop-i.invariant.0 in
+    (map_next _ _ _ _ _ _ k c.loop-i-test.true _ _ refl (c.fold_key-known.ensures.1 ∙ ap (folded_row units s.args.time_constant s.args.denial_time_constant s.args.reading) (map-here _ _ _ _ _ _ k c.loop-i-test.true) ∙ folded-at units s.args.time_constant s.args.denial_time_constant s.args.reading s.args.n s.args.keys.now c.loop-i.i c.loop-i-test.true), c.fold_key-known.ensures.0)
 
 pub fold_keys_spec : {M : Type 1} → statement M
 fold_keys_spec =
@@ -59,7 +56,7 @@ fold_keys_spec =
     (λ c. omega (arith, inside c))
     (λ c. omega (arith, inside c))
     (λ c. omega (arith, inside c))
-    (λ c κs. let l = c.loop-i in (lent_key _ _ _ _ _ _ l.invariant.0 (start c.before.before).pre c.loop-i-test.true, l.invariant.1))
+    (λ c κs. let l = c.loop-i in (lent_key _ _ _ _ _ _ l.invariant.0 (start c.before.before).requires c.loop-i-test.true, l.invariant.1))
     (λ c. omega arith)
     (λ c. omega arith)
     loop-again

@@ -6,13 +6,13 @@ use Rattle.limiter.proofs.ticks.is_hot.Statement.{statement}
 use Rattle.limiter.proofs.ticks.is_hot.Tie as tie
 
 returns : tie.Need-returns-in-At
-returns c = let f = c.before in sym (ap is_at c.in-At.is) ∙ hot-found _ _ _ f.requires f.find-found.result f.find-found.ensures
+returns c = let f = c in sym (ap is_at c.in-At.is) ∙ hot-found _ _ _ f.requires f.find-found.result f.find-found.ensures
 
 returns-2 : tie.Need-returns-in-Gap
-returns-2 c = let f = c.before in sym (ap is_at c.in-Gap.is) ∙ hot-found _ _ _ f.requires f.find-found.result f.find-found.ensures
+returns-2 c = let f = c in sym (ap is_at c.in-Gap.is) ∙ hot-found _ _ _ f.requires f.find-found.result f.find-found.ensures
 
 returns-3 : tie.Need-returns-in-Unfit
-returns-3 c = let f = c.before in sym (ap is_at c.in-Unfit.is) ∙ hot-found _ _ _ f.requires f.find-found.result f.find-found.ensures
+returns-3 c = let f = c in sym (ap is_at c.in-Unfit.is) ∙ hot-found _ _ _ f.requires f.find-found.result f.find-found.ensures
 
 pub is_hot_spec : {M : Type 1} → statement M
 is_hot_spec =

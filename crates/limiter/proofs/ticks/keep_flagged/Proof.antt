@@ -16,7 +16,7 @@ abbrev decreases-loop-i : tie.decreases-loop-i
 decreases-loop-i t₀ w n stays kept₀ i₀ t kept i = n - i
 
 loop-holds : tie.Need-loop-i-init invariant-loop-i decreases-loop-i
-loop-holds c = let s = c.before.before in flag-none _ _ _ _ (omega (arith, s.requires)) s.requires.1 s.requires.2
+loop-holds c = let s = c in flag-none _ _ _ _ (omega (arith, s.requires)) s.requires.1 s.requires.2
 
 -- where record i and those kept stand
 inside : (c : tie.In-loop-i invariant-loop-i decreases-loop-i) →
@@ -30,9 +30,8 @@ inside c =
 
 loop-again : tie.Need-loop-i-preserved invariant-loop-i decreases-loop-i
 loop-again c =
-    let l = c.before.before in
-    ⊎_elim (λ w. flag-copy _ _ _ _ _ _ _ l.loop-i.invariant l.loop-i-test.true w.0.taken (w.5 ∙ w.2.ensures.1) w.6)
-    (λ w. flag-skip _ _ _ _ _ _ _ l.loop-i.invariant l.loop-i-test.true w.0.left w.1 w.2) c.if-stays-i.branch
+    ⊎_elim (λ w. flag-copy _ _ _ _ _ _ _ c.loop-i.invariant c.loop-i-test.true w.0.true (w.5 ∙ w.2.ensures.1) w.6)
+    (λ w. flag-skip _ _ _ _ _ _ _ c.loop-i.invariant c.loop-i-test.true w.0.false w.1 w.2) c.if-stays-i.branch-raw
 
 same_length : tie.Need-shape_of-t invariant-loop-i decreases-loop-i
 same_length c = flag-long _ _ _ _ _ _ _ c.loop-i.invariant

@@ -9,10 +9,8 @@ use Rattle.limiter.proofs.ticks.keep_tracked.Tie as tie
 
 returns : tie.Need-returns
 returns c =
-    let k = c.before.before in
-    let m = k.before.before.before.before in
-    let s = m.args in
-    kept_by 4 s.m (λ x. is_tracked (key_records units s.n s.keys.now) (shadow_key units x)) _ _ _ _ m.mark_tracked.ensures k.keep_flagged.ensures
+    let s = c.args in
+    kept_by 4 s.m (λ x. is_tracked (key_records units s.n s.keys.now) (shadow_key units x)) _ _ _ _ c.mark_tracked.ensures c.keep_flagged.ensures
 
 pub keep_tracked_spec : {M : Type 1} → statement M
 keep_tracked_spec = tie.close (tie.spec (λ c. search rules) (λ c κs. search rules) (λ c. search rules) (λ c κs. search rules) (λ c. search rules) returns)

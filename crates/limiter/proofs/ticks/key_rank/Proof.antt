@@ -18,18 +18,16 @@ start c = c.before.before.before.before
 
 returns : tie.Need-returns-then-is_hot
 returns c =
-    let b = c.before in
-    let s = start b in
-    rank-hot units s.args.n s.args.keys.now s.args.i s.pre.2 s.args.time_constant _ (sym b.is_hot.ensures ∙ c.if-is_hot.true)
+    let s = start c.before in
+    rank-hot units s.args.n s.args.keys.now s.args.i s.requires.2 s.args.time_constant _ (sym c.is_hot.ensures ∙ c.if-is_hot.true)
 
 rate-place-requires : tie.Need-rate_place-requires
-rate-place-requires c κs = let s = start c.before.before.before.before in rate-finite units s.args.n s.args.keys.now s.args.i s.pre.2 s.pre.0.valids
+rate-place-requires c κs = let s = start c.before.before.before.before in rate-finite units s.args.n s.args.keys.now s.args.i s.requires.2 s.requires.0.valids
 
 returns-2 : tie.Need-returns
 returns-2 c =
-    let e = c.before.before.before.before in
-    let s = start e.before in
-    c.rate_place.ensures ∙ rank-cold units s.args.n s.args.keys.now s.args.i s.pre.2 s.args.time_constant _ (sym e.is_hot.ensures ∙ e.if-is_hot.false)
+    let s = start c.before.before.before.before.before in
+    c.rate_place.ensures ∙ rank-cold units s.args.n s.args.keys.now s.args.i s.requires.2 s.args.time_constant _ (sym c.is_hot.ensures ∙ c.if-is_hot.false)
 
 pub key_rank_spec : {M : Type 1} → statement M
 key_rank_spec =

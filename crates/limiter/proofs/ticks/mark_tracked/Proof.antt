@@ -38,10 +38,9 @@ loop-holds c = fill_none _ _ _ c.requires.2
 
 loop-again : tie.Need-loop-i-preserved invariant-loop-i decreases-loop-i
 loop-again c =
-    let t = c.before.before in
-    let l = t.loop-i in
-    let a = (start t).args in
-    let h = t.loop-i-test.true in
+    let l = c.loop-i in
+    let a = (start c.before.before).args in
+    let h = c.loop-i-test.true in
     fill_more c.is_tracked.result _ l.invariant h
     (rows-from 4 (test a.n a.keys.now) a.m a.shadows.now l.i h c.is_tracked.result
     (c.is_tracked.ensures ∙ ap (is_tracked (key_records units a.n a.keys.now)) (shadow-key-at units a.m a.shadows.now l.i h)))
@@ -62,7 +61,7 @@ mark_tracked_spec =
     (λ c. omega (arith, inside c))
     (λ c. omega (arith, inside c))
     (λ c. omega (arith, inside c.before))
-    (λ c κs. (start c.before).pre.1)
+    (λ c κs. (start c.before).requires.1)
     (λ c. omega (arith, c.loop-i.invariant.fit))
     (λ c. omega arith)
     (λ c. omega arith)

@@ -28,11 +28,10 @@ loop-holds c = fill_none _ _ _ c.requires.2
 
 loop-again : tie.Need-loop-i-preserved invariant-loop-i decreases-loop-i
 loop-again c =
-    let t = c.before in
-    let l = t.loop-i in
-    let a = t.args in
-    fill_more c.key_rank.result _ l.invariant t.loop-i-test.true
-    (rows-from 22 (rank a.h a.hot.now a.time_constant) a.n a.keys.now l.i t.loop-i-test.true c.key_rank.result c.key_rank.ensures)
+    let l = c.loop-i in
+    let a = c.args in
+    fill_more c.key_rank.result _ l.invariant c.loop-i-test.true
+    (rows-from 22 (rank a.h a.hot.now a.time_constant) a.n a.keys.now l.i c.loop-i-test.true c.key_rank.result c.key_rank.ensures)
 
 returns : tie.Need-returns invariant-loop-i decreases-loop-i
 returns c =
@@ -47,7 +46,7 @@ rank_keys_spec =
     invariant-loop-i
     decreases-loop-i
     loop-holds
-    (λ c κs. let s = c.before.before.before.before.before in (s.requires.0, s.requires.1, c.loop-i-test.true))
+    (λ c κs. let s = c in (s.requires.0, s.requires.1, c.loop-i-test.true))
     (λ c. omega (arith, c.loop-i.invariant.fit))
     (λ c. omega (arith, c.loop-i.invariant.fit))
     (λ c. omega arith)

@@ -10,35 +10,24 @@ use Rattle.gcra.proofs.Packed.Encoding.{units-accepted}
 
 sub-result : tie.Need-overflow_sub-result
 sub-result c =
-    let i = c.before.before.before.before in
-    let f = i.before in
-    let s = f.before.before.before in
     omega (
       arith,
-      (found-shadow units units-accepted s.args.n s.args.shadows.now s.requires s.args.key i.in-At.place
-          (sym i.in-At.is ∙ f.find.ensures)).0,
+      (found-shadow units units-accepted c.args.n c.args.shadows.now c.requires c.args.key c.in-At.place
+          (sym c.in-At.is ∙ c.find.ensures)).0,
     )
 
 returns : tie.Need-returns-in-At
 returns c =
-    let o = c.before.before in
-    let i = o.before.before in
-    let f = i.before in
-    let s = f.before.before.before in
-    shadow-out units units-accepted s.args.n s.args.shadows.now s.requires s.args.key i.in-At.place (sym i.in-At.is ∙ f.find.ensures) _
-    o.remove.ensures.1
+    shadow-out units units-accepted c.args.n c.args.shadows.now c.requires c.args.key c.in-At.place (sym c.in-At.is ∙ c.find.ensures) _
+    c.remove.ensures.1
 
 returns-2 : tie.Need-returns-in-Gap
 returns-2 c =
-    let f = c.before in
-    let s = f.before.before.before in
-    shadow-kept units units-accepted s.args.n s.args.shadows.now s.requires s.args.key _ (sym c.in-Gap.is ∙ f.find.ensures)
+    shadow-kept units units-accepted c.args.n c.args.shadows.now c.requires c.args.key _ (sym c.in-Gap.is ∙ c.find.ensures)
 
 returns-3 : tie.Need-returns-in-Unfit
 returns-3 c =
-    let f = c.before in
-    let s = f.before.before.before in
-    never-unfit-shadow units units-accepted s.args.n s.args.shadows.now s.requires s.args.key (sym c.in-Unfit.is ∙ f.find.ensures)
+    never-unfit-shadow units units-accepted c.args.n c.args.shadows.now c.requires c.args.key (sym c.in-Unfit.is ∙ c.find.ensures)
 
 pub drop_shadow_spec : {M : Type 1} → statement M
 drop_shadow_spec =

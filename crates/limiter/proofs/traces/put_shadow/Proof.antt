@@ -11,24 +11,16 @@ use Rattle.gcra.proofs.Packed.Encoding.{units-accepted}
 
 returns : tie.Need-returns-then-entry
 returns c =
-    let o = c.before.before in
-    let t = o.before.before.before in
-    let m = t.before in
-    let s = m.before.before.before in
-    shadow-over units units-accepted s.args.n s.args.shadows.now s.requires.0 s.args.key s.args.entry.place
-    (sym (ap (λ (b : Bool). found_as b s.args.entry.place) t.if-entry.true) ∙ s.requires.1.0)
-    s.args.entry.gcra _ _ (shadow-words units s.args.key s.args.entry.gcra _ m.meter_words-meter.ensures) o.overwrite.ensures.1
+    shadow-over units units-accepted c.args.n c.args.shadows.now c.requires.0 c.args.key c.args.entry.place
+    (sym (ap (λ (b : Bool). found_as b c.args.entry.place) c.if-entry.true) ∙ c.requires.1.0)
+    c.args.entry.gcra _ _ (shadow-words units c.args.key c.args.entry.gcra _ c.meter_words-meter.ensures) c.overwrite.ensures.1
 
 returns-2 : tie.Need-returns
 returns-2 c =
-    let o = c.before.before in
-    let t = o.before.before.before in
-    let m = t.before in
-    let s = m.before.before.before in
-    shadow-in units units-accepted s.args.n s.args.shadows.now s.requires.0 s.args.key s.args.entry.place
-    (sym (ap (λ (b : Bool). found_as b s.args.entry.place) t.if-entry.false) ∙ s.requires.1.0)
-    s.args.entry.gcra _ _ s.requires.1.1.1 (shadow-words units s.args.key s.args.entry.gcra _ m.meter_words-meter.ensures)
-    o.insert.ensures.1
+    shadow-in units units-accepted c.args.n c.args.shadows.now c.requires.0 c.args.key c.args.entry.place
+    (sym (ap (λ (b : Bool). found_as b c.args.entry.place) c.if-entry.false) ∙ c.requires.1.0)
+    c.args.entry.gcra _ _ c.requires.1.1.1 (shadow-words units c.args.key c.args.entry.gcra _ c.meter_words-meter.ensures)
+    c.insert.ensures.1
 
 pub put_shadow_spec : {M : Type 1} → statement M
 put_shadow_spec =

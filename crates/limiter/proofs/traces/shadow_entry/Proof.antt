@@ -24,7 +24,7 @@ found c = sym c.in-At.is ∙ c.find.ensures
 
 within : (c : tie.In-At) → c.in-At.place * 4 + 4 ≤ length (start c).args.shadows.now
 within c = let s = start c in
-    (found-shadow units units-accepted s.args.n s.args.shadows.now s.pre.0 s.args.key c.in-At.place (found c)).1
+    (found-shadow units units-accepted s.args.n s.args.shadows.now s.requires.0 s.args.key c.in-At.place (found c)).1
 
 mul-meter-of-words : tie.Need-overflow_mul-place
 mul-meter-of-words c = omega (arith, within c)
@@ -35,46 +35,39 @@ add-meter-of-words c = omega (arith, within c)
 meter-of-words-requires : tie.Need-meter_of_words-known-requires
 meter-of-words-requires c κs =
     let s = start c in
-    (omega (arith, within c), found_word units units-accepted s.args.n s.args.shadows.now s.pre.0 s.args.key c.in-At.place (found c))
+    (omega (arith, within c), found_word units units-accepted s.args.n s.args.shadows.now s.requires.0 s.args.key c.in-At.place (found c))
 
 under-quota-requires : tie.Need-under_quota-requires
 under-quota-requires c κs =
-    let k = c.before in
-    let s = start k in (
+    let s = start c.before in (
       ap (λ (g : Gcra). valid_quota units g.quota) c.meter_of_words-known.ensures
-          ∙ found-quota units units-accepted s.args.n s.args.shadows.now s.pre.0 s.args.key k.in-At.place (found k),
-      s.pre.1,
+          ∙ found-quota units units-accepted s.args.n s.args.shadows.now s.requires.0 s.args.key c.in-At.place (found c.before),
+      s.requires.1,
     )
 
 returns : tie.Need-returns-in-At
 returns c =
-    let k = c.before.before in
-    let s = start k in
+    let s = start c.before.before in
     record {
       meter = c.under_quota.ensures ∙ ap (λ (g : Gcra). set_quota g s.args.wanted s.args.reading) c.meter_of_words-known.ensures
-          ∙ meter-found units units-accepted s.args.n s.args.shadows.now s.pre.0 s.args.key k.in-At.place (found k) s.args.wanted
+          ∙ meter-found units units-accepted s.args.n s.args.shadows.now s.requires.0 s.args.key c.in-At.place (found c.before.before) s.args.wanted
           s.args.reading;
-      place = found k;
+      place = found c.before.before;
     }
 
 returns-2 : tie.Need-returns-in-Gap
 returns-2 c =
-    let g = c in
-    let f = g.before in
-    let s = f.before.before in
-    let e = sym g.in-Gap.is ∙ f.find.ensures in
+    let e = sym c.in-Gap.is ∙ c.find.ensures in
     record {
       meter =
-          meter-fresh units units-accepted s.args.n s.args.shadows.now s.requires.0 s.args.key g.in-Gap.place e s.args.wanted
-          s.args.reading;
+          meter-fresh units units-accepted c.args.n c.args.shadows.now c.requires.0 c.args.key c.in-Gap.place e c.args.wanted
+          c.args.reading;
       place = e;
     }
 
 returns-3 : tie.Need-returns-in-Unfit
 returns-3 c =
-    let f = c.before in
-    let s = f.before.before in
-    never-unfit-shadow units units-accepted s.args.n s.args.shadows.now s.requires.0 s.args.key (sym c.in-Unfit.is ∙ f.find.ensures)
+    never-unfit-shadow units units-accepted c.args.n c.args.shadows.now c.requires.0 c.args.key (sym c.in-Unfit.is ∙ c.find.ensures)
 
 pub shadow_entry_spec : {M : Type 1} → statement M
 shadow_entry_spec =

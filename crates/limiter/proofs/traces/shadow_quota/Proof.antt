@@ -17,20 +17,15 @@ use Rattle.limiter.proofs.traces.shadow_quota.Tie as tie
 returns : tie.Need-returns-in-Is
 unfolding shadow_quota quota_rate
 returns c =
-    let m = c.before.before.before in
-    let o = m.before in
-    let s = o.before in
     c.quota_for.ensures
-    ∙ ap (λ (x : Float). per_second units (div binary64 (mul binary64 x s.args.shadow.rate) s.args.limit.rate) s.args.shadow.burst)
-    (given_is (ask_quota s.args.quota) _ (rate_per_sec s.args.quota) o.rate_per_sec.ensures (sym (ap rate_answer m.in-Is.is)))
+    ∙ ap (λ (x : Float). per_second units (div binary64 (mul binary64 x c.args.shadow.rate) c.args.limit.rate) c.args.shadow.burst)
+    (given_is (ask_quota c.args.quota) _ (rate_per_sec c.args.quota) c.rate_per_sec.ensures (sym (ap rate_answer c.in-Is.is)))
 
 returns-2 : tie.Need-returns-in-No
 unfolding quota_rate passes
 returns-2 c =
-    let o = c.before in
-    let s = o.before in
-    never-refused (ask_quota s.args.quota) _ (rate_per_sec s.args.quota) (and_intro (valid_quota units s.args.quota) true s.requires refl)
-    o.rate_per_sec.ensures (sym (ap rate_answer c.in-No.is))
+    never-refused (ask_quota c.args.quota) _ (rate_per_sec c.args.quota) (and_intro (valid_quota units c.args.quota) true c.requires refl)
+    c.rate_per_sec.ensures (sym (ap rate_answer c.in-No.is))
 
 pub shadow_quota_spec : {M : Type 1} → statement M
 shadow_quota_spec = tie.close (tie.spec (λ c κs. search rules) (λ c. search rules) (λ c κs. search rules) (λ c. search rules) returns returns-2)

@@ -19,26 +19,20 @@ found s = entry (units_in s.args.limiter) (keys_only s.args.limiter s.args.keys.
 
 returns : tie.Need-returns-in-No
 returns c =
-    let o = c.before.before.before.before in
-    let s = o.before.before.before.before in
-    let h = o.check_key-checked.ensures in
-    traces-no s.args.limiter s.args.keys.now s.args.shadows.now s.args.key s.args.reading (found s) none
-    (decision (found s).gcra s.args.reading)
+    let h = c.check_key-checked.ensures in
+    traces-no c.args.limiter c.args.keys.now c.args.shadows.now c.args.key c.args.reading (found c.before.before.before.before.before.before.before.before) none
+    (decision (found c.before.before.before.before.before.before.before.before).gcra c.args.reading)
     c.in-No.no _ _ (sym (ap check_answer c.in-No.is) ∙ h.says) h.limiter h.words
 
 returns-2 : tie.Need-returns-in-Is
 unfolding units_for
 returns-2 c =
-    let d = c.before.before.before in
-    let i = d.before.before in
-    let o = i.before.before.before.before in
-    let s = o.before.before.before.before in
-    let h = o.check_key-checked.ensures in
+    let h = c.check_key-checked.ensures in
     let p = given-passed
-    (traced_asks s.args.limiter s.args.keys.now s.args.shadows.now s.args.key s.args.reading (found s) none) _ _
-    (sym (ap check_answer i.in-Is.is) ∙ h.says) in
-    traces-yes s.args.limiter s.args.keys.now s.args.shadows.now s.args.key s.args.reading (found s) none p.0
-    _ _ _ _ _ _ _ p.1 refl h.limiter h.words d.drop_shadow-count.ensures c.with_shadows.ensures
+    (traced_asks c.args.limiter c.args.keys.now c.args.shadows.now c.args.key c.args.reading (found c.before.before.before.before.before.before.before.before.before.before.before.before.before) none) _ _
+    (sym (ap check_answer c.in-Is.is) ∙ h.says) in
+    traces-yes c.args.limiter c.args.keys.now c.args.shadows.now c.args.key c.args.reading (found c.before.before.before.before.before.before.before.before.before.before.before.before.before) none p.0
+    _ _ _ _ _ _ _ p.1 refl h.limiter h.words c.drop_shadow-count.ensures c.with_shadows.ensures
 
 pub trace_none_spec : {M : Type 1} → statement M
 unfolding units_for

@@ -18,20 +18,17 @@ use Rattle.limiter.proofs.States.StateValidLaws.{units-of-accepted}
 -- the key's quota is valid
 quota : (o : tie.After-entry-found) → valid_quota (units_in o.args.limiter) o.entry-found.result.state.gcra.quota ≡ true
 quota o =
-    let s = o.before.before.before.before in
-    entry-quota s.args.limiter s.args.keys.now s.requires.0 s.args.key s.args.limit s.args.reading s.args.cluster_size
-    s.requires.1.1.0.0 _ o.entry-found.ensures
+    entry-quota o.args.limiter o.args.keys.now o.requires.0 o.args.key o.args.limit o.args.reading o.args.cluster_size
+    o.requires.1.1.0.0 _ o.entry-found.ensures
 
 -- so is the shadow's
-wanted : (w : tie.After-shadow_quota-wanted) → let o = w.before.before.before.before.before in valid_quota (units_in o.args.limiter) w.shadow_quota-wanted.result ≡ true
+wanted : (w : tie.After-shadow_quota-wanted) → let o = w in valid_quota (units_in o.args.limiter) w.shadow_quota-wanted.result ≡ true
 unfolding shadow_quota units_for
 wanted w =
-    let o = w.before.before.before.before.before in
-    let s = o.before.before.before.before in
-    ap (valid_quota (units_in s.args.limiter)) w.shadow_quota-wanted.ensures
-    ∙ per-second-valid (units_in s.args.limiter) (units-of-accepted (settings_of s.args.limiter))
-    (div binary64 (mul binary64 (rate_per_sec o.entry-found.result.state.gcra.quota) s.args.shadow.rate) s.args.limit.rate)
-    s.args.shadow.burst s.requires.1.1.0.1
+    ap (valid_quota (units_in w.args.limiter)) w.shadow_quota-wanted.ensures
+    ∙ per-second-valid (units_in w.args.limiter) (units-of-accepted (settings_of w.args.limiter))
+    (div binary64 (mul binary64 (rate_per_sec w.entry-found.result.state.gcra.quota) w.args.shadow.rate) w.args.limit.rate)
+    w.args.shadow.burst w.requires.1.1.0.1
 
 ask-meter-requires : tie.Need-ask_meter-asked-requires
 unfolding units_for
@@ -39,69 +36,50 @@ ask-meter-requires c κs = quota c.before.before
 
 shadow-quota-requires : tie.Need-shadow_quota-wanted-requires
 unfolding units_for
-shadow-quota-requires c κs = quota c.before.before.before.before
+shadow-quota-requires c κs = quota c.before.before.before.before.before
 
 try-shadow-requires : tie.Need-try_shadow-tried-requires
 unfolding units_for
 try-shadow-requires c κs =
-    let w = c.before in
-    let s = w.before.before.before.before.before.before.before.before.before in
-    (s.requires.1.0, wanted w)
+    (c.requires.1.0, wanted c)
 
 raise-requires : tie.Need-raise-raised-requires
 raise-requires c κs =
-    let m = c.before.before.before.before.before.before in
-    let o = m.before.before.before in
-    let s = o.before.before.before.before in (
+    let s = c in (
       s.requires.0,
       (
         entry-placed s.args.limiter s.args.keys.now s.requires.0 s.args.key s.args.limit s.args.reading s.args.cluster_size
-            s.requires.1.1.0.0 _ o.entry-found.ensures,
-        ap (λ (g : Gcra). valid_quota (units_in s.args.limiter) g.quota) m.ask_meter-asked.ensures.1
-            ∙ ap (valid_quota (units_in s.args.limiter)) (check-quota o.entry-found.result.state.gcra s.args.reading) ∙ quota o,
+            s.requires.1.1.0.0 _ c.entry-found.ensures,
+        ap (λ (g : Gcra). valid_quota (units_in s.args.limiter) g.quota) c.ask_meter-asked.ensures.1
+            ∙ ap (valid_quota (units_in s.args.limiter)) (check-quota c.entry-found.result.state.gcra s.args.reading) ∙ quota c.before.before.before.before.before.before.before.before.before.before,
       ),
     )
 
 returns : tie.Need-returns-then-raised-ne0
 unfolding units_for
 returns c =
-    let x = c.before.before.before.before.before in
-    let d₂ = x.before.before in
-    let t = d₂.before in
-    let w = t.before.before in
-    let d₁ = w.before in
-    let m = d₁.before in
-    let o = m.before.before.before in
-    let s = o.before.before.before.before in
-    with-no s.args.limiter s.args.keys.now s.args.shadows.now s.args.key s.args.limit s.args.shadow s.args.reading
-    s.args.cluster_size o.entry-found.result o.entry-found.ensures
-    m.ask_meter-asked.result.decision m.ask_meter-asked.result.gcra w.shadow_quota-wanted.result t.try_shadow-tried.result d₁.denied-denials.result
-    d₂.denied-tried_denials.result x.raise-raised.result x.raise-raised.new.1.0
-    m.ask_meter-asked.ensures.0 m.ask_meter-asked.ensures.1 w.shadow_quota-wanted.ensures t.try_shadow-tried.ensures d₁.denied-denials.ensures
-    d₂.denied-tried_denials.ensures x.raise-raised.ensures c.if-raised-ne0.true
+    with-no c.args.limiter c.args.keys.now c.args.shadows.now c.args.key c.args.limit c.args.shadow c.args.reading
+    c.args.cluster_size c.entry-found.result c.entry-found.ensures
+    c.ask_meter-asked.result.decision c.ask_meter-asked.result.gcra c.shadow_quota-wanted.result c.try_shadow-tried.result c.denied-denials.result
+    c.denied-tried_denials.result c.raise-raised.result c.raise-raised.new.1.0
+    c.ask_meter-asked.ensures.0 c.ask_meter-asked.ensures.1 c.shadow_quota-wanted.ensures c.try_shadow-tried.ensures c.denied-denials.ensures
+    c.denied-tried_denials.ensures c.raise-raised.ensures c.if-raised-ne0.true
 
 put-shadow-requires : tie.Need-put_shadow-count-requires
 unfolding units_for
 put-shadow-requires c κs =
-    let x = c.before.before.before.before.before.before in
-    let d₂ = x.before.before in
-    let t = d₂.before in
-    let w = t.before.before in
-    let d₁ = w.before in
-    let m = d₁.before in
-    let o = m.before.before.before in
-    let s = o.before.before.before.before in (
+    let s = c in (
       s.requires.1.0,
       (
-        t.try_shadow-tried.ensures.place,
+        c.try_shadow-tried.ensures.place,
         (
-          t.try_shadow-tried.ensures.quota,
+          c.try_shadow-tried.ensures.quota,
           with-room s.args.limiter s.args.keys.now s.args.shadows.now s.args.key s.args.limit s.args.shadow
-              s.args.reading s.args.cluster_size o.entry-found.result o.entry-found.ensures
-              m.ask_meter-asked.result.decision m.ask_meter-asked.result.gcra w.shadow_quota-wanted.result t.try_shadow-tried.result d₁.denied-denials.result
-              d₂.denied-tried_denials.result x.raise-raised.result x.raise-raised.new.1.0
-              m.ask_meter-asked.ensures.0 m.ask_meter-asked.ensures.1 w.shadow_quota-wanted.ensures t.try_shadow-tried.ensures d₁.denied-denials.ensures
-              d₂.denied-tried_denials.ensures x.raise-raised.ensures s.requires.1.1.1 c.if-raised-ne0.false,
+              s.args.reading s.args.cluster_size c.entry-found.result c.entry-found.ensures
+              c.ask_meter-asked.result.decision c.ask_meter-asked.result.gcra c.shadow_quota-wanted.result c.try_shadow-tried.result c.denied-denials.result
+              c.denied-tried_denials.result c.raise-raised.result c.raise-raised.new.1.0
+              c.ask_meter-asked.ensures.0 c.ask_meter-asked.ensures.1 c.shadow_quota-wanted.ensures c.try_shadow-tried.ensures c.denied-denials.ensures
+              c.denied-tried_denials.ensures c.raise-raised.ensures s.requires.1.1.1 c.if-raised-ne0.false,
         ),
       ),
     )
@@ -109,23 +87,13 @@ put-shadow-requires c κs =
 returns-2 : tie.Need-returns
 unfolding units_for
 returns-2 c =
-    let p = c.before.before.before in
-    let e = p.before.before in
-    let x = e.before.before.before.before.before in
-    let d₂ = x.before.before in
-    let t = d₂.before in
-    let w = t.before.before in
-    let d₁ = w.before in
-    let m = d₁.before in
-    let o = m.before.before.before in
-    let s = o.before.before.before.before in
-    with-yes s.args.limiter s.args.keys.now s.args.shadows.now s.args.key s.args.limit s.args.shadow s.args.reading
-    s.args.cluster_size o.entry-found.result o.entry-found.ensures
-    m.ask_meter-asked.result.decision m.ask_meter-asked.result.gcra w.shadow_quota-wanted.result t.try_shadow-tried.result d₁.denied-denials.result
-    d₂.denied-tried_denials.result x.raise-raised.result x.raise-raised.new.1.0
-    m.ask_meter-asked.ensures.0 m.ask_meter-asked.ensures.1 w.shadow_quota-wanted.ensures t.try_shadow-tried.ensures d₁.denied-denials.ensures
-    d₂.denied-tried_denials.ensures x.raise-raised.ensures e.if-raised-ne0.false
-    _ _ _ p.put_shadow-count.ensures c.with_shadows.ensures
+    with-yes c.args.limiter c.args.keys.now c.args.shadows.now c.args.key c.args.limit c.args.shadow c.args.reading
+    c.args.cluster_size c.entry-found.result c.entry-found.ensures
+    c.ask_meter-asked.result.decision c.ask_meter-asked.result.gcra c.shadow_quota-wanted.result c.try_shadow-tried.result c.denied-denials.result
+    c.denied-tried_denials.result c.raise-raised.result c.raise-raised.new.1.0
+    c.ask_meter-asked.ensures.0 c.ask_meter-asked.ensures.1 c.shadow_quota-wanted.ensures c.try_shadow-tried.ensures c.denied-denials.ensures
+    c.denied-tried_denials.ensures c.raise-raised.ensures c.if-raised-ne0.false
+    _ _ _ c.put_shadow-count.ensures c.with_shadows.ensures
 
 pub trace_with_spec : {M : Type 1} → statement M
 trace_with_spec =

@@ -15,24 +15,20 @@ use Rattle.limiter.proofs.traces.try_shadow.Tie as tie
 -- the shadow's quota is valid
 quota : (o : tie.After-shadow_entry-found) → valid_quota units o.shadow_entry-found.result.gcra.quota ≡ true
 quota o =
-    let s = o.before.before in
     ap (λ (g : Gcra). valid_quota units g.quota) o.shadow_entry-found.ensures.meter
-    ∙ meter-valid units units-accepted s.args.n s.args.shadows.now s.requires.0 s.args.key s.args.wanted s.args.reading s.requires.1
+    ∙ meter-valid units units-accepted o.args.n o.args.shadows.now o.requires.0 o.args.key o.args.wanted o.args.reading o.requires.1
 
 ask-meter-requires : tie.Need-ask_meter-asked-requires
-ask-meter-requires c κs = quota c
+ask-meter-requires c κs = quota c.before
 
 returns : tie.Need-returns
 returns c =
-    let m = c.before in
-    let o = m.before in
-    let s = o.before.before in
     record {
-      would = m.ask_meter-asked.ensures.0 ∙ ap (λ (g : Gcra). decision g s.args.reading) o.shadow_entry-found.ensures.meter;
-      left = m.ask_meter-asked.ensures.1 ∙ ap (λ (g : Gcra). check g s.args.reading) o.shadow_entry-found.ensures.meter;
-      place = o.shadow_entry-found.ensures.place;
-      quota = ap (λ (g : Gcra). valid_quota units g.quota) m.ask_meter-asked.ensures.1
-          ∙ ap (valid_quota units) (check-quota o.shadow_entry-found.result.gcra s.args.reading) ∙ quota o;
+      would = c.ask_meter-asked.ensures.0 ∙ ap (λ (g : Gcra). decision g c.args.reading) c.shadow_entry-found.ensures.meter;
+      left = c.ask_meter-asked.ensures.1 ∙ ap (λ (g : Gcra). check g c.args.reading) c.shadow_entry-found.ensures.meter;
+      place = c.shadow_entry-found.ensures.place;
+      quota = ap (λ (g : Gcra). valid_quota units g.quota) c.ask_meter-asked.ensures.1
+          ∙ ap (valid_quota units) (check-quota c.shadow_entry-found.result.gcra c.args.reading) ∙ quota c.before.before.before;
     }
 
 pub try_shadow_spec : {M : Type 1} → statement M

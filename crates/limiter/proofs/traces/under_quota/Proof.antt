@@ -23,10 +23,9 @@ asked g q v w =
 
 returns : tie.Need-returns
 returns c =
-    let s = c.before.before in
     c.set_quota-set.ensures.left
-    ∙ sym (changed-passed (set_quota s.args.gcra s.args.wanted s.args.reading) s.args.gcra
-    (ask_quotas s.args.gcra s.args.wanted) (asked s.args.gcra s.args.wanted s.requires.0 s.requires.1))
+    ∙ sym (changed-passed (set_quota c.args.gcra c.args.wanted c.args.reading) c.args.gcra
+    (ask_quotas c.args.gcra c.args.wanted) (asked c.args.gcra c.args.wanted c.requires.0 c.requires.1))
 
 pub under_quota_spec : {M : Type 1} → statement M
 under_quota_spec = tie.close (tie.spec (λ c κs. search rules) returns)

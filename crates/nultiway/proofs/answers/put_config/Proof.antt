@@ -13,13 +13,9 @@ use Rattle.nultiway.proofs.answers.put_config.Tie as tie
 
 returns-2 : tie.Need-returns-in-Is
 returns-2 c =
-    let p = c.before.before in
-    let w = p.before.before.before in
-    let m = w.before in
-    let s = m.before.before in
-    said_put (config_answer s.args.said) config_words s.args.to.now _ _
-    (ap (λ (x : ConfigAnswer). config_answer x) m.in-Is.is)
-    (p.put.ensures ∙ ap (λ (k : List ℕ). paste 0 k s.args.to.now) w.config_words-w.ensures)
+    said_put (config_answer c.args.said) config_words c.args.to.now _ _
+    (ap (λ (x : ConfigAnswer). config_answer x) c.in-Is.is)
+    (c.put.ensures ∙ ap (λ (k : List ℕ). paste 0 k c.args.to.now) c.config_words-w.ensures)
 
 pub put_config_spec : {M : Type 1} → statement M
 put_config_spec =

@@ -13,12 +13,8 @@ use Rattle.nultiway.proofs.answers.put_decision.Tie as tie
 
 returns-2 : tie.Need-returns-in-Is
 returns-2 c =
-    let p = c.before.before in
-    let w = p.before.before.before in
-    let m = w.before in
-    let s = m.before.before in
-    said_put (check_answer s.args.said) decision_words s.args.to.now _ _ (ap (λ (x : CheckAnswer). check_answer x) m.in-Is.is)
-    (p.put.ensures ∙ ap (λ (k : List ℕ). paste 0 k s.args.to.now) w.decision_words-w.ensures)
+    said_put (check_answer c.args.said) decision_words c.args.to.now _ _ (ap (λ (x : CheckAnswer). check_answer x) c.in-Is.is)
+    (c.put.ensures ∙ ap (λ (k : List ℕ). paste 0 k c.args.to.now) c.decision_words-w.ensures)
 
 pub put_decision_spec : {M : Type 1} → statement M
 put_decision_spec =

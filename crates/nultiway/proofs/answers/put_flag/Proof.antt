@@ -13,13 +13,9 @@ use Rattle.nultiway.proofs.answers.put_flag.Tie as tie
 
 returns-2 : tie.Need-returns-in-Is
 returns-2 c =
-    let p = c.before.before in
-    let w = p.before.before.before in
-    let m = w.before in
-    let s = m.before.before in
-    said_put (flag_answer s.args.said) flag_words s.args.to.now _ _
-    (ap (λ (x : FlagAnswer). flag_answer x) m.in-Is.is)
-    (p.put.ensures ∙ ap (λ (b : ℕ). paste 0 (b ∷ []) s.args.to.now) w.flag_word.ensures)
+    said_put (flag_answer c.args.said) flag_words c.args.to.now _ _
+    (ap (λ (x : FlagAnswer). flag_answer x) c.in-Is.is)
+    (c.put.ensures ∙ ap (λ (b : ℕ). paste 0 (b ∷ []) c.args.to.now) c.flag_word.ensures)
 
 pub put_flag_spec : {M : Type 1} → statement M
 put_flag_spec =

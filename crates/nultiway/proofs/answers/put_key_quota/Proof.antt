@@ -10,21 +10,15 @@ use Rattle.nultiway.proofs.answers.put_key_quota.Tie as tie
 
 returns-2 : tie.Need-returns-in-Untracked
 returns-2 c =
-    let p = c.before.before in
-    let m = p.before.before.before in
-    let s = m.before.before in
-    said_put (key_quota_answer s.args.said) key_quota_words s.args.to.now _ _
-    (ap (λ (x : KeyQuotaAnswer). key_quota_answer x) m.in-Untracked.is)
-    p.put.ensures
+    said_put (key_quota_answer c.args.said) key_quota_words c.args.to.now _ _
+    (ap (λ (x : KeyQuotaAnswer). key_quota_answer x) c.in-Untracked.is)
+    c.put.ensures
 
 returns-3 : tie.Need-returns-in-Is
 returns-3 c =
-    let p = c.before.before in
-    let m = p.before.before.before.before in
-    let s = m.before.before in
-    said_put (key_quota_answer s.args.said) key_quota_words s.args.to.now _ _
-    (ap (λ (x : KeyQuotaAnswer). key_quota_answer x) m.in-Is.is)
-    p.put-in-Is.ensures
+    said_put (key_quota_answer c.args.said) key_quota_words c.args.to.now _ _
+    (ap (λ (x : KeyQuotaAnswer). key_quota_answer x) c.in-Is.is)
+    c.put-in-Is.ensures
 
 pub put_key_quota_spec : {M : Type 1} → statement M
 put_key_quota_spec =

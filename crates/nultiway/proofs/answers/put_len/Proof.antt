@@ -10,10 +10,7 @@ use Rattle.nultiway.proofs.answers.put_len.Tie as tie
 
 returns-2 : tie.Need-returns-in-Is
 returns-2 c =
-    let p = c.before.before in
-    let m = p.before.before.before in
-    let s = m.before.before in
-    said_put (len_answer s.args.said) one_word s.args.to.now _ _ (ap (λ (x : LenAnswer). len_answer x) m.in-Is.is) p.put.ensures
+    said_put (len_answer c.args.said) one_word c.args.to.now _ _ (ap (λ (x : LenAnswer). len_answer x) c.in-Is.is) c.put.ensures
 
 pub put_len_spec : {M : Type 1} → statement M
 put_len_spec =

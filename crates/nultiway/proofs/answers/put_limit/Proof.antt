@@ -13,22 +13,15 @@ use Rattle.nultiway.proofs.answers.put_limit.Tie as tie
 
 returns-2 : tie.Need-returns-in-Untracked
 returns-2 c =
-    let p = c.before.before in
-    let m = p.before.before.before in
-    let s = m.before.before in
-    said_put (limit_answer s.args.said) limit_words s.args.to.now _ _
-    (ap (λ (x : LimitAnswer). limit_answer x) m.in-Untracked.is)
-    p.put.ensures
+    said_put (limit_answer c.args.said) limit_words c.args.to.now _ _
+    (ap (λ (x : LimitAnswer). limit_answer x) c.in-Untracked.is)
+    c.put.ensures
 
 returns-3 : tie.Need-returns-in-Is
 returns-3 c =
-    let p = c.before.before in
-    let w = p.before.before.before.before in
-    let m = w.before in
-    let s = m.before.before in
-    said_put (limit_answer s.args.said) limit_words s.args.to.now _ _
-    (ap (λ (x : LimitAnswer). limit_answer x) m.in-Is.is)
-    (p.put-in-Is.ensures ∙ ap (λ (b : ℕ). paste 0 (1 ∷ b ∷ m.in-Is.limit.burst ∷ []) s.args.to.now) w.to_bits.ensures)
+    said_put (limit_answer c.args.said) limit_words c.args.to.now _ _
+    (ap (λ (x : LimitAnswer). limit_answer x) c.in-Is.is)
+    (c.put-in-Is.ensures ∙ ap (λ (b : ℕ). paste 0 (1 ∷ b ∷ c.in-Is.limit.burst ∷ []) c.args.to.now) c.to_bits.ensures)
 
 pub put_limit_spec : {M : Type 1} → statement M
 put_limit_spec =

@@ -10,11 +10,8 @@ use Rattle.nultiway.proofs.answers.put_new.Tie as tie
 
 returns-2 : tie.Need-returns-in-Is
 returns-2 c =
-    let p = c.before.before in
-    let m = p.before.before in
-    let s = m.before.before in
-    said_put (limiter_answer s.args.said) limiter_words s.args.to.now _ _ (ap (λ (x : LimiterAnswer). limiter_answer x) m.in-Is.is)
-    p.put_limiter.ensures
+    said_put (limiter_answer c.args.said) limiter_words c.args.to.now _ _ (ap (λ (x : LimiterAnswer). limiter_answer x) c.in-Is.is)
+    c.put_limiter.ensures
 
 pub put_new_spec : {M : Type 1} → statement M
 put_new_spec =

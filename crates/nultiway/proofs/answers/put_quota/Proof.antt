@@ -10,12 +10,9 @@ use Rattle.nultiway.proofs.answers.put_quota.Tie as tie
 
 returns-2 : tie.Need-returns-in-Is
 returns-2 c =
-    let p = c.before.before in
-    let m = p.before.before.before.before in
-    let s = m.before.before in
-    said_put (quota_answer s.args.said) quota_words s.args.to.now _ _
-    (ap (λ (x : QuotaAnswer). quota_answer x) m.in-Is.is)
-    p.put.ensures
+    said_put (quota_answer c.args.said) quota_words c.args.to.now _ _
+    (ap (λ (x : QuotaAnswer). quota_answer x) c.in-Is.is)
+    c.put.ensures
 
 pub put_quota_spec : {M : Type 1} → statement M
 put_quota_spec =

@@ -13,13 +13,9 @@ use Rattle.nultiway.proofs.answers.put_rate.Tie as tie
 
 returns-2 : tie.Need-returns-in-Is
 returns-2 c =
-    let p = c.before.before in
-    let w = p.before.before.before in
-    let m = w.before in
-    let s = m.before.before in
-    said_put (rate_answer s.args.said) float_words s.args.to.now _ _
-    (ap (λ (x : RateAnswer). rate_answer x) m.in-Is.is)
-    (p.put.ensures ∙ ap (λ (b : ℕ). paste 0 (b ∷ []) s.args.to.now) w.to_bits.ensures)
+    said_put (rate_answer c.args.said) float_words c.args.to.now _ _
+    (ap (λ (x : RateAnswer). rate_answer x) c.in-Is.is)
+    (c.put.ensures ∙ ap (λ (b : ℕ). paste 0 (b ∷ []) c.args.to.now) c.to_bits.ensures)
 
 pub put_rate_spec : {M : Type 1} → statement M
 put_rate_spec =

@@ -13,22 +13,15 @@ use Rattle.nultiway.proofs.answers.put_rates.Tie as tie
 
 returns-2 : tie.Need-returns-in-Untracked
 returns-2 c =
-    let p = c.before.before in
-    let m = p.before.before.before in
-    let s = m.before.before in
-    said_put (rates_answer s.args.said) rates_words s.args.to.now _ _
-    (ap (λ (x : RatesAnswer). rates_answer x) m.in-Untracked.is)
-    p.put.ensures
+    said_put (rates_answer c.args.said) rates_words c.args.to.now _ _
+    (ap (λ (x : RatesAnswer). rates_answer x) c.in-Untracked.is)
+    c.put.ensures
 
 returns-3 : tie.Need-returns-in-Is
 returns-3 c =
-    let p = c.before.before in
-    let w = p.before.before.before in
-    let m = w.before in
-    let s = m.before.before in
-    said_put (rates_answer s.args.said) rates_words s.args.to.now _ _
-    (ap (λ (x : RatesAnswer). rates_answer x) m.in-Is.is)
-    (p.put-in-Is.ensures ∙ ap (λ (k : List ℕ). paste 0 k s.args.to.now) w.rates_words-w.ensures)
+    said_put (rates_answer c.args.said) rates_words c.args.to.now _ _
+    (ap (λ (x : RatesAnswer). rates_answer x) c.in-Is.is)
+    (c.put-in-Is.ensures ∙ ap (λ (k : List ℕ). paste 0 k c.args.to.now) c.rates_words-w.ensures)
 
 pub put_rates_spec : {M : Type 1} → statement M
 put_rates_spec =

@@ -10,21 +10,15 @@ use Rattle.nultiway.proofs.answers.put_since.Tie as tie
 
 returns-2 : tie.Need-returns-in-NotHot
 returns-2 c =
-    let p = c.before.before in
-    let m = p.before.before.before in
-    let s = m.before.before in
-    said_put (since_answer s.args.said) time_words s.args.to.now _ _
-    (ap (λ (x : SinceAnswer). since_answer x) m.in-NotHot.is)
-    p.put.ensures
+    said_put (since_answer c.args.said) time_words c.args.to.now _ _
+    (ap (λ (x : SinceAnswer). since_answer x) c.in-NotHot.is)
+    c.put.ensures
 
 returns-3 : tie.Need-returns-in-Since
 returns-3 c =
-    let p = c.before.before in
-    let m = p.before.before.before in
-    let s = m.before.before in
-    said_put (since_answer s.args.said) time_words s.args.to.now _ _
-    (ap (λ (x : SinceAnswer). since_answer x) m.in-Since.is)
-    p.put-in-Since.ensures
+    said_put (since_answer c.args.said) time_words c.args.to.now _ _
+    (ap (λ (x : SinceAnswer). since_answer x) c.in-Since.is)
+    c.put-in-Since.ensures
 
 pub put_since_spec : {M : Type 1} → statement M
 put_since_spec =

@@ -13,13 +13,9 @@ use Rattle.nultiway.proofs.answers.put_traced.Tie as tie
 
 returns-2 : tie.Need-returns-in-Is
 returns-2 c =
-    let p = c.before.before in
-    let w = p.before.before.before in
-    let m = w.before in
-    let s = m.before.before in
-    said_put (traced_answer s.args.said) traced_words s.args.to.now _ _
-    (ap (λ (x : TracedAnswer). traced_answer x) m.in-Is.is)
-    (p.put.ensures ∙ ap (λ (k : List ℕ). paste 0 k s.args.to.now) w.traced_words-w.ensures)
+    said_put (traced_answer c.args.said) traced_words c.args.to.now _ _
+    (ap (λ (x : TracedAnswer). traced_answer x) c.in-Is.is)
+    (c.put.ensures ∙ ap (λ (k : List ℕ). paste 0 k c.args.to.now) c.traced_words-w.ensures)
 
 pub put_traced_spec : {M : Type 1} → statement M
 put_traced_spec =

@@ -12,11 +12,10 @@ use Rattle.nultiway.proofs.answers.shadow_words.Tie as tie
 
 returns-2 : tie.Need-returns-in-Is
 returns-2 c =
-    let m = c.before in
     let e = c.decision_words-w.ensures in
     (λ i. 1 ∷ get_or (e i) 0 0 ∷ get_or (e i) 1 0 ∷ [])
-    ∙ decision-apart m.in-Is.decision
-    ∙ sym (ap (λ (x : ShadowDecision). shadow_words (shadows_decision x)) m.in-Is.is)
+    ∙ decision-apart c.in-Is.decision
+    ∙ sym (ap (λ (x : ShadowDecision). shadow_words (shadows_decision x)) c.in-Is.is)
 
 pub shadow_words_spec : {M : Type 1} → statement M
 shadow_words_spec =

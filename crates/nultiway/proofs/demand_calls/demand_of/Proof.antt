@@ -6,9 +6,7 @@ use Rattle.nultiway.proofs.demand_calls.demand_of.Tie as tie
 
 returns : tie.Need-returns
 returns c =
-    let f = c.before.before in
-    let t = f.before.before in
-    demand-read t.args.words.now f.from_bits-current_rate.ensures t.times_of-times.ensures
+    demand-read c.args.words.now c.from_bits-current_rate.ensures c.times_of-times.ensures
 
 pub demand_of_spec : {M : Type 1} → statement M
 demand_of_spec =

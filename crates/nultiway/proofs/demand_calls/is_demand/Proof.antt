@@ -7,8 +7,7 @@ use Rattle.nultiway.proofs.demand_calls.is_demand.Tie as tie
 
 returns : tie.Need-returns-then-is_time
 returns c =
-    let t = c.before.before.before in
-    goes _ _ _ (sym t.is_time.ensures ∙ t.if-is_time.true) c.is_time-then-is_time.ensures
+    goes _ _ _ (sym c.is_time.ensures ∙ c.if-is_time.true) c.is_time-then-is_time.ensures
 
 returns-2 : tie.Need-returns-else-is_time
 returns-2 c = stop _ _ (sym c.is_time.ensures ∙ c.if-is_time.false)

@@ -26,11 +26,8 @@ put-flag-requires c κs = leb-true _ _ (passed c.before.before.before).fits
 
 returns-2 : tie.Need-returns
 returns-2 c =
-    let p = c.before.before in
-    let k = p.before in
-    let d = k.before.before in
-    passed-call _ _ (passed d.before).all
-    (tells d.demand_of-read.ensures k.has_pending.result k.has_pending.ensures p.put_flag.ensures.0 p.put_flag.ensures.1)
+    passed-call _ _ (passed c.before.before.before.before.before.before).all
+    (tells c.demand_of-read.ensures c.has_pending.result c.has_pending.ensures c.put_flag.ensures.0 c.put_flag.ensures.1)
 
 pub nultiway_demand_has_pending_spec : {M : Type 1} → statement M
 nultiway_demand_has_pending_spec =

@@ -26,11 +26,8 @@ put-rate-requires c κs = leb-true _ _ (passed c.before.before.before).fits
 
 returns-2 : tie.Need-returns
 returns-2 c =
-    let p = c.before.before in
-    let k = p.before in
-    let d = k.before.before in
-    passed-call _ _ (passed d.before).all
-    (tells d.demand_of-read.ensures k.rate.result k.rate.ensures p.put_rate.ensures.0 p.put_rate.ensures.1)
+    passed-call _ _ (passed c.before.before.before.before.before.before).all
+    (tells c.demand_of-read.ensures c.rate.result c.rate.ensures c.put_rate.ensures.0 c.put_rate.ensures.1)
 
 pub nultiway_demand_rate_spec : {M : Type 1} → statement M
 nultiway_demand_rate_spec =

@@ -17,18 +17,15 @@ returns : tie.Need-returns-then-no-ne0
 returns c = refused-call _ _ c.ask_demand-no.ensures c.if-no-ne0.true refl
 
 demand-of-requires : tie.Need-demand_of-before-requires
-demand-of-requires c κs = (passed c.before).long
+demand-of-requires c κs = (passed c).long
 
 put-changed-requires : tie.Need-put_changed-requires
-put-changed-requires c κs = (passed c.before.before.before.before).long
+put-changed-requires c κs = (passed c.before.before.before).long
 
 returns-2 : tie.Need-returns
 returns-2 c =
-    let p = c.before.before in
-    let k = p.before in
-    let d = k.before.before in
-    passed-call _ _ (passed d.before.before).all
-    (tells d.demand_of-before.ensures k.record_attempts.result k.record_attempts.ensures p.put_changed.ensures.0 p.put_changed.ensures.1)
+    passed-call _ _ (passed c.before.before.before.before.before.before).all
+    (tells c.demand_of-before.ensures c.record_attempts.result c.record_attempts.ensures c.put_changed.ensures.0 c.put_changed.ensures.1)
 
 pub nultiway_demand_record_attempts_spec : {M : Type 1} → statement M
 nultiway_demand_record_attempts_spec =

@@ -8,14 +8,12 @@ use Rattle.nultiway.proofs.demand_calls.nultiway_demand_starting_at.Tie as tie
 
 returns-2 : tie.Need-returns
 returns-2 c =
-    let p = c.before.before in
-    let k = p.before in
-    called-room k.if-demand-lt-DEMAND_WORDS.false
+    called-room c.if-demand-lt-DEMAND_WORDS.false
     record {
-      result = k.starting_at.result;
-      kept = ap given k.starting_at.ensures;
+      result = c.starting_at.result;
+      kept = ap given c.starting_at.ensures;
       number = refl;
-      answer = p.put_demand.ensures;
+      answer = c.put_demand.ensures;
     }
 
 pub nultiway_demand_starting_at_spec : {M : Type 1} → statement M

@@ -18,13 +18,13 @@ returns : tie.Need-returns-then-no-ne0
 returns c = refused-call _ _ c.ask_gcra-no.ensures c.if-no-ne0.true (refl, refl)
 
 gcra-of-requires : tie.Need-gcra_of-meter-requires
-gcra-of-requires c κs = let p = passed c.before in (p.long, p.gcra)
+gcra-of-requires c κs = let p = passed c in (p.long, p.gcra)
 
 put-gcra-requires : tie.Need-put_gcra-requires
-put-gcra-requires c κs = (passed c.before.before.before.before.before).long
+put-gcra-requires c κs = (passed c.before.before.before.before).long
 
 put-decision-requires : tie.Need-put_decision-requires
-put-decision-requires c κs = room_fits _ _ (passed c.before.before.before.before.before.before.before.before.before).fits
+put-decision-requires c κs = room_fits _ _ (passed c.before.before.before.before.before.before.before.before).fits
 
 returns-2 : tie.Need-returns
 returns-2 c =
@@ -32,7 +32,7 @@ returns-2 c =
     let check = c.check-checked in
     let put-decision = c.put_decision in
     let put-gcra = c.put_gcra in
-    passed-call _ _ (passed c.before.before.before.before.before.before.before.before.before.before.before.before).all
+    passed-call _ _ (passed c.before.before.before.before.before.before.before.before.before.before.before).all
     (answers gcra-of.ensures check.result check.ensures put-decision.ensures.0 put-gcra.ensures put-decision.ensures.1)
 
 pub nultiway_gcra_check_spec : {M : Type 1} → statement M

@@ -17,17 +17,17 @@ returns : tie.Need-returns-then-no-ne0
 returns c = refused-call _ _ c.ask_gcra-no.ensures c.if-no-ne0.true refl
 
 gcra-of-requires : tie.Need-gcra_of-meter-requires
-gcra-of-requires c κs = let p = passed c.before in (p.long, p.gcra)
+gcra-of-requires c κs = let p = passed c in (p.long, p.gcra)
 
 put-gcra-requires : tie.Need-put_gcra-requires
-put-gcra-requires c κs = (passed c.before.before.before.before.before).long
+put-gcra-requires c κs = (passed c.before.before.before.before).long
 
 returns-2 : tie.Need-returns
 returns-2 c =
     let gcra-of = c.gcra_of-meter in
     let set-quota = c.set_quota-set in
     let put-gcra = c.put_gcra in
-    passed-call _ _ (passed c.before.before.before.before.before.before.before.before.before).all
+    passed-call _ _ (passed c.before.before.before.before.before.before.before.before).all
     (changes gcra-of.ensures set-quota.result set-quota.ensures c.set_number.ensures put-gcra.ensures)
 
 pub nultiway_gcra_set_quota_spec : {M : Type 1} → statement M

@@ -19,10 +19,9 @@ put-updated-each-requires c κs =
 
 returns-2 : tie.Need-returns
 returns-2 c =
-    let m₁ = c.before.before.before.before.before.before.before.before in
-    let if1 = m₁.if-hot_set-lt-HOT_SET_WORDS in
-    let hot-set-of = m₁.hot_set_of-set in
-    let update-each = m₁.update_each-said in
+    let if1 = c.if-hot_set-lt-HOT_SET_WORDS in
+    let hot-set-of = c.hot_set_of-set in
+    let update-each = c.update_each-said in
     let put-updated-each = c.put_updated_each in
     called-room if1.false
     (tells hot-set-of.ensures update-each.result update-each.ensures put-updated-each.ensures.0 put-updated-each.ensures.1)

@@ -21,22 +21,21 @@ returns : tie.Need-returns-then-not-are_long
 returns c = called-no c.are_long.ensures c.if-not-are_long.true (refl, refl, refl)
 
 hot-set-of-requires : tie.Need-hot_set_of-set-requires
-hot-set-of-requires c κs = (long c.before).0
+hot-set-of-requires c κs = (long c).0
 
 put-hot-set-requires : tie.Need-put_hot_set-requires
-put-hot-set-requires c κs = (long c.before.before.before.before.before.before.before.before).0
+put-hot-set-requires c κs = (long c.before.before.before.before.before.before.before).0
 
 put-updated-requires : tie.Need-put_updated-requires
-put-updated-requires c κs = (long c.before.before.before.before.before.before.before.before.before.before.before.before).1
+put-updated-requires c κs = (long c.before.before.before.before.before.before.before.before.before.before.before).1
 
 returns-2 : tie.Need-returns
 returns-2 c =
-    let m₁ = c.before.before.before.before.before.before.before.before.before.before.before in
-    let a = m₁.args in
-    let are-long = m₁.are_long in
-    let if1 = m₁.if-not-are_long in
-    let hot-set-of = m₁.hot_set_of-set in
-    let update-with = m₁.update_with-said in
+    let a = c.args in
+    let are-long = c.are_long in
+    let if1 = c.if-not-are_long in
+    let hot-set-of = c.hot_set_of-set in
+    let update-with = c.update_with-said in
     let hot-set-left = c.hot_set_left in
     let put-hot-set = c.put_hot_set in
     let put-updated = c.put_updated in

@@ -15,20 +15,16 @@ returns c = refused-call _ 1 (first-no 1 [] (told-no c.are_long.ensures c.if-not
 
 put-loaded-requires : tie.Need-put_loaded-requires
 put-loaded-requires c κs =
-    let m₁ = c.before.before.before.before.before.before.before.before.before.before.before.before in
-    let m₂ = m₁.before.before.before.before.before.before.before.before.before.before.before.before in
-    let a = m₂.args in
-    let are-long = m₁.are_long in
-    let if1 = m₁.if-not-are_long in
+    let a = c.args in
+    let are-long = c.are_long in
+    let if1 = c.if-not-are_long in
     both_long 16 (length a.limiter.now) 3 (length a.peers.now) (told-yes are-long.ensures if1.false)
 
 returns-2 : tie.Need-returns
 returns-2 c =
-    let m₁ = c.before.before.before.before.before.before.before.before.before.before.before.before in
-    let m₂ = m₁.before.before.before.before.before.before.before.before.before.before.before.before in
-    let are-long = m₂.are_long in
-    let if1 = m₂.if-not-are_long in
-    let load = m₁.load-said in
+    let are-long = c.are_long in
+    let if1 = c.if-not-are_long in
+    let load = c.load-said in
     let put-loaded = c.put_loaded in
     passed-call _ _ (room-passed _ (told-yes are-long.ensures if1.false))
     record {

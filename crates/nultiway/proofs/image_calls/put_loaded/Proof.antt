@@ -13,8 +13,7 @@ returns c =
 
 returns-2 : tie.Need-returns-in-Is
 returns-2 c =
-    let m₁ = c.before.before.before.before.before.before.before.before.before.before in
-    let a = m₁.args in
+    let a = c.args in
     let said2 = c.said2 in
     let put-limiter = c.put_limiter in
     let put-peers = c.put_peers in

@@ -32,11 +32,10 @@ limiter-of-requires c κs = (passed c).long
 
 returns-2 : tie.Need-returns
 returns-2 c =
-    let l = c.before in
-    let s = start l.before.before in
+    let s = start c.before.before.before in
     c.ask.ensures
-    ∙ ap (λ (x : Limiter). first_no (state_questions x (lent s))) l.limiter_of-limiter.ensures
-    ∙ first_rest (limiter_asked s.args.limiter.now (lengths (lent s)) true) _ (passed l.before).passed
+    ∙ ap (λ (x : Limiter). first_no (state_questions x (lent s))) c.limiter_of-limiter.ensures
+    ∙ first_rest (limiter_asked s.args.limiter.now (lengths (lent s)) true) _ (passed c.before.before).passed
 
 pub nultiway_limiter_ask_spec : {M : Type 1} → statement M
 nultiway_limiter_ask_spec =

@@ -12,11 +12,8 @@ returns c = refused-call _ 1 (first-no 1 _ (lt-leb _ _ c.if-limiter-lt-LIMITER_W
 
 returns-2 : tie.Need-returns
 returns-2 c =
-    let p = c.before.before in
-    let n = p.before in
-    let e = n.before.before in
-    passed-call _ _ (room-passed _ (le-leb _ _ e.if-limiter-lt-LIMITER_WORDS.false))
-    (tells refl n.new.result n.new.ensures p.put_new.ensures.0 p.put_new.ensures.1)
+    passed-call _ _ (room-passed _ (le-leb _ _ c.if-limiter-lt-LIMITER_WORDS.false))
+    (tells refl c.new.result c.new.ensures c.put_new.ensures.0 c.put_new.ensures.1)
 
 pub nultiway_limiter_new_spec : {M : Type 1} → statement M
 nultiway_limiter_new_spec =

@@ -8,7 +8,7 @@ use Rattle.nultiway.proofs.limiter_changes.nultiway_record.Statement.{statement}
 use Rattle.nultiway.proofs.limiter_changes.nultiway_record.Tie as tie
 
 abbrev start : tie.After-ask_limiter-no → tie.Start
-start a = a.before.before.before.before.before.before
+start a = a.before.before.before.before.before
 
 -- the questions of the lent words are passed
 passed :
@@ -22,7 +22,7 @@ returns c = refused-call _ _ c.ask_limiter-no.ensures c.if-no-ne0.true (refl, re
 
 -- where the crate is called, and what comes before it
 abbrev entered : tie.After-record-changed → tie.Else-no-ne0
-entered k = k.before.before.before.before
+entered k = k.before.before.before
 
 abbrev called : tie.After-put_limiter-arg-1 → tie.After-record-changed
 called a = a.before.before.before.before
@@ -35,12 +35,10 @@ put-limiter-requires c κs = (passed (entered (called c))).long
 
 returns-2 : tie.Need-returns
 returns-2 c =
-    let w = c.before.before.before in
-    let k = called w.before in
-    let l = k.before.before in
+    let k = called c.before.before.before.before in
     passed-call _ _ (passed (entered k)).passed
-    (changes l.limiter_of-before.ensures k.record-changed.result k.record-changed.ensures
-    c.change_number.ensures w.put_limiter.ensures)
+    (changes k.limiter_of-before.ensures k.record-changed.result k.record-changed.ensures
+    c.change_number.ensures c.put_limiter.ensures)
 
 pub nultiway_record_spec : {M : Type 1} → statement M
 nultiway_record_spec =

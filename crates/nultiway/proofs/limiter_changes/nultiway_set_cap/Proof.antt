@@ -8,7 +8,7 @@ use Rattle.nultiway.proofs.limiter_changes.nultiway_set_cap.Statement.{statement
 use Rattle.nultiway.proofs.limiter_changes.nultiway_set_cap.Tie as tie
 
 abbrev start : tie.After-ask_limiter-no → tie.Start
-start a = a.before.before.before.before.before.before
+start a = a.before.before.before.before.before
 
 -- the questions of the lent words are passed
 passed :
@@ -22,7 +22,7 @@ returns c = refused-call _ _ c.ask_limiter-no.ensures c.if-no-ne0.true refl
 
 -- where the crate is called, and what comes before it
 abbrev entered : tie.After-set_cap-changed → tie.Else-no-ne0
-entered k = k.before.before.before.before
+entered k = k.before.before.before
 
 abbrev called : tie.After-put_limiter-arg-1 → tie.After-set_cap-changed
 called a = a.before.before
@@ -35,13 +35,10 @@ put-limiter-requires c κs = (passed (entered (called c))).long
 
 returns-2 : tie.Need-returns
 returns-2 c =
-    let w = c.before.before.before in
-    let k = called w.before in
-    let g = k.before in
-    let l = g.before in
+    let k = called c.before.before.before.before in
     passed-call _ _ (passed (entered k)).passed
-    (changes (λ i. (l.limiter_of-before.ensures i, g.cap_given.ensures i)) k.set_cap-changed.result k.set_cap-changed.ensures
-    c.change_number.ensures w.put_limiter.ensures)
+    (changes (λ i. (k.limiter_of-before.ensures i, k.cap_given.ensures i)) k.set_cap-changed.result k.set_cap-changed.ensures
+    c.change_number.ensures c.put_limiter.ensures)
 
 pub nultiway_set_cap_spec : {M : Type 1} → statement M
 nultiway_set_cap_spec =

@@ -13,7 +13,7 @@ use Rattle.nultiway.proofs.limiter_changes.nultiway_tick_with_shares.Statement.{
 use Rattle.nultiway.proofs.limiter_changes.nultiway_tick_with_shares.Tie as tie
 
 abbrev start : tie.After-ask_limiter-no → tie.Start
-start a = a.before.before.before.before.before.before.before.before.before.before.before
+start a = a.before.before.before.before.before.before.before.before.before.before
 
 -- how many words the limiter's tables have, and whether the peers have room
 abbrev long : tie.Start → Lengths
@@ -40,29 +40,26 @@ returns c = refused-call _ _ (asked c.before) c.if-no-ne0.true (refl, refl)
 
 -- where the crate is called, and what comes before it
 abbrev entered : tie.After-tick_with_shares-changed → tie.Else-no-ne0
-entered k = k.before.before.before.before.before.before.before
+entered k = k.before.before.before.before.before.before
 
 abbrev called : tie.After-put_limiter-arg-1 → tie.After-tick_with_shares-changed
 called a = a.before.before.before.before.before.before.before.before
 
 limiter-of-requires : tie.Need-limiter_of-before-requires
-limiter-of-requires c κs = (passed c.before).long
+limiter-of-requires c κs = (passed c).long
 
 peers-of-requires : tie.Need-peers_of-demand-requires
-peers-of-requires c κs = peers-three _ _ (passed c.before.before).others
+peers-of-requires c κs = peers-three _ _ (passed c.before).others
 
 put-limiter-requires : tie.Need-put_limiter-requires
 put-limiter-requires c κs = (passed (entered (called c))).long
 
 returns-2 : tie.Need-returns
 returns-2 c =
-    let w = c.before.before.before in
-    let k = called w.before in
-    let g = k.before.before.before.before in
-    let l = g.before in
+    let k = called c.before.before.before.before in
     passed-call _ _ (passed (entered k)).passed
-    (changes (λ i. (l.limiter_of-before.ensures i, g.peers_of-demand.ensures i)) k.tick_with_shares-changed.result k.tick_with_shares-changed.ensures
-    c.change_number.ensures w.put_limiter.ensures)
+    (changes (λ i. (k.limiter_of-before.ensures i, k.peers_of-demand.ensures i)) k.tick_with_shares-changed.result k.tick_with_shares-changed.ensures
+    c.change_number.ensures c.put_limiter.ensures)
 
 pub nultiway_tick_with_shares_spec : {M : Type 1} → statement M
 nultiway_tick_with_shares_spec =

@@ -12,7 +12,7 @@ use Rattle.nultiway.proofs.limiter_checks.nultiway_check_each.Statement.{stateme
 use Rattle.nultiway.proofs.limiter_checks.nultiway_check_each.Tie as tie
 
 abbrev start : tie.After-ask_limiter-no → tie.Start
-start a = a.before.before.before.before.before.before.before.before.before
+start a = a.before.before.before.before.before.before.before.before
 
 -- how many words the limiter's tables have, and whether the list has its words
 abbrev long : tie.Start → Lengths
@@ -33,25 +33,23 @@ returns c = refused-call _ _ (asked c.before) c.if-no-ne0.true (refl, refl, refl
 
 -- where the crate is called, and what comes before it
 abbrev entered : tie.After-check_each-changed → tie.Else-no-ne0
-entered k = k.before.before.before.before.before
+entered k = k.before.before.before.before
 
 abbrev called : tie.After-put_limiter-arg-1 → tie.After-check_each-changed
 called a = a.before.before.before.before.before.before
 
 limiter-of-requires : tie.Need-limiter_of-before-requires
-limiter-of-requires c κs = (passed c.before).long
+limiter-of-requires c κs = (passed c).long
 
 put-limiter-requires : tie.Need-put_limiter-requires
 put-limiter-requires c κs = (passed (entered (called c))).long
 
 returns-2 : tie.Need-returns
 returns-2 c =
-    let w = c.before.before.before in
-    let k = called w.before in
-    let l = k.before.before.before in
+    let k = called c.before.before.before.before in
     passed-call _ _ (passed (entered k)).passed
-    (changes l.limiter_of-before.ensures k.check_each-changed.result k.check_each-changed.ensures
-    c.change_number.ensures w.put_limiter.ensures)
+    (changes k.limiter_of-before.ensures k.check_each-changed.result k.check_each-changed.ensures
+    c.change_number.ensures c.put_limiter.ensures)
 
 pub nultiway_check_each_spec : {M : Type 1} → statement M
 nultiway_check_each_spec =

@@ -10,7 +10,7 @@ use Rattle.nultiway.proofs.limiter_checks.nultiway_check_in.Statement.{statement
 use Rattle.nultiway.proofs.limiter_checks.nultiway_check_in.Tie as tie
 
 abbrev start : tie.After-ask_limiter-no → tie.Start
-start a = a.before.before.before.before.before.before.before
+start a = a.before.before.before.before.before.before
 
 -- the questions of the lent words are passed
 passed :
@@ -24,7 +24,7 @@ returns c = refused-call _ _ c.ask_limiter-no.ensures c.if-no-ne0.true (refl, re
 
 -- where the crate is called, and what comes before it
 abbrev entered : tie.After-check_in-checked → tie.Else-no-ne0
-entered k = k.before.before.before.before
+entered k = k.before.before.before
 
 abbrev called : tie.After-put_limiter-arg-1 → tie.After-check_in-checked
 called a = a.before.before.before.before
@@ -40,13 +40,10 @@ put-decision-requires c κs = leb-true _ _ (passed (entered (called c.before.bef
 
 returns-2 : tie.Need-returns
 returns-2 c =
-    let n = c.before.before in
-    let w = n.before.before.before.before in
-    let k = called w.before in
-    let l = k.before.before in
+    let k = called c.before.before.before.before.before.before.before in
     passed-call _ _ (passed (entered k)).passed
-    (answers l.limiter_of-before.ensures k.check_in-checked.result k.check_in-checked.ensures
-    n.put_decision.ensures.0 w.put_limiter.ensures n.put_decision.ensures.1)
+    (answers k.limiter_of-before.ensures k.check_in-checked.result k.check_in-checked.ensures
+    c.put_decision.ensures.0 c.put_limiter.ensures c.put_decision.ensures.1)
 
 pub nultiway_check_in_spec : {M : Type 1} → statement M
 nultiway_check_in_spec =

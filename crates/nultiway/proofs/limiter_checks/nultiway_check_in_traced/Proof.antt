@@ -10,7 +10,7 @@ use Rattle.nultiway.proofs.limiter_checks.nultiway_check_in_traced.Statement.{st
 use Rattle.nultiway.proofs.limiter_checks.nultiway_check_in_traced.Tie as tie
 
 abbrev start : tie.After-ask_limiter-no → tie.Start
-start a = a.before.before.before.before.before.before.before
+start a = a.before.before.before.before.before.before
 
 -- the questions of the lent words are passed
 passed :
@@ -24,7 +24,7 @@ returns c = refused-call _ _ c.ask_limiter-no.ensures c.if-no-ne0.true (refl, re
 
 -- where the crate is called, and what comes before it
 abbrev entered : tie.After-check_in_traced-checked → tie.Else-no-ne0
-entered k = k.before.before.before.before.before.before
+entered k = k.before.before.before.before.before
 
 abbrev called : tie.After-put_limiter-arg-1 → tie.After-check_in_traced-checked
 called a = a.before.before.before.before.before.before
@@ -40,14 +40,10 @@ put-traced-requires c κs = leb-true _ _ (passed (entered (called c.before.befor
 
 returns-2 : tie.Need-returns
 returns-2 c =
-    let n = c.before.before in
-    let w = n.before.before.before.before in
-    let k = called w.before in
-    let g = k.before.before.before in
-    let l = g.before in
+    let k = called c.before.before.before.before.before.before.before in
     passed-call _ _ (passed (entered k)).passed
-    (answers (λ i. (l.limiter_of-before.ensures i, g.shadow_given-shadow.ensures i)) k.check_in_traced-checked.result k.check_in_traced-checked.ensures
-    n.put_traced.ensures.0 w.put_limiter.ensures n.put_traced.ensures.1)
+    (answers (λ i. (k.limiter_of-before.ensures i, k.shadow_given-shadow.ensures i)) k.check_in_traced-checked.result k.check_in_traced-checked.ensures
+    c.put_traced.ensures.0 c.put_limiter.ensures c.put_traced.ensures.1)
 
 pub nultiway_check_in_traced_spec : {M : Type 1} → statement M
 nultiway_check_in_traced_spec =

@@ -21,12 +21,9 @@ passed e = opened _ _ _ _ e.ask_limiter-no.ensures e.if-no-ne0.false
 
 returns-2 : tie.Need-returns
 returns-2 c =
-    let n = c.before.before in
-    let k = n.before.before.before.before in
-    let l = k.before.before in
-    passed-call _ _ (passed l.before).passed
-    (tells l.limiter_of-limiter.ensures k.most_denied-said.result k.most_denied-said.ensures
-    n.put_len.ensures.0 n.put_len.ensures.1)
+    passed-call _ _ (passed c.before).passed
+    (tells c.limiter_of-limiter.ensures c.most_denied-said.result c.most_denied-said.ensures
+    c.put_len.ensures.0 c.put_len.ensures.1)
 
 pub nultiway_most_denied_spec : {M : Type 1} → statement M
 nultiway_most_denied_spec =

@@ -21,12 +21,9 @@ passed e = opened _ _ _ _ e.ask_limiter-no.ensures e.if-no-ne0.false
 
 returns-2 : tie.Need-returns
 returns-2 c =
-    let n = c.before.before in
-    let k = n.before in
-    let l = k.before.before in
-    passed-call _ _ (passed l.before).passed
-    (tells l.limiter_of-limiter.ensures k.hot_since.result k.hot_since.ensures
-    n.put_since.ensures.0 n.put_since.ensures.1)
+    passed-call _ _ (passed c.before).passed
+    (tells c.limiter_of-limiter.ensures c.hot_since.result c.hot_since.ensures
+    c.put_since.ensures.0 c.put_since.ensures.1)
 
 pub nultiway_hot_since_spec : {M : Type 1} → statement M
 nultiway_hot_since_spec =

@@ -21,11 +21,8 @@ passed e = opened _ _ _ _ e.ask_limiter-no.ensures e.if-no-ne0.false
 
 returns-2 : tie.Need-returns
 returns-2 c =
-    let n = c.before.before in
-    let k = n.before in
-    let l = k.before.before in
-    passed-call _ _ (passed l.before).passed
-    (tells l.limiter_of-limiter.ensures k.is_hot.result k.is_hot.ensures n.put_flag.ensures.0 n.put_flag.ensures.1)
+    passed-call _ _ (passed c.before).passed
+    (tells c.limiter_of-limiter.ensures c.is_hot.result c.is_hot.ensures c.put_flag.ensures.0 c.put_flag.ensures.1)
 
 pub nultiway_is_hot_spec : {M : Type 1} → statement M
 nultiway_is_hot_spec =

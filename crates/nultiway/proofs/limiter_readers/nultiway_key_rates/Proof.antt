@@ -21,12 +21,9 @@ passed e = opened _ _ _ _ e.ask_limiter-no.ensures e.if-no-ne0.false
 
 returns-2 : tie.Need-returns
 returns-2 c =
-    let n = c.before.before in
-    let k = n.before in
-    let l = k.before.before in
-    passed-call _ _ (passed l.before).passed
-    (tells l.limiter_of-limiter.ensures k.key_rates.result k.key_rates.ensures
-    n.put_rates.ensures.0 n.put_rates.ensures.1)
+    passed-call _ _ (passed c.before).passed
+    (tells c.limiter_of-limiter.ensures c.key_rates.result c.key_rates.ensures
+    c.put_rates.ensures.0 c.put_rates.ensures.1)
 
 pub nultiway_key_rates_spec : {M : Type 1} → statement M
 nultiway_key_rates_spec =

@@ -21,11 +21,8 @@ passed e = opened _ _ _ _ e.ask_limiter-no.ensures e.if-no-ne0.false
 
 returns-2 : tie.Need-returns
 returns-2 c =
-    let n = c.before.before in
-    let k = n.before in
-    let l = k.before.before in
-    passed-call _ _ (passed l.before).passed
-    (tells l.limiter_of-limiter.ensures k.limit.result k.limit.ensures n.put_limit.ensures.0 n.put_limit.ensures.1)
+    passed-call _ _ (passed c.before).passed
+    (tells c.limiter_of-limiter.ensures c.limit.result c.limit.ensures c.put_limit.ensures.0 c.put_limit.ensures.1)
 
 pub nultiway_limit_spec : {M : Type 1} → statement M
 nultiway_limit_spec =

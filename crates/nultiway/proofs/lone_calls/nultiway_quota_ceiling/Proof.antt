@@ -8,10 +8,8 @@ use Rattle.nultiway.proofs.lone_calls.nultiway_quota_ceiling.Tie as tie
 
 returns-2 : tie.Need-returns
 returns-2 c =
-    let n = c.before.before in
-    let k = n.before in
-    called-room k.if-answer-lt1.false
-    (tells refl k.ceiling.result k.ceiling.ensures n.put_number.ensures.0 n.put_number.ensures.1)
+    called-room c.if-answer-lt1.false
+    (tells refl c.ceiling.result c.ceiling.ensures c.put_number.ensures.0 c.put_number.ensures.1)
 
 pub nultiway_quota_ceiling_spec : {M : Type 1} → statement M
 nultiway_quota_ceiling_spec =

@@ -8,10 +8,8 @@ use Rattle.nultiway.proofs.lone_calls.nultiway_quota_rate_per_sec.Tie as tie
 
 returns-2 : tie.Need-returns
 returns-2 c =
-    let n = c.before.before in
-    let k = n.before in
-    called-room k.if-answer-lt1.false
-    (tells refl k.rate_per_sec.result k.rate_per_sec.ensures n.put_rate.ensures.0 n.put_rate.ensures.1)
+    called-room c.if-answer-lt1.false
+    (tells refl c.rate_per_sec.result c.rate_per_sec.ensures c.put_rate.ensures.0 c.put_rate.ensures.1)
 
 pub nultiway_quota_rate_per_sec_spec : {M : Type 1} → statement M
 nultiway_quota_rate_per_sec_spec =

@@ -8,10 +8,8 @@ use Rattle.nultiway.proofs.lone_calls.nultiway_quota_unpack.Tie as tie
 
 returns-2 : tie.Need-returns
 returns-2 c =
-    let n = c.before.before in
-    let k = n.before in
-    called-room k.if-answer-lt-QUOTA_WORDS.false
-    (tells refl k.unpack.result k.unpack.ensures n.put_quota.ensures.0 n.put_quota.ensures.1)
+    called-room c.if-answer-lt-QUOTA_WORDS.false
+    (tells refl c.unpack.result c.unpack.ensures c.put_quota.ensures.0 c.put_quota.ensures.1)
 
 pub nultiway_quota_unpack_spec : {M : Type 1} → statement M
 nultiway_quota_unpack_spec =

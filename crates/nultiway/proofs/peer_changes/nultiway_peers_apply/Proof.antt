@@ -43,21 +43,20 @@ returns : tie.Need-returns-then-no-ne0
 returns c = refused-call _ _ (asked c.before) c.if-no-ne0.true (refl, refl)
 
 peers-of-requires : tie.Need-peers_of-p-requires
-peers-of-requires c κs = three c.before
+peers-of-requires c κs = three c
 
 report-of-requires : tie.Need-report_of-sent-requires
-report-of-requires c κs = omega (arith, (passed c.before.before.before).long)
+report-of-requires c κs = omega (arith, (passed c.before.before).long)
 
 put-peers-requires : tie.Need-put_peers-requires
 put-peers-requires c κs =
-    three c.before.before.before.before.before.before.before.before.before.before.before.before.before.before.before.before
+    three c.before.before.before.before.before.before.before.before.before.before.before.before.before.before.before
 
 returns-2 : tie.Need-returns
 returns-2 c =
-    let m₁ = c.before.before.before.before.before.before.before.before.before.before.before.before in
-    let peers-of = m₁.peers_of-p in
-    let new = m₁.new-id in
-    let report-of = m₁.report_of-sent in
+    let peers-of = c.peers_of-p in
+    let new = c.new-id in
+    let report-of = c.report_of-sent in
     let apply = c.apply-changed in
     let put-peers = c.put_peers in
     passed-call _ _ (passed

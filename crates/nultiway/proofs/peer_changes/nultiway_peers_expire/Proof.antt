@@ -14,15 +14,13 @@ peers-of-requires c κs = c.if-peers-lt-PEERS_WORDS.false
 
 put-peers-requires : tie.Need-put_peers-requires
 put-peers-requires c κs =
-    let m₁ = c.before.before.before.before.before.before.before.before.before.before.before.before in
-    let if1 = m₁.if-peers-lt-PEERS_WORDS in
+    let if1 = c.if-peers-lt-PEERS_WORDS in
     if1.false
 
 returns-2 : tie.Need-returns
 returns-2 c =
-    let m₁ = c.before.before.before.before.before.before.before.before.before.before.before.before in
-    let if1 = m₁.if-peers-lt-PEERS_WORDS in
-    let peers-of = m₁.peers_of-p in
+    let if1 = c.if-peers-lt-PEERS_WORDS in
+    let peers-of = c.peers_of-p in
     let expire = c.expire-changed in
     let put-peers = c.put_peers in
     called-room if1.false (changes peers-of.ensures expire.result expire.ensures c.change_number.ensures put-peers.ensures)

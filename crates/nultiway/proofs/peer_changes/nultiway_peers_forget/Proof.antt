@@ -15,16 +15,14 @@ peers-of-requires c κs = c.if-peers-lt-PEERS_WORDS.false
 
 put-peers-requires : tie.Need-put_peers-requires
 put-peers-requires c κs =
-    let m₁ = c.before.before.before.before.before.before.before.before.before.before.before.before in
-    let if1 = m₁.if-peers-lt-PEERS_WORDS in
+    let if1 = c.if-peers-lt-PEERS_WORDS in
     if1.false
 
 returns-2 : tie.Need-returns
 returns-2 c =
-    let m₁ = c.before.before.before.before.before.before.before.before.before.before.before.before in
-    let if1 = m₁.if-peers-lt-PEERS_WORDS in
-    let peers-of = m₁.peers_of-p in
-    let new = m₁.new in
+    let if1 = c.if-peers-lt-PEERS_WORDS in
+    let peers-of = c.peers_of-p in
+    let new = c.new in
     let forget = c.forget-changed in
     let put-peers = c.put_peers in
     called-room if1.false

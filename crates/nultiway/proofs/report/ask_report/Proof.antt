@@ -38,18 +38,14 @@ are-listed-requires c κs = omega (arith, c.min.ensures, c.min-2.ensures, c.if-w
 
 returns-3 : tie.Need-returns-then-not-are_listed
 returns-3 c =
-    let n = c.before.before in
-    let m = n.before.before in
-    let a = (start m).args in
-    report-other a.room a.words.now a.count m.min.ensures (room n.before) n.min-2.ensures
+    let a = (start c.before.before.before.before).args in
+    report-other a.room a.words.now a.count c.min.ensures (room c.before.before.before) c.min-2.ensures
     (told-no c.are_listed.ensures c.if-not-are_listed.true)
 
 returns-4 : tie.Need-returns
 returns-4 c =
-    let n = c.before.before in
-    let m = n.before.before in
-    let a = (start m).args in
-    report-fit a.room a.words.now a.count m.min.ensures (room n.before) n.min-2.ensures
+    let a = (start c.before.before.before.before).args in
+    report-fit a.room a.words.now a.count c.min.ensures (room c.before.before.before) c.min-2.ensures
     (told-yes c.are_listed.ensures c.if-not-are_listed.false)
 
 pub ask_report_spec : {M : Type 1} → statement M

@@ -50,7 +50,7 @@ listed-of-requires c κs =
     length-take (at + 3 - at) (drop at ws) ∙ omega (arith, length-drop at ws, inside c.before)
 
 array-set-from-keys : tie.Need-bounds-keys-i invariant-loop-i decreases-loop-i
-array-set-from-keys c = omega (arith, (start c.before.before).pre.0)
+array-set-from-keys c = omega (arith, (start c.before.before).requires.0)
 
 loop-again : tie.Need-loop-i-preserved invariant-loop-i decreases-loop-i
 loop-again c =
@@ -63,15 +63,14 @@ loop-again c =
       omega arith,
       ap (λ (ks : List KeyDemand). set ks l.i c.Listed-of.result) l.invariant.1
           ∙ ap (λ (k : KeyDemand). set (keys_of l.i ws) l.i k) key
-          ∙ keys_step ws l.i (omega (arith, s.pre.0)),
+          ∙ keys_step ws l.i (omega (arith, s.requires.0)),
     )
 
 returns : tie.Need-returns invariant-loop-i decreases-loop-i
 returns c =
-    let s = c.before.before.before.before in
     let l = c.loop-i in
-    let e : l.i ≡ s.args.n = omega arith in
-    l.invariant.1 ∙ ap (λ (k : ℕ). keys_of k s.args.words.now) e
+    let e : l.i ≡ c.args.n = omega arith in
+    l.invariant.1 ∙ ap (λ (k : ℕ). keys_of k c.args.words.now) e
 
 pub listed_keys_spec : {M : Type 1} → statement M
 listed_keys_spec =

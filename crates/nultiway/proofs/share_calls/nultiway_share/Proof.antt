@@ -8,10 +8,8 @@ use Rattle.nultiway.proofs.share_calls.nultiway_share.Tie as tie
 
 returns-2 : tie.Need-returns
 returns-2 c =
-    let n = c.before.before in
-    let k = n.before in
-    called-room k.if-answer-lt1.false
-    (tells refl k.share.result k.share.ensures n.put_share.ensures.0 n.put_share.ensures.1)
+    called-room c.if-answer-lt1.false
+    (tells refl c.share.result c.share.ensures c.put_share.ensures.0 c.put_share.ensures.1)
 
 pub nultiway_share_spec : {M : Type 1} → statement M
 nultiway_share_spec =

@@ -8,10 +8,8 @@ use Rattle.nultiway.proofs.share_calls.nultiway_stale_after_rounds.Tie as tie
 
 returns-2 : tie.Need-returns
 returns-2 c =
-    let n = c.before.before in
-    let k = n.before in
-    called-room k.if-answer-lt1.false
-    (tells refl k.stale_after_rounds.result k.stale_after_rounds.ensures n.put_rounds.ensures.0 n.put_rounds.ensures.1)
+    called-room c.if-answer-lt1.false
+    (tells refl c.stale_after_rounds.result c.stale_after_rounds.ensures c.put_rounds.ensures.0 c.put_rounds.ensures.1)
 
 pub nultiway_stale_after_rounds_spec : {M : Type 1} → statement M
 nultiway_stale_after_rounds_spec =

@@ -35,8 +35,7 @@ returns c = first-no 1 _ (and_first _ _ (lt-leb _ _ c.if-words-lt-LIMITER_WORDS.
 
 returns-2 : tie.Need-returns-then-not-room
 returns-2 c =
-    let s = c.before.before.before in
-    first-no 1 _ (and_second (long s) _ (and_second (tables_long s) _ (told-no refl c.if-not-room.true)))
+    first-no 1 _ (and_second (long c.before.before.before) _ (and_second (tables_long c.before.before.before) _ (told-no refl c.if-not-room.true)))
 
 returns-3 : tie.Need-returns-then-not-have_room
 returns-3 c =
@@ -47,14 +46,12 @@ returns-3 c =
 room : (e : tie.Else-not-have_room) → let s = start e.before in (long s && (tables_long s && s.args.room)) ≡ true
 room e =
     let s = start e.before in
-    let r = e.before.before.before.before in
-    and_intro (long s) _ (le-leb _ _ r.if-words-lt-LIMITER_WORDS.false)
-    (and_intro (tables_long s) _ (told-yes (told e.before) e.if-not-have_room.false) (told-yes refl r.if-not-room.false))
+    and_intro (long s) _ (le-leb _ _ e.if-words-lt-LIMITER_WORDS.false)
+    (and_intro (tables_long s) _ (told-yes (told e.before) e.if-not-have_room.false) (told-yes refl e.if-not-room.false))
 
 is-limiter-requires : tie.Need-is_limiter-requires
 is-limiter-requires c κs =
-    let l = c.before.before.before in
-    (l.if-words-lt-LIMITER_WORDS.false, l.limiter_of-limiter.ensures)
+    (c.if-words-lt-LIMITER_WORDS.false, c.limiter_of-limiter.ensures)
 
 returns-4 : tie.Need-returns-then-not-is_limiter
 returns-4 c = first-yes 1 _ (room c.before.before) (first-no 2 _ (told-no c.is_limiter.ensures c.if-not-is_limiter.true))

@@ -18,11 +18,9 @@ slice-aggregate-are-same-2 c = sym (length-take-le 16 c.args.words.now (omega ar
 returns : tie.Need-returns
 unfolding is_limiter
 returns c =
-    let w = c.before.before.before in
-    let s = w.before.before in
     c.are_same.ensures
-    ∙ ap (λ (k : List ℕ). same k (take 16 s.args.words.now))
-    (w.limiter_words-again.ensures ∙ ap (λ (x : Limiter). limiter_words x) s.requires.1)
+    ∙ ap (λ (k : List ℕ). same k (take 16 c.args.words.now))
+    (c.limiter_words-again.ensures ∙ ap (λ (x : Limiter). limiter_words x) c.requires.1)
 
 pub is_limiter_spec : {M : Type 1} → statement M
 is_limiter_spec =

@@ -6,12 +6,8 @@ use Rattle.nultiway.proofs.values.limiter_of.Tie as tie
 
 returns : tie.Need-returns
 returns c =
-    let t = c.before.before.before in
-    let x = t.before in
-    let g = x.before in
-    let w = g.before in
-    limiter-read w.args.words.now _ _ _ _ w.settings_in-w.ensures g.config_of-config.ensures x.cap_of-cap.ensures
-    t.last_tick_of-last_tick.ensures
+    limiter-read c.args.words.now _ _ _ _ c.settings_in-w.ensures c.config_of-config.ensures c.cap_of-cap.ensures
+    c.last_tick_of-last_tick.ensures
 
 pub limiter_of_spec : {M : Type 1} → statement M
 limiter_of_spec =

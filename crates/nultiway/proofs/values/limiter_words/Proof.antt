@@ -6,9 +6,7 @@ use Rattle.nultiway.proofs.values.limiter_words.Tie as tie
 
 returns : tie.Need-returns
 returns c =
-    let x = c.before in
-    let g = x.before in
-    limiter-written g.args.limiter g.config_words-w.ensures x.cap_words-c.ensures c.last_tick_words-t.ensures
+    limiter-written c.args.limiter c.config_words-w.ensures c.cap_words-c.ensures c.last_tick_words-t.ensures
 
 pub limiter_words_spec : {M : Type 1} → statement M
 limiter_words_spec =

@@ -7,9 +7,7 @@ use Rattle.nultiway.proofs.values.put.Tie as tie
 
 returns : tie.Need-returns
 returns c =
-    let o = c.before.before in
-    let s = o.before.before.before.before in
-    o.overwrite.ensures.1 ∙ overwritten-front s.args.from.now s.args.to.now s.requires.0 s.requires.1
+    c.overwrite.ensures.1 ∙ overwritten-front c.args.from.now c.args.to.now c.requires.0 c.requires.1
 
 pub put_spec : {M : Type 1} → statement M
 put_spec = tie.close (tie.spec (λ c κs. search rules) (λ c. search rules) returns)

@@ -9,9 +9,7 @@ use Rattle.nultiway.proofs.values.put_limiter.Tie as tie
 
 returns : tie.Need-returns
 returns c =
-    let p = c.before.before in
-    let w = p.before.before.before in
-    p.put.ensures ∙ ap (λ (k : List ℕ). paste 0 k w.args.words.now) w.limiter_words-w.ensures
+    c.put.ensures ∙ ap (λ (k : List ℕ). paste 0 k c.args.words.now) c.limiter_words-w.ensures
 
 pub put_limiter_spec : {M : Type 1} → statement M
 put_limiter_spec = tie.close (tie.spec (λ c κs. search rules) (λ c. search rules) (λ c κs. search rules) (λ c. search rules) returns)

@@ -17,8 +17,7 @@ put-requires c κs =
 
 returns : tie.Need-returns
 returns c =
-    let p = c.before in
-    paste-whole _ _ _ p.put.ensures (sym (length-take-le 13 p.args.words.now (omega arith)))
+    paste-whole _ _ _ c.put.ensures (sym (length-take-le 13 c.args.words.now (omega arith)))
 
 pub settings_in_spec : {M : Type 1} → statement M
 settings_in_spec = tie.close (tie.spec (λ c. search rules) slice-aggregate-put-2 put-requires returns)

@@ -24,11 +24,10 @@ loop-less c = omega (arith, c.loop-i-test.true)
 
 loop-again : tie.Need-loop-i-preserved invariant-loop-i decreases-loop-i
 loop-again c =
-    let s = c.before.before in
     let l = c.loop-i in (
       omega (arith, c.loop-i-test.true),
       length-set l.out l.i false ∙ l.invariant.1,
-      ap (λ (xs : List Bool). set xs l.i false) l.invariant.2 ∙ cleared-next s.args.n s.args.out.now s.requires l.i c.loop-i-test.true,
+      ap (λ (xs : List Bool). set xs l.i false) l.invariant.2 ∙ cleared-next c.args.n c.args.out.now c.requires l.i c.loop-i-test.true,
     )
 
 same_length : tie.Need-shape_of-out invariant-loop-i decreases-loop-i
@@ -36,9 +35,8 @@ same_length c = c.loop-i.invariant.1
 
 returns : tie.Need-returns invariant-loop-i decreases-loop-i
 returns c =
-    let s = c.before.before in
     let l = c.loop-i in
-    l.invariant.2 ∙ cleared-all s.args.n s.args.out.now l.i l.invariant.0 c.loop-i-test.false
+    l.invariant.2 ∙ cleared-all c.args.n c.args.out.now l.i l.invariant.0 c.loop-i-test.false
 
 pub clear_spec : {M : Type 1} → statement M
 clear_spec =

@@ -6,27 +6,19 @@ use Rattle.peers.proofs.peer_each.mark_key.Tie as tie
 
 slice-write-out : tie.Need-bounds-out-i
 slice-write-out c =
-    let f = c.before in
-    let s = f.before.before.before in
-    place-marked s.args.w s.args.n s.args.key s.args.keys.now s.args.out.now s.requires c.in-At.i (sym c.in-At.is ∙ f.find.ensures)
+    place-marked c.args.w c.args.n c.args.key c.args.keys.now c.args.out.now c.requires c.in-At.i (sym c.in-At.is ∙ c.find.ensures)
 
 returns : tie.Need-returns-in-At
 returns c =
-    let f = c.before in
-    let s = f.before.before.before in
-    key-marked s.args.w s.args.n s.args.key s.args.keys.now s.args.out.now s.requires c.in-At.i (sym c.in-At.is ∙ f.find.ensures)
+    key-marked c.args.w c.args.n c.args.key c.args.keys.now c.args.out.now c.requires c.in-At.i (sym c.in-At.is ∙ c.find.ensures)
 
 returns-2 : tie.Need-returns-in-Gap
 returns-2 c =
-    let f = c.before in
-    let s = f.before.before.before in
-    key-absent s.args.w s.args.n s.args.key s.args.keys.now s.args.out.now s.requires c.in-Gap.i (sym c.in-Gap.is ∙ f.find.ensures)
+    key-absent c.args.w c.args.n c.args.key c.args.keys.now c.args.out.now c.requires c.in-Gap.i (sym c.in-Gap.is ∙ c.find.ensures)
 
 returns-3 : tie.Need-returns-in-Unfit
 returns-3 c =
-    let f = c.before in
-    let s = f.before.before.before in
-    absurd (key_fits s.args.w s.args.n s.args.key s.args.keys.now s.args.out.now s.requires (sym c.in-Unfit.is ∙ f.find.ensures))
+    absurd (key_fits c.args.w c.args.n c.args.key c.args.keys.now c.args.out.now c.requires (sym c.in-Unfit.is ∙ c.find.ensures))
 
 pub mark_key_spec : {M : Type 1} → statement M
 mark_key_spec =

@@ -6,8 +6,7 @@ use Rattle.peers.proofs.peer_each.mark_record.Tie as tie
 
 returns : tie.Need-returns-then-t-at-ne0
 returns c =
-    let k = c.before.before in
-    k.mark_key.ensures ∙ mark-primary _ _ _ _ k.if-t-at-ne0.true
+    c.mark_key.ensures ∙ mark-primary _ _ _ _ c.if-t-at-ne0.true
 
 returns-2 : tie.Need-returns-else-t-at-ne0
 returns-2 c = mark-other _ _ _ _ c.if-t-at-ne0.false

@@ -21,7 +21,7 @@ start c = c.before.before.before.before.before
 inside : (c : tie.In-loop-i invariant-loop-i decreases-loop-i) → c.loop-i.i * (start c).args.v + 4 ≤ length (start c).args.t.now
 inside c =
     let s = start c in
-    omega (arith, row s.args.v s.args.m c.loop-i.i c.loop-i-test.true, s.pre.1.wide, s.pre.1.fit)
+    omega (arith, row s.args.v s.args.m c.loop-i.i c.loop-i-test.true, s.requires.1.wide, s.requires.1.fit)
 
 markable : (c : tie.In-loop-i invariant-loop-i decreases-loop-i) → Markable (start c).args.w (start c).args.n (start c).args.keys.now c.loop-i.out
 markable c =
@@ -39,21 +39,18 @@ mark-record-requires c κs = (markable c.before, inside c.before)
 
 add-i : tie.Need-overflow_add-i invariant-loop-i decreases-loop-i
 add-i c =
-    let e = c.before.before.before.before in
-    omega (arith, e.loop-i-test.true, (start e).ranges.m.fits)
+    omega (arith, c.loop-i-test.true, (start c.before.before.before.before).ranges.m.fits)
 
 loop-less : tie.Need-loop-i-smaller invariant-loop-i decreases-loop-i
 loop-less c = omega (arith, c.loop-i-test.true)
 
 loop-again : tie.Need-loop-i-preserved invariant-loop-i decreases-loop-i
 loop-again c =
-    let r = c.before.before in
-    let e = r.before.before in
-    let s = start e in
-    let l = e.loop-i in (
-      omega (arith, e.loop-i-test.true),
-      ap length r.mark_record.ensures ∙ length_marked _ _ _ ∙ l.invariant.1,
-      mark-goes (records s.args.w s.args.n s.args.keys.now) s.args.v s.args.m s.args.t.now l.out _ l.i e.loop-i-test.true s.pre.1.wide r.mark_record.ensures ∙ l.invariant.2,
+    let s = start c.before.before.before.before in
+    let l = c.loop-i in (
+      omega (arith, c.loop-i-test.true),
+      ap length c.mark_record.ensures ∙ length_marked _ _ _ ∙ l.invariant.1,
+      mark-goes (records s.args.w s.args.n s.args.keys.now) s.args.v s.args.m s.args.t.now l.out _ l.i c.loop-i-test.true s.requires.1.wide c.mark_record.ensures ∙ l.invariant.2,
     )
 
 same_length : tie.Need-shape_of-out invariant-loop-i decreases-loop-i
@@ -61,9 +58,8 @@ same_length c = c.loop-i.invariant.1
 
 returns : tie.Need-returns invariant-loop-i decreases-loop-i
 returns c =
-    let s = c.before.before.before.before.before in
     let l = c.loop-i in
-    sym (mark-ends (records s.args.w s.args.n s.args.keys.now) s.args.v s.args.m s.args.t.now l.out l.i c.loop-i-test.false) ∙ l.invariant.2
+    sym (mark-ends (records c.args.w c.args.n c.args.keys.now) c.args.v c.args.m c.args.t.now l.out l.i c.loop-i-test.false) ∙ l.invariant.2
 
 pub mark_table_spec : {M : Type 1} → statement M
 mark_table_spec =

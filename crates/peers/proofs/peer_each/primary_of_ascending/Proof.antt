@@ -8,24 +8,18 @@ use Rattle.peers.proofs.peer_each.primary_of_ascending.Tie as tie
 
 mark-table-requires-2 : tie.Need-mark_table-requires-2
 mark-table-requires-2 c κs =
-    let m = c.before.before.before in
-    let k = m.before.before.before.before in
-    let s = k.before.before.before.before.before.before in (
-      record { fit = s.requires.0.fit; ascends = s.requires.0.ascends; room = omega (arith, s.requires.0.room, ap length m.mark_table.ensures ∙ length_marked _ _ _, k.clear.auto.0) },
+    let s = c in (
+      record { fit = s.requires.0.fit; ascends = s.requires.0.ascends; room = omega (arith, s.requires.0.room, ap length c.mark_table.ensures ∙ length_marked _ _ _, c.clear.auto.0) },
       s.requires.2,
     )
 
 returns : tie.Need-returns
 returns c =
-    let b = c.before.before in
-    let a = b.before.before.before.before in
-    let k = a.before.before.before.before in
-    let s = k.before.before.before.before.before.before in
-    let rs = records s.args.w s.args.n s.args.keys.now in
-    let taken = is_primary_in (records 4 s.args.k s.args.snapshot-keys.now) in
-    let contested = is_primary_in (records 6 s.args.c s.args.contested.now) in
-    b.mark_table-2.ensures
-    ∙ ap (marked contested rs) (a.mark_table.ensures ∙ ap (marked taken rs) k.clear.ensures)
+    let rs = records c.args.w c.args.n c.args.keys.now in
+    let taken = is_primary_in (records 4 c.args.k c.args.snapshot-keys.now) in
+    let contested = is_primary_in (records 6 c.args.c c.args.contested.now) in
+    c.mark_table-2.ensures
+    ∙ ap (marked contested rs) (c.mark_table.ensures ∙ ap (marked taken rs) c.clear.ensures)
     ∙ marked-twice contested taken rs _
 
 pub primary_of_ascending_spec : {M : Type 1} → statement M

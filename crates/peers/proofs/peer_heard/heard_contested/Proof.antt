@@ -47,30 +47,23 @@ shared-slice-read-key-heard-2 c = omega (arith, inside c.before.before)
 
 key-heard-requires : tie.Need-key_heard-requires
 key-heard-requires c κs =
-    let a = c.before.before in
-    let s = (start a).args in
-    (omega (arith, inside a), omega (arith, demand-fits 6 s.n s.id s.key s.t.now (start a).requires a.in-At.i (below a)), round-fits 6 s.n s.id s.key s.t.now (start a).requires a.in-At.i (below a) (omega arith))
+    let s = (start c.before.before).args in
+    (omega (arith, inside c.before.before), omega (arith, demand-fits 6 s.n s.id s.key s.t.now (start c.before.before).requires c.in-At.i (below c.before.before)), round-fits 6 s.n s.id s.key s.t.now (start c.before.before).requires c.in-At.i (below c.before.before) (omega arith))
 
 returns : tie.Need-returns-in-At
 returns c =
-    let a = c.before.before.before in
-    let s = (start a).args in
-    ap some c.key_heard.ensures ∙ contested-found s.n s.id s.key s.t.now (start a).requires a.in-At.i (found a)
+    let s = (start c.before.before.before).args in
+    ap some c.key_heard.ensures ∙ contested-found s.n s.id s.key s.t.now (start c.before.before.before).requires c.in-At.i (found c.before.before.before)
 
 returns-2 : tie.Need-returns-in-Gap
 returns-2 c =
-    let a = c in
-    let b = a.before in
-    let st = b.before.before in
-    let s = st.args in
-    contested-missing s.n s.id s.key s.t.now st.requires a.in-Gap.i (find-says 6 2 s.n s.id s.key s.t.now (omega arith) (omega arith) (omega arith) st.requires.ready.fit b.find.result b.find.ensures ∙ a.in-Gap.is)
+    let s = c.args in
+    contested-missing s.n s.id s.key s.t.now c.requires c.in-Gap.i (find-says 6 2 s.n s.id s.key s.t.now (omega arith) (omega arith) (omega arith) c.requires.ready.fit c.find.result c.find.ensures ∙ c.in-Gap.is)
 
 returns-3 : tie.Need-returns-in-Unfit
 returns-3 c =
-    let b = c.before in
-    let st = b.before.before in
-    let s = st.args in
-    absurd (never-unfit 6 2 s.n s.id s.key s.t.now (omega arith) (omega arith) (omega arith) st.requires.ready.fit b.find.result b.find.ensures c.in-Unfit.is)
+    let s = c.args in
+    absurd (never-unfit 6 2 s.n s.id s.key s.t.now (omega arith) (omega arith) (omega arith) c.requires.ready.fit c.find.result c.find.ensures c.in-Unfit.is)
 
 pub heard_contested_spec : {M : Type 1} → statement M
 heard_contested_spec =

@@ -34,30 +34,23 @@ mul-key-heard c = omega (arith, inside c)
 
 key-heard-requires : tie.Need-key_heard-requires
 key-heard-requires c κs =
-    let a = c in
-    let s = (start a).args in
-    (omega (arith, inside a), omega (arith, demand-fits 4 s.n s.id s.key s.t.now (start a).requires.0 a.in-At.i (below a)), (start a).requires.1)
+    let s = (start c).args in
+    (omega (arith, inside c), omega (arith, demand-fits 4 s.n s.id s.key s.t.now (start c).requires.0 c.in-At.i (below c)), (start c).requires.1)
 
 returns-2 : tie.Need-returns-in-At
 returns-2 c =
-    let a = c.before in
-    let s = (start a).args in
-    ap some c.key_heard.ensures ∙ taken-found s.n s.id s.key s.flag s.round s.heard-at s.t.now (start a).requires.0 a.if-flag-eq0.false a.in-At.i (found a)
+    let s = (start c.before).args in
+    ap some c.key_heard.ensures ∙ taken-found s.n s.id s.key s.flag s.round s.heard-at s.t.now (start c.before).requires.0 c.if-flag-eq0.false c.in-At.i (found c.before)
 
 returns-3 : tie.Need-returns-in-Gap
 returns-3 c =
-    let a = c in
-    let b = a.before in
-    let st = b.before.before.before in
-    let s = st.args in
-    taken-missing s.n s.id s.key s.flag s.round s.heard-at s.t.now st.requires.0 b.if-flag-eq0.false a.in-Gap.i (find-says 4 2 s.n s.id s.key s.t.now (omega arith) (omega arith) (omega arith) st.requires.0.ready.fit b.find.result b.find.ensures ∙ a.in-Gap.is)
+    let s = c.args in
+    taken-missing s.n s.id s.key s.flag s.round s.heard-at s.t.now c.requires.0 c.if-flag-eq0.false c.in-Gap.i (find-says 4 2 s.n s.id s.key s.t.now (omega arith) (omega arith) (omega arith) c.requires.0.ready.fit c.find.result c.find.ensures ∙ c.in-Gap.is)
 
 returns-4 : tie.Need-returns-in-Unfit
 returns-4 c =
-    let b = c.before in
-    let st = b.before.before.before in
-    let s = st.args in
-    absurd (never-unfit 4 2 s.n s.id s.key s.t.now (omega arith) (omega arith) (omega arith) st.requires.0.ready.fit b.find.result b.find.ensures c.in-Unfit.is)
+    let s = c.args in
+    absurd (never-unfit 4 2 s.n s.id s.key s.t.now (omega arith) (omega arith) (omega arith) c.requires.0.ready.fit c.find.result c.find.ensures c.in-Unfit.is)
 
 pub heard_taken_spec : {M : Type 1} → statement M
 heard_taken_spec =

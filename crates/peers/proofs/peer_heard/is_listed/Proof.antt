@@ -7,26 +7,18 @@ use Rattle.peers.proofs.peer_heard.is_listed.Tie as tie
 
 returns : tie.Need-returns-in-At
 returns c =
-    let a = c in
-    let b = a.before in
-    let st = b.before.before in
-    let s = st.args in
-    listed_found s.n s.id s.key s.t.now st.requires a.in-At.i (find-says 4 2 s.n s.id s.key s.t.now (omega arith) (omega arith) (omega arith) st.requires.ready.fit b.find.result b.find.ensures ∙ a.in-At.is)
+    let s = c.args in
+    listed_found s.n s.id s.key s.t.now c.requires c.in-At.i (find-says 4 2 s.n s.id s.key s.t.now (omega arith) (omega arith) (omega arith) c.requires.ready.fit c.find.result c.find.ensures ∙ c.in-At.is)
 
 returns-2 : tie.Need-returns-in-Gap
 returns-2 c =
-    let a = c in
-    let b = a.before in
-    let st = b.before.before in
-    let s = st.args in
-    listed-missing s.n s.id s.key s.t.now st.requires a.in-Gap.i (find-says 4 2 s.n s.id s.key s.t.now (omega arith) (omega arith) (omega arith) st.requires.ready.fit b.find.result b.find.ensures ∙ a.in-Gap.is)
+    let s = c.args in
+    listed-missing s.n s.id s.key s.t.now c.requires c.in-Gap.i (find-says 4 2 s.n s.id s.key s.t.now (omega arith) (omega arith) (omega arith) c.requires.ready.fit c.find.result c.find.ensures ∙ c.in-Gap.is)
 
 returns-3 : tie.Need-returns-in-Unfit
 returns-3 c =
-    let b = c.before in
-    let st = b.before.before in
-    let s = st.args in
-    absurd (never-unfit 4 2 s.n s.id s.key s.t.now (omega arith) (omega arith) (omega arith) st.requires.ready.fit b.find.result b.find.ensures c.in-Unfit.is)
+    let s = c.args in
+    absurd (never-unfit 4 2 s.n s.id s.key s.t.now (omega arith) (omega arith) (omega arith) c.requires.ready.fit c.find.result c.find.ensures c.in-Unfit.is)
 
 pub is_listed_spec : {M : Type 1} → statement M
 is_listed_spec =

@@ -41,9 +41,8 @@ part-are-peer-words-end c = omega (arith, inside c)
 
 are-peer-words-requires : tie.Need-are_peer_words-requires invariant-loop-i decreases-loop-i
 are-peer-words-requires c κs =
-    let s = c.before.before.before.before in
     let i = c.loop-i.i in
-    ap length (lent-record 12 s.args.n s.args.t.now i (omega arith)) ∙ record-length 12 s.args.n s.args.t.now i (omega arith) s.requires
+    ap length (lent-record 12 c.args.n c.args.t.now i (omega arith)) ∙ record-length 12 c.args.n c.args.t.now i (omega arith) c.requires
 
 -- the lent words are the record of the turn
 record-told : (c : tie.After-are_peer_words invariant-loop-i decreases-loop-i) → let s = c.args in are_peer_words (get_or (records 12 s.n s.t.now) c.loop-i.i []) ≡ c.are_peer_words.result

@@ -13,8 +13,7 @@ use Rattle.peers.proofs.peer_scan.are_keys.Tie as tie
 
 ready : (c : tie.Else-bound-n) → let s = c.args in KeysReady s.w s.n s.t.now
 ready c =
-    let st = c.before.before.before.before in
-    keys-ready st.args.w st.args.n (32 * st.args.bound) st.args.t.now st.requires.1.0.0 st.requires.1.0.2 c.if-bound-n.false
+    keys-ready c.args.w c.args.n (32 * c.args.bound) c.args.t.now c.requires.1.0.0 c.requires.1.0.2 c.if-bound-n.false
 
 returns : tie.Need-returns-then-bound-n
 unfolding are_keys
@@ -24,21 +23,17 @@ returns c =
 
 are-runs-requires : tie.Need-are_runs-requires
 are-runs-requires c κs =
-    let st = c.before.before.before.before.before in
-    (st.requires.0.fit, (ready c.before, omega (arith, st.requires.0.few, st.requires.1.1)))
+    (c.requires.0.fit, (ready c.before, omega (arith, c.requires.0.few, c.requires.1.1)))
 
 returns-2 : tie.Need-returns
 unfolding are_keys
 returns-2 c =
-    let a = c.before.before in
-    let e = a.before.before in
-    let st = e.before.before.before.before in
-    let s = st.args in
-    let k = ready e in (
+    let s = c.args in
+    let k = ready c.before.before.before.before in (
       goes (leb (length (records s.w s.n s.t.now)) (32 * s.bound)) _ _
-          (ap (λ (m : ℕ). leb m (32 * s.bound)) (length-records s.w s.n s.t.now) ∙ le-leb s.n (32 * s.bound) e.if-bound-n.false)
-          (a.are_runs.ensures.0 ∙ runs-are-valid s.w s.least s.bound (omega (arith, k.wide)) (records 12 s.p s.peers.now) (wide-records 12 s.p s.peers.now st.requires.0.fit) st.requires.0.ascend (records s.w s.n s.t.now) (wide-records s.w s.n s.t.now k.fit)),
-      a.are_runs.ensures.1,
+          (ap (λ (m : ℕ). leb m (32 * s.bound)) (length-records s.w s.n s.t.now) ∙ le-leb s.n (32 * s.bound) c.if-bound-n.false)
+          (c.are_runs.ensures.0 ∙ runs-are-valid s.w s.least s.bound (omega (arith, k.wide)) (records 12 s.p s.peers.now) (wide-records 12 s.p s.peers.now c.requires.0.fit) c.requires.0.ascend (records s.w s.n s.t.now) (wide-records s.w s.n s.t.now k.fit)),
+      c.are_runs.ensures.1,
     )
 
 pub are_keys_spec : {M : Type 1} → statement M

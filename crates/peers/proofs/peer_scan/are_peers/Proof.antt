@@ -28,9 +28,8 @@ returns-2 c = goes _ _ false (few c.before.before) (stop _ _ (sym c.are_all_peer
 returns-3 : tie.Need-returns
 unfolding are_peers are_records
 returns-3 c =
-    let e = c.before in
-    let s = e.args in
-    goes _ _ _ (few e.before.before) (goes _ _ _ (sym e.are_all_peer_words.ensures ∙ e.if-not-are_all_peer_words.false) (c.is_ascending.ensures ∙ and-skip (keyed (length s.t.now) 12 1 s.n) (ascending 1 (records 12 s.n s.t.now)) (keyed-fit (length s.t.now) 12 1 s.n (omega arith) (omega arith) (omega arith) (omega arith))))
+    let s = c.args in
+    goes _ _ _ (few c.before.before.before) (goes _ _ _ (sym c.are_all_peer_words.ensures ∙ c.if-not-are_all_peer_words.false) (c.is_ascending.ensures ∙ and-skip (keyed (length s.t.now) 12 1 s.n) (ascending 1 (records 12 s.n s.t.now)) (keyed-fit (length s.t.now) 12 1 s.n (omega arith) (omega arith) (omega arith) (omega arith))))
 
 pub are_peers_spec : {M : Type 1} → statement M
 are_peers_spec =

@@ -36,9 +36,8 @@ slice-write-starts c = omega (arith, c.requires.1.1)
 
 loop-holds : tie.Need-loop-i-init invariant-loop-i decreases-loop-i
 loop-holds c =
-    let st = c.before.before.before in
-    let s = st.args in
-    (record { few = zero-le; within = zero-le; same = refl }, starts_none s.w s.n s.t.now s.peers.now s.p s.starts.now st.requires.1.1, refl)
+    let s = c.args in
+    (record { few = zero-le; within = zero-le; same = refl }, starts_none s.w s.n s.t.now s.peers.now s.p s.starts.now c.requires.1.1, refl)
 
 mul-run-end : tie.Need-overflow_mul-i invariant-loop-i decreases-loop-i
 mul-run-end c = omega (arith, inside c)
@@ -50,7 +49,7 @@ shared-slice-read-run-end : tie.Need-bounds-peers-i invariant-loop-i decreases-l
 shared-slice-read-run-end c = omega (arith, inside c.before)
 
 run-end-requires : tie.Need-run_end-to-requires invariant-loop-i decreases-loop-i
-run-end-requires c κs = (start c.before).pre.1.0
+run-end-requires c κs = (start c.before).requires.1.0
 
 sub-is-run : tie.Need-overflow_sub-to invariant-loop-i decreases-loop-i
 sub-is-run c = (ran c).0
@@ -69,15 +68,13 @@ shared-slice-read-is-run c = omega (arith, inside c.before.before.before)
 
 returns : tie.Need-returns-then-not-is_run invariant-loop-i decreases-loop-i
 returns c =
-    let a = c.before.before.before in
-    let s = (start a.before.before).args in
-    let l = a.loop-i in
-    (runs-fail s.w s.least s.bound s.n s.p l.from l.i s.t.now s.peers.now l.invariant.0 a.run_end-to.result a.loop-i-test.true a.run_end-to.ensures (sym c.is_run.ensures ∙ c.if-not-is_run.true), λ e. contradiction (sym e))
+    let s = (start c.before.before.before.before.before).args in
+    let l = c.loop-i in
+    (runs-fail s.w s.least s.bound s.n s.p l.from l.i s.t.now s.peers.now l.invariant.0 c.run_end-to.result c.loop-i-test.true c.run_end-to.ensures (sym c.is_run.ensures ∙ c.if-not-is_run.true), λ e. contradiction (sym e))
 
 same_length : tie.Need-shape_of-starts-then-not-is_run invariant-loop-i decreases-loop-i
 same_length c =
-    let l = c.before.before.before.before.before in
-    l.loop-i.invariant.2 ∙ length-set (start l).args.starts.now 0 0
+    c.loop-i.invariant.2 ∙ length-set (start c.before.before.before.before.before).args.starts.now 0 0
 
 add-i : tie.Need-overflow_add-i-in-loop-i invariant-loop-i decreases-loop-i
 add-i c = omega (arith, inside c.before.before.before.before.before)
@@ -93,12 +90,11 @@ loop-less c = omega (arith, c.loop-i-test.true)
 
 loop-again : tie.Need-loop-i-preserved invariant-loop-i decreases-loop-i
 loop-again c =
-    let a = c.before.before.before in
-    let s = (start a.before.before).args in
-    let l = a.loop-i in (
-      runs-go s.w s.least s.bound s.n s.p l.from l.i s.t.now s.peers.now l.invariant.0 a.run_end-to.result a.loop-i-test.true a.run_end-to.ensures (sym c.is_run.ensures ∙ c.if-not-is_run.false),
-      starts-next s.w s.n s.t.now s.peers.now l.i l.from a.run_end-to.result l.starts l.invariant.1 (placed a.before.before) a.run_end-to.ensures,
-      length-set l.starts (l.i + 1) a.run_end-to.result ∙ l.invariant.2,
+    let s = (start c.before.before.before.before.before).args in
+    let l = c.loop-i in (
+      runs-go s.w s.least s.bound s.n s.p l.from l.i s.t.now s.peers.now l.invariant.0 c.run_end-to.result c.loop-i-test.true c.run_end-to.ensures (sym c.is_run.ensures ∙ c.if-not-is_run.false),
+      starts-next s.w s.n s.t.now s.peers.now l.i l.from c.run_end-to.result l.starts l.invariant.1 (placed c.before.before.before.before.before) c.run_end-to.ensures,
+      length-set l.starts (l.i + 1) c.run_end-to.result ∙ l.invariant.2,
     )
 
 same-length-2 : tie.Need-shape_of-starts invariant-loop-i decreases-loop-i

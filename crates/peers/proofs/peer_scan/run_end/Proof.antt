@@ -15,19 +15,16 @@ decreases-loop-i t w n from id i₀ i = n - i
 -- the record of the first test, and of a turn, is within the table
 first-inside : (c : tie.Else-n-from invariant-loop-i decreases-loop-i) → let s = c.args in s.from * s.w + s.w ≤ length s.t.now
 first-inside c =
-    let st = c.before.before in
-    omega (arith, row st.args.w st.args.n st.args.from c.if-n-from.false, st.requires.fit)
+    omega (arith, row c.args.w c.args.n c.args.from c.if-n-from.false, c.requires.fit)
 
 inside : (c : tie.In-loop-i invariant-loop-i decreases-loop-i) → let s = c.args in (s.w ≤ c.loop-i.i * s.w) × (c.loop-i.i * s.w + s.w ≤ length s.t.now)
 inside c =
-    let st = c.before.before.before.before.before.before in
-    let w = st.args.w in
-    (omega (arith, row w c.loop-i.i st.args.from c.loop-i.invariant.begun), omega (arith, row w st.args.n c.loop-i.i c.loop-i-test.true, st.requires.fit))
+    let w = c.args.w in
+    (omega (arith, row w c.loop-i.i c.args.from c.loop-i.invariant.begun), omega (arith, row w c.args.n c.loop-i.i c.loop-i-test.true, c.requires.fit))
 
 returns : tie.Need-returns-then-n-from invariant-loop-i decreases-loop-i
 returns c =
-    let st = c.before.before in
-    run_out st.args.w st.args.n st.args.id st.args.from st.args.t.now st.requires.wide c.if-n-from.true
+    run_out c.args.w c.args.n c.args.id c.args.from c.args.t.now c.requires.wide c.if-n-from.true
 
 mul-is-key-of : tie.Need-overflow_mul-from invariant-loop-i decreases-loop-i
 mul-is-key-of c = omega (arith, first-inside c)
@@ -37,18 +34,14 @@ is-key-of-requires c κs = (c.requires.wide, first-inside c)
 
 returns-2 : tie.Need-returns-then-not-is_key_of invariant-loop-i decreases-loop-i
 returns-2 c =
-    let a = c.before in
-    let st = a.before.before.before in
-    run_none st.args.w st.args.n st.args.id st.args.from st.args.t.now st.requires.wide a.if-n-from.false (sym a.is_key_of.ensures ∙ c.if-not-is_key_of.true)
+    run_none c.args.w c.args.n c.args.id c.args.from c.args.t.now c.requires.wide c.if-n-from.false (sym c.is_key_of.ensures ∙ c.if-not-is_key_of.true)
 
 add-i : tie.Need-overflow_add-i invariant-loop-i decreases-loop-i
 add-i c = omega (arith, c.if-n-from.false)
 
 loop-holds : tie.Need-loop-i-init invariant-loop-i decreases-loop-i
 loop-holds c =
-    let a = c.before in
-    let st = a.before.before.before in
-    run-begins st.args.w st.args.n st.args.id st.args.from st.args.t.now st.requires.wide a.if-n-from.false (sym a.is_key_of.ensures ∙ c.if-not-is_key_of.false)
+    run-begins c.args.w c.args.n c.args.id c.args.from c.args.t.now c.requires.wide c.if-n-from.false (sym c.is_key_of.ensures ∙ c.if-not-is_key_of.false)
 
 mul-is-next-key-of : tie.Need-overflow_mul-i invariant-loop-i decreases-loop-i
 mul-is-next-key-of c = omega (arith, inside c)
@@ -58,10 +51,8 @@ is-next-key-of-requires c κs = (c.requires.wide, (inside c).0, (inside c).1)
 
 returns-3 : tie.Need-returns-then-not-is_next_key_of invariant-loop-i decreases-loop-i
 returns-3 c =
-    let a = c.before in
-    let l = a.loop-i in
-    let st = a.before.before.before.before.before.before.before in
-    run-ended st.args.w st.args.n st.args.id st.args.from st.args.t.now st.requires.wide l.i l.invariant a.loop-i-test.true (sym a.is_next_key_of.ensures ∙ c.if-not-is_next_key_of.true)
+    let l = c.loop-i in
+    run-ended c.args.w c.args.n c.args.id c.args.from c.args.t.now c.requires.wide l.i l.invariant c.loop-i-test.true (sym c.is_next_key_of.ensures ∙ c.if-not-is_next_key_of.true)
 
 add-i-2 : tie.Need-overflow_add-i-in-loop-i invariant-loop-i decreases-loop-i
 add-i-2 c = omega (arith, c.loop-i-test.true)
@@ -71,16 +62,13 @@ loop-less c = omega (arith, c.loop-i-test.true)
 
 loop-again : tie.Need-loop-i-preserved invariant-loop-i decreases-loop-i
 loop-again c =
-    let a = c.before in
-    let l = a.loop-i in
-    let st = a.before.before.before.before.before.before.before in
-    run-next st.args.w st.args.n st.args.id st.args.from st.args.t.now st.requires.wide l.i l.invariant a.loop-i-test.true (sym a.is_next_key_of.ensures ∙ c.if-not-is_next_key_of.false)
+    let l = c.loop-i in
+    run-next c.args.w c.args.n c.args.id c.args.from c.args.t.now c.requires.wide l.i l.invariant c.loop-i-test.true (sym c.is_next_key_of.ensures ∙ c.if-not-is_next_key_of.false)
 
 returns-4 : tie.Need-returns invariant-loop-i decreases-loop-i
 returns-4 c =
     let l = c.loop-i in
-    let st = c.before.before.before.before.before.before in
-    run-full st.args.w st.args.n st.args.id st.args.from st.args.t.now st.requires.wide l.i l.invariant c.loop-i-test.false
+    run-full c.args.w c.args.n c.args.id c.args.from c.args.t.now c.requires.wide l.i l.invariant c.loop-i-test.false
 
 pub run_end_spec : {M : Type 1} → statement M
 run_end_spec =

@@ -29,17 +29,15 @@ asked c =
 returns : tie.Need-returns-then-is_stale
 unfolding peer_of
 returns c =
-    let a = c.before.before in
-    let s = (start a).args in
+    let s = (start c.before.before).args in
     let p = peer_of s.words.now in
-    sym (aged-bare s.reading s.max_age p.id p.held_until p.snapshot p.past_epochs (asked a ∙ c.if-is_stale.true))
+    sym (aged-bare s.reading s.max_age p.id p.held_until p.snapshot p.past_epochs (asked c.before.before ∙ c.if-is_stale.true))
 
 returns-2 : tie.Need-returns
 returns-2 c =
-    let t = c.before.before.before.before.before.before.before.before.before.before.before.before in
-    let s = start t.before in
+    let s = start c.before.before.before.before.before.before.before.before.before.before.before.before.before in
     let xs : List ℕ = s.args.words.now in
-    sym (ap peer_words (aged-not s.args.reading s.args.max_age (peer_of xs) (asked t.before ∙ t.if-is_stale.false)) ∙ s.pre.1 ∙ all_read xs 0 12 s.pre.0)
+    sym (ap peer_words (aged-not s.args.reading s.args.max_age (peer_of xs) (asked c.before.before.before.before.before.before.before.before.before.before.before.before.before ∙ c.if-is_stale.false)) ∙ s.requires.1 ∙ all_read xs 0 12 s.requires.0)
 
 pub aged_words_spec : {M : Type 1} → statement M
 aged_words_spec =

@@ -30,8 +30,7 @@ shared-slice-read-result c = omega (arith, inside c.before)
 
 returns-2 : tie.Need-returns
 returns-2 c =
-    let s = c.before.before in
-    sym (taken_here s.args.n s.args.peers.now (ordered s) s.args.place c.if-place-n.false)
+    sym (taken_here c.args.n c.args.peers.now (ordered c.before.before) c.args.place c.if-place-n.false)
 
 pub has_snapshot_spec : {M : Type 1} → statement M
 has_snapshot_spec =

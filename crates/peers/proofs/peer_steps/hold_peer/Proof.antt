@@ -8,7 +8,7 @@ use Rattle.peers.proofs.peer_steps.hold_peer.Statement.{statement}
 use Rattle.peers.proofs.peer_steps.hold_peer.Tie as tie
 
 abbrev start : tie.After-find-found → tie.Start
-start c = c.before.before.before
+start c = c.before.before
 
 ordered : (c : tie.After-find-found) → InOrder 12 1 (start c).args.n (start c).args.peers.now
 ordered c = in-order-says 12 1 (start c).args.n (start c).args.peers.now (start c).requires.0
@@ -50,19 +50,17 @@ same_length c = simp length-set
 returns : tie.Need-returns-in-At
 returns c =
     let s = start (at c) in
-    held_at s.args.n s.args.id s.args.until s.args.peers.now (ordered (at c)) s.pre.1 c.in-At.i (place c)
+    held_at s.args.n s.args.id s.args.until s.args.peers.now (ordered (at c)) s.requires.1 c.in-At.i (place c)
 
 returns-2 : tie.Need-returns-in-Gap
 returns-2 c =
-    let f = c.before in
-    let s = start f in
-    held-gap s.args.n s.args.id s.args.until s.args.peers.now (ordered f) s.pre.1 c.in-Gap.field-0 (sym c.in-Gap.is ∙ f.find-found.ensures)
+    let s = start c.before in
+    held-gap s.args.n s.args.id s.args.until s.args.peers.now (ordered c.before) s.requires.1 c.in-Gap.field-0 (sym c.in-Gap.is ∙ c.find-found.ensures)
 
 returns-3 : tie.Need-returns-in-Unfit
 returns-3 c =
-    let f = c.before in
-    let s = start f in
-    found-fit 12 s.args.n s.args.id s.args.peers.now (ordered f) (sym c.in-Unfit.is ∙ f.find-found.ensures)
+    let s = start c.before in
+    found-fit 12 s.args.n s.args.id s.args.peers.now (ordered c.before) (sym c.in-Unfit.is ∙ c.find-found.ensures)
 
 pub hold_peer_spec : {M : Type 1} → statement M
 hold_peer_spec =

@@ -34,9 +34,8 @@ returns-2 c =
 
 returns-3 : tie.Need-returns
 returns-3 c =
-    let e = c.before in
-    let s = e.args in
-    ap not c.is_fresh.ensures ∙ taken_is s.reading s.max_age s.held s.taken s.heard-at e.if-held-ne0.false e.if-taken-eq0.false
+    let s = c.args in
+    ap not c.is_fresh.ensures ∙ taken_is s.reading s.max_age s.held s.taken s.heard-at c.if-held-ne0.false c.if-taken-eq0.false
 
 pub is_stale_spec : {M : Type 1} → statement M
 is_stale_spec = tie.close (tie.spec returns returns-2 (λ c κs. search rules) returns-3)

@@ -34,10 +34,8 @@ mul-copy-words c = omega (arith, sizes c.before.before.before.before)
 
 returns-3 : tie.Need-returns
 returns-3 c =
-    let m = c.before.before in
-    let b = m.before.before.before in
-    let e = b.if-not-stays.false in
-    (rw e, m.copy_words.ensures.1 ∙ copied_is _ _ _ _ (omega (arith, sizes b.before.before)) ∙ rw e)
+    let e = c.if-not-stays.false in
+    (rw e, c.copy_words.ensures.1 ∙ copied_is _ _ _ _ (omega (arith, sizes c.before.before.before.before.before.before.before)) ∙ rw e)
 
 pub keep_record_spec : {M : Type 1} → statement M
 keep_record_spec =

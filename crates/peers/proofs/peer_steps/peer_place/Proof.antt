@@ -28,27 +28,23 @@ shared-slice-read-if2 c = omega (arith, inside c.before)
 returns : tie.Need-returns-then-peers-near
 unfolding place_of found_or
 returns c =
-    let t = c.before.before in
-    let s = start t in
-    ap (found_or s.args.n) (found_here 12 s.args.n s.args.id s.args.peers.now (ordered s) s.args.near t.if-near-n.true c.if-peers-near.true)
+    let s = start c.before.before in
+    ap (found_or s.args.n) (found_here 12 s.args.n s.args.id s.args.peers.now (ordered s) s.args.near c.if-near-n.true c.if-peers-near.true)
 
 returns-2 : tie.Need-returns-in-At
 unfolding place_of found_or
 returns-2 c =
-    let f = c.before in
-    ap (found_or f.args.n) (sym c.in-At.is ∙ f.find-found.ensures)
+    ap (found_or c.args.n) (sym c.in-At.is ∙ c.find-found.ensures)
 
 returns-3 : tie.Need-returns-in-Gap
 unfolding place_of found_or
 returns-3 c =
-    let f = c.before in
-    ap (found_or f.args.n) (sym c.in-Gap.is ∙ f.find-found.ensures)
+    ap (found_or c.args.n) (sym c.in-Gap.is ∙ c.find-found.ensures)
 
 returns-4 : tie.Need-returns-in-Unfit
 unfolding place_of found_or
 returns-4 c =
-    let f = c.before in
-    ap (found_or f.args.n) (sym c.in-Unfit.is ∙ f.find-found.ensures)
+    ap (found_or c.args.n) (sym c.in-Unfit.is ∙ c.find-found.ensures)
 
 pub peer_place_spec : {M : Type 1} → statement M
 peer_place_spec =

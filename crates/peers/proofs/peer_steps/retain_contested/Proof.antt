@@ -28,10 +28,9 @@ inside c =
 
 loop-holds : tie.Need-loop-i-init invariant-loop-i decreases-loop-i
 loop-holds c =
-    let s = c.before.before in
-    let xs : List ℕ = s.args.contested.now in
-    kept-none (test s.args.peers.now s.args.n s.args.reading s.args.max_age) 6 s.args.c (records 6 s.args.c xs) xs (omega arith) s.requires.1
-    (wide-records 6 s.args.c xs s.requires.1) (length-records 6 s.args.c xs)
+    let xs : List ℕ = c.args.contested.now in
+    kept-none (test c.args.peers.now c.args.n c.args.reading c.args.max_age) 6 c.args.c (records 6 c.args.c xs) xs (omega arith) c.requires.1
+    (wide-records 6 c.args.c xs c.requires.1) (length-records 6 c.args.c xs)
 
 mul_at : tie.Need-overflow_mul-at invariant-loop-i decreases-loop-i
 mul_at c = omega (arith, inside c)
@@ -59,31 +58,25 @@ stays-contested-requires c κs = c.requires.0
 
 keep-record-requires : tie.Need-keep_record-kept-requires invariant-loop-i decreases-loop-i
 keep-record-requires c κs =
-    let l = c.before.before.before.before.before in
-    (omega arith, (inside l).0, (inside l).1)
+    (omega arith, (inside c.before.before.before.before.before).0, (inside c.before.before.before.before.before).1)
 
 loop-again : tie.Need-loop-i-preserved invariant-loop-i decreases-loop-i
 unfolding contested_of
 loop-again c =
-    let r = c.before.before in
-    let h = r.before.before in
-    let f = h.before.before in
-    let t = f.before.before in
-    let l = t.loop-i in
-    let s₀ = t.before.before.before.before in
-    let s = s₀.args in
+    let l = c.loop-i in
+    let s = c.args in
     let xs : List ℕ = s.contested.now in
     let rs : List (List ℕ) = records 6 s.c xs in
     let p : List ℕ → Bool = test s.peers.now s.n s.reading s.max_age in
-    kept-copied p 6 s.c rs xs l.contested l.i l.auto l.invariant t.loop-i-test.true
-    h.stays_contested-stays.result r.keep_record-kept.new.0 r.keep_record-kept.result refl
-    (h.stays_contested-stays.ensures
-    ∙ stays-placed s.n s.peers.now (in-order-says 12 1 s.n s.peers.now s₀.requires.0) s.reading s.max_age _ _ f.peer_place-place.result f.peer_place-place.ensures
+    kept-copied p 6 s.c rs xs l.contested l.i l.auto l.invariant c.loop-i-test.true
+    c.stays_contested-stays.result c.keep_record-kept.new.0 c.keep_record-kept.result refl
+    (c.stays_contested-stays.ensures
+    ∙ stays-placed s.n s.peers.now (in-order-says 12 1 s.n s.peers.now c.requires.0) s.reading s.max_age _ _ c.peer_place-place.result c.peer_place-place.ensures
     ∙ (λ k. stays_contested s.reading s.max_age (map peer_of (records 12 s.n s.peers.now))
-    (kept-first p 6 s.c rs xs l.contested l.i l.auto l.invariant t.loop-i-test.true k)
-    (kept_word p 6 s.c rs xs l.contested l.i l.auto l.invariant t.loop-i-test.true 5 (omega arith) k)))
-    r.keep_record-kept.ensures.0
-    r.keep_record-kept.ensures.1
+    (kept-first p 6 s.c rs xs l.contested l.i l.auto l.invariant c.loop-i-test.true k)
+    (kept_word p 6 s.c rs xs l.contested l.i l.auto l.invariant c.loop-i-test.true 5 (omega arith) k)))
+    c.keep_record-kept.ensures.0
+    c.keep_record-kept.ensures.1
 
 same_length : tie.Need-shape_of-contested invariant-loop-i decreases-loop-i
 same_length c =

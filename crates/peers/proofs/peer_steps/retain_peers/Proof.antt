@@ -58,12 +58,11 @@ lent_is c =
 
 loop-holds : tie.Need-loop-i-init invariant-loop-i decreases-loop-i
 loop-holds c =
-    let s = c.before.before in
-    let rs : List (List ℕ) = records 12 s.args.n s.args.peers.now in
-    let f : List ℕ → List ℕ = aged s.args.reading s.args.max_age in
-    kept-none (test s.args.contested.now s.args.c s.args.reading) 12 s.args.n (map f rs) s.args.peers.now (omega arith) s.requires.1
-    (wide-map f 12 (λ x. peer-long (age_peer is_held s.args.reading s.args.max_age (peer_of x))) rs)
-    (length-map rs f ∙ length-records 12 s.args.n s.args.peers.now)
+    let rs : List (List ℕ) = records 12 c.args.n c.args.peers.now in
+    let f : List ℕ → List ℕ = aged c.args.reading c.args.max_age in
+    kept-none (test c.args.contested.now c.args.c c.args.reading) 12 c.args.n (map f rs) c.args.peers.now (omega arith) c.requires.1
+    (wide-map f 12 (λ x. peer-long (age_peer is_held c.args.reading c.args.max_age (peer_of x))) rs)
+    (length-map rs f ∙ length-records 12 c.args.n c.args.peers.now)
 
 mul_at : tie.Need-overflow_mul-at invariant-loop-i decreases-loop-i
 mul_at c = omega (arith, inside c)
@@ -75,65 +74,56 @@ mul-aged-words : tie.Need-offset_bounds-peers-at invariant-loop-i decreases-loop
 mul-aged-words c = omega (arith, inside c)
 
 part-aged-words-start : tie.Need-slice_bounds-aged_words-start invariant-loop-i decreases-loop-i
-part-aged-words-start c = omega (arith, inside c.before)
+part-aged-words-start c = omega (arith, inside c)
 
 part-aged-words-end : tie.Need-slice_bounds-aged_words-end invariant-loop-i decreases-loop-i
-part-aged-words-end c = omega (arith, inside c.before)
+part-aged-words-end c = omega (arith, inside c)
 
 aged-words-requires : tie.Need-aged_words-words-requires invariant-loop-i decreases-loop-i
 aged-words-requires c κs =
-    let t = c.before.before in
-    let s = start t in
-    let e = exact-record peer_words peer_of (records 12 s.args.n s.args.peers.now) s.pre.2 t.loop-i.i (omega (arith, t.loop-i-test.true, length-records 12 s.args.n s.args.peers.now)) in (
-      ap length (lent_is t ∙ sym e) ∙ peer-long (peer_of (peer t)),
-      ap (λ (x : List ℕ). peer_words (peer_of x)) (lent_is t) ∙ e ∙ sym (lent_is t),
+    let s = start c.before in
+    let e = exact-record peer_words peer_of (records 12 s.args.n s.args.peers.now) s.requires.2 c.loop-i.i (omega (arith, c.loop-i-test.true, length-records 12 s.args.n s.args.peers.now)) in (
+      ap length (lent_is c.before ∙ sym e) ∙ peer-long (peer_of (peer c.before)),
+      ap (λ (x : List ℕ). peer_words (peer_of x)) (lent_is c.before) ∙ e ∙ sym (lent_is c.before),
     )
 
 -- the words of the peer once it has aged
-aged-is : (c : tie.After-aged_words-words invariant-loop-i decreases-loop-i) → let t = c.before.before.before in c.aged_words-words.result ≡ get_or (made t) t.loop-i.i []
+aged-is : (c : tie.After-aged_words-words invariant-loop-i decreases-loop-i) → let t = c in c.aged_words-words.result ≡ get_or (made t.before.before) t.loop-i.i []
 aged-is c =
-    let t = c.before.before.before in
-    let s = (start t).args in
+    let s = (start c.before.before).args in
     c.aged_words-words.ensures
-    ∙ ap (aged s.reading s.max_age) (lent_is t)
-    ∙ sym (map_at (aged s.reading s.max_age) [] [] (records 12 s.n s.peers.now) t.loop-i.i (omega (arith, t.loop-i-test.true, length-records 12 s.n s.peers.now)))
+    ∙ ap (aged s.reading s.max_age) (lent_is c.before.before)
+    ∙ sym (map_at (aged s.reading s.max_age) [] [] (records 12 s.n s.peers.now) c.loop-i.i (omega (arith, c.loop-i-test.true, length-records 12 s.n s.peers.now)))
 
 aged-long : (c : tie.After-aged_words-words invariant-loop-i decreases-loop-i) → length c.aged_words-words.result ≡ 12
 aged-long c =
-    let t = c.before.before.before in
-    ap length c.aged_words-words.ensures ∙ peer-long (age_peer is_held (start t).args.reading (start t).args.max_age (peer_of (lent t)))
+    ap length c.aged_words-words.ensures ∙ peer-long (age_peer is_held (start c.before.before).args.reading (start c.before.before).args.max_age (peer_of (lent c.before.before)))
 
 stays-peer-requires : tie.Need-stays_peer-stays-requires invariant-loop-i decreases-loop-i
-stays-peer-requires c κs = (start c.before.before.before).pre.0
+stays-peer-requires c κs = (start c.before.before).requires.0
 
 keep-peer-requires : tie.Need-keep_peer-kept-requires invariant-loop-i decreases-loop-i
 keep-peer-requires c κs =
-    let a = c.before.before.before in
-    let t = a.before.before.before in
-    let s = start t in
-    let l = t.loop-i in
-    let e = kept-long (test s.args.contested.now s.args.c s.args.reading) 12 s.args.n (made t) s.args.peers.now l.peers l.i l.auto l.invariant in
-    (omega (arith, inside t, t.loop-i-test.true), omega (arith, e, s.pre.1), aged-long a)
+    let s = start c.before.before.before.before.before in
+    let l = c.loop-i in
+    let e = kept-long (test s.args.contested.now s.args.c s.args.reading) 12 s.args.n (made c.before.before.before.before.before) s.args.peers.now l.peers l.i l.auto l.invariant in
+    (omega (arith, inside c.before.before.before.before.before, c.loop-i-test.true), omega (arith, e, s.requires.1), aged-long c.before.before.before)
 
 loop-again : tie.Need-loop-i-preserved invariant-loop-i decreases-loop-i
 unfolding peer_of
 loop-again c =
-    let r = c.before.before in
-    let h = r.before.before.before in
-    let a = h.before in
-    let t = a.before.before.before in
-    let l = t.loop-i in
-    let s = (start t).args in
+    let l = c.loop-i in
+    let s = (start c.before.before.before.before.before.before.before.before).args in
     let p : List ℕ → Bool = test s.contested.now s.c s.reading in
     let cs : List ContestedKey = map contested_of (records 6 s.c s.contested.now) in
-    let x : List ℕ = get_or (made t) l.i [] in
-    kept-written p 12 s.n (made t) s.peers.now l.peers l.i l.auto l.invariant t.loop-i-test.true
-    h.stays_peer-stays.result a.aged_words-words.result r.keep_peer-kept.new.0 r.keep_peer-kept.result (aged-long a) (aged-is a)
-    (h.stays_peer-stays.ensures
-    ∙ ap (λ (y : List ℕ). stays_peer s.reading cs (get_or y 0 0) (time_of (get_or y 1 0) (get_or y 2 0)) (flag_of (get_or y 3 0))) (aged-is a)
+    let x : List ℕ = get_or (made c.before.before.before.before.before.before.before.before) l.i [] in
+    kept-written p 12 s.n (made c.before.before.before.before.before.before.before.before) s.peers.now l.peers l.i l.auto l.invariant c.loop-i-test.true
+    c.stays_peer-stays.result c.aged_words-words.result c.keep_peer-kept.new.0 c.keep_peer-kept.result (aged-long c.before.before.before.before.before.before) (aged-is c.before.before.before.before.before.before)
+    (c.stays_peer-stays.ensures
+    ∙ ap (λ (y : List ℕ). stays_peer s.reading cs (get_or y 0 0) (time_of (get_or y 1 0) (get_or y 2 0)) (flag_of (get_or y 3 0))) (aged-is c.before.before.before.before.before.before)
     ∙ ap (stays_peer s.reading cs (get_or x 0 0) (time_of (get_or x 1 0) (get_or x 2 0))) (taken-flag (get_or x 3 0) (get_or x 4 0) (get_or x 5 0) (get_or x 6 0)))
-    r.keep_peer-kept.ensures.0
-    r.keep_peer-kept.ensures.1
+    c.keep_peer-kept.ensures.0
+    c.keep_peer-kept.ensures.1
 
 same_length : tie.Need-shape_of-peers invariant-loop-i decreases-loop-i
 same_length c =

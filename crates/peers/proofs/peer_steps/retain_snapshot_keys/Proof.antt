@@ -28,10 +28,9 @@ inside c =
 
 loop-holds : tie.Need-loop-i-init invariant-loop-i decreases-loop-i
 loop-holds c =
-    let s = c.before.before in
-    let xs : List ℕ = s.args.snapshot-keys.now in
-    kept-none (test s.args.peers.now s.args.n) 4 s.args.k (records 4 s.args.k xs) xs (omega arith) s.requires.1
-    (wide-records 4 s.args.k xs s.requires.1) (length-records 4 s.args.k xs)
+    let xs : List ℕ = c.args.snapshot-keys.now in
+    kept-none (test c.args.peers.now c.args.n) 4 c.args.k (records 4 c.args.k xs) xs (omega arith) c.requires.1
+    (wide-records 4 c.args.k xs c.requires.1) (length-records 4 c.args.k xs)
 
 mul_at : tie.Need-overflow_mul-at invariant-loop-i decreases-loop-i
 mul_at c = omega (arith, inside c)
@@ -50,29 +49,23 @@ has-snapshot-requires c κs = c.requires.0
 
 keep-record-requires : tie.Need-keep_record-kept-requires invariant-loop-i decreases-loop-i
 keep-record-requires c κs =
-    let l = c.before.before.before.before in
-    (omega arith, (inside l).0, (inside l).1)
+    (omega arith, (inside c.before.before.before.before).0, (inside c.before.before.before.before).1)
 
 loop-again : tie.Need-loop-i-preserved invariant-loop-i decreases-loop-i
 unfolding snapshot_key_of
 loop-again c =
-    let r = c.before.before in
-    let h = r.before.before in
-    let f = h.before in
-    let t = f.before.before in
-    let l = t.loop-i in
-    let s₀ = t.before.before.before.before in
-    let s = s₀.args in
+    let l = c.loop-i in
+    let s = c.args in
     let xs : List ℕ = s.snapshot-keys.now in
     let rs : List (List ℕ) = records 4 s.k xs in
     let p : List ℕ → Bool = test s.peers.now s.n in
-    kept-copied p 4 s.k rs xs l.snapshot-keys l.i l.auto l.invariant t.loop-i-test.true
-    h.has_snapshot-stays.result r.keep_record-kept.new.0 r.keep_record-kept.result refl
-    (h.has_snapshot-stays.ensures
-    ∙ taken-placed s.n s.peers.now (in-order-says 12 1 s.n s.peers.now s₀.requires.0) _ f.peer_place-place.result f.peer_place-place.ensures
-    ∙ ap (has_snapshot (map peer_of (records 12 s.n s.peers.now))) (kept-first p 4 s.k rs xs l.snapshot-keys l.i l.auto l.invariant t.loop-i-test.true))
-    r.keep_record-kept.ensures.0
-    r.keep_record-kept.ensures.1
+    kept-copied p 4 s.k rs xs l.snapshot-keys l.i l.auto l.invariant c.loop-i-test.true
+    c.has_snapshot-stays.result c.keep_record-kept.new.0 c.keep_record-kept.result refl
+    (c.has_snapshot-stays.ensures
+    ∙ taken-placed s.n s.peers.now (in-order-says 12 1 s.n s.peers.now c.requires.0) _ c.peer_place-place.result c.peer_place-place.ensures
+    ∙ ap (has_snapshot (map peer_of (records 12 s.n s.peers.now))) (kept-first p 4 s.k rs xs l.snapshot-keys l.i l.auto l.invariant c.loop-i-test.true))
+    c.keep_record-kept.ensures.0
+    c.keep_record-kept.ensures.1
 
 same_length : tie.Need-shape_of-snapshot_keys invariant-loop-i decreases-loop-i
 same_length c =

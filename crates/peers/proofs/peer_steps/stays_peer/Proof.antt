@@ -13,27 +13,22 @@ contested c = map contested_of (records 6 c.args.c c.args.contested.now)
 
 returns : tie.Need-returns-then-held-ne0
 returns c =
-    let s = c.before.before in
-    held-peer s.args.reading s.args.id s.args.held s.args.until s.args.taken (contested s) c.if-held-ne0.true
+    held-peer c.args.reading c.args.id c.args.held c.args.until c.args.taken (contested c.before.before) c.if-held-ne0.true
 
 returns-2 : tie.Need-returns-then-taken-ne0
 returns-2 c =
-    let s = c.before.before.before in
-    taken-peer s.args.reading s.args.id s.args.held s.args.until s.args.taken (contested s) c.if-held-ne0.false c.if-taken-ne0.true
+    taken-peer c.args.reading c.args.id c.args.held c.args.until c.args.taken (contested c.before.before.before) c.if-held-ne0.false c.if-taken-ne0.true
 
 has-run-requires : tie.Need-has_run-requires
 has-run-requires c κs =
-    let s = c.before.before.before in
-    in-order-run 6 2 s.args.c s.args.id s.args.contested.now (omega arith) (in-order-says 6 2 s.args.c s.args.contested.now s.requires)
+    in-order-run 6 2 c.args.c c.args.id c.args.contested.now (omega arith) (in-order-says 6 2 c.args.c c.args.contested.now c.requires)
 
 returns-3 : tie.Need-returns
 unfolding contested_of
 returns-3 c =
-    let e = c.before in
-    let s = e.before.before.before in
     c.has_run.ensures
-    ∙ sym (any-map contested_of (λ (x : ContestedKey). eqb x.peer s.args.id) (records 6 s.args.c s.args.contested.now))
-    ∙ bare-peer s.args.reading s.args.id s.args.held s.args.until s.args.taken (contested s) e.if-held-ne0.false e.if-taken-ne0.false
+    ∙ sym (any-map contested_of (λ (x : ContestedKey). eqb x.peer c.args.id) (records 6 c.args.c c.args.contested.now))
+    ∙ bare-peer c.args.reading c.args.id c.args.held c.args.until c.args.taken (contested c.before.before.before.before) c.if-held-ne0.false c.if-taken-ne0.false
 
 pub stays_peer_spec : {M : Type 1} → statement M
 stays_peer_spec = tie.close (tie.spec returns returns-2 has-run-requires returns-3)

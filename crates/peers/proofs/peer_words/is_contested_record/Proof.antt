@@ -13,9 +13,8 @@ returns c = unlike-record 6 contested_words contested_of valid_contested c.args.
 
 returns-2 : tie.Need-returns
 returns-2 c =
-    let k = c.before.before in
-    scanned-record 6 contested_words contested_of valid_contested k.args.words.now (are_key_words 6) contested-words-pass c.if-words-ne-CONTESTED_WORDS.false
-    (λ i. (k.shared_slice_known-1.given i).fits) c.are_key_words.result c.are_key_words.ensures
+    scanned-record 6 contested_words contested_of valid_contested c.args.words.now (are_key_words 6) contested-words-pass c.if-words-ne-CONTESTED_WORDS.false
+    (λ i. (c.shared_slice_known-1.given i).fits) c.are_key_words.result c.are_key_words.ensures
 
 pub is_contested_record_spec : {M : Type 1} → statement M
 is_contested_record_spec = tie.close (tie.spec returns (λ c κs. search rules) returns-2)

@@ -13,9 +13,8 @@ returns c = unlike-record 12 peer_words peer_of valid_peer c.args.words.now c.if
 
 returns-2 : tie.Need-returns
 returns-2 c =
-    let k = c.before.before in
-    scanned-record 12 peer_words peer_of valid_peer k.args.words.now are_peer_words peer-words-pass c.if-words-ne-PEER_WORDS.false
-    (λ i. (k.shared_slice_known-1.given i).fits) c.are_peer_words.result c.are_peer_words.ensures
+    scanned-record 12 peer_words peer_of valid_peer c.args.words.now are_peer_words peer-words-pass c.if-words-ne-PEER_WORDS.false
+    (λ i. (c.shared_slice_known-1.given i).fits) c.are_peer_words.result c.are_peer_words.ensures
 
 pub is_peer_record_spec : {M : Type 1} → statement M
 is_peer_record_spec = tie.close (tie.spec returns (λ c κs. search rules) returns-2)

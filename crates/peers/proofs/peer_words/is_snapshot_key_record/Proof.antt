@@ -13,9 +13,8 @@ returns c = unlike-record 4 snapshot_key_words snapshot_key_of valid_snapshot_ke
 
 returns-2 : tie.Need-returns
 returns-2 c =
-    let k = c.before.before in
-    scanned-record 4 snapshot_key_words snapshot_key_of valid_snapshot_key k.args.words.now (are_key_words 4) key-words-pass c.if-words-ne-SNAPSHOT_KEY_WORDS.false
-    (λ i. (k.shared_slice_known-1.given i).fits) c.are_key_words.result c.are_key_words.ensures
+    scanned-record 4 snapshot_key_words snapshot_key_of valid_snapshot_key c.args.words.now (are_key_words 4) key-words-pass c.if-words-ne-SNAPSHOT_KEY_WORDS.false
+    (λ i. (c.shared_slice_known-1.given i).fits) c.are_key_words.result c.are_key_words.ensures
 
 pub is_snapshot_key_record_spec : {M : Type 1} → statement M
 is_snapshot_key_record_spec = tie.close (tie.spec returns (λ c κs. search rules) returns-2)

@@ -18,7 +18,7 @@ loop-again c =
     ⊎_elim
     (λ w. (search rules, ap length w.1 ∙ search rules))
     (λ w. (search rules, ap length w.1 ∙ search rules))
-    c.if-i-lt512.branch
+    c.if-i-lt512.branch-raw
 
 pub words_of_spec : {M : Type 1} → statement M
 words_of_spec =

@@ -18,7 +18,7 @@ loop-again c =
     ⊎_elim
     (λ w. (search rules, ap length w.2 ∙ search rules))
     (λ w. (search rules, ap length w.1 ∙ search rules))
-    c.if-i-lt64.branch
+    c.if-i-lt64.branch-raw
 
 pub keys_of_spec : {M : Type 1} → statement M
 keys_of_spec =

@@ -7,24 +7,18 @@ use Rattle.hot.proofs.hot_set.HotEntry.cool.Statement.{statement}
 use Rattle.hot.proofs.hot_set.HotEntry.cool.Tie as tie
 
 returns : tie.Need-returns-then-not-self
-returns c = cooled-secondary _ _ _ _ (c.if-not-self.true)
+returns c = cooled-secondary _ _ _ _ (not-true _ c.if-not-self.true)
 
 returns-2 : tie.Need-returns-then-cooldown-saturating_sub
 returns-2 c =
-    let h = c.before.before in
-    let k = h.before in
-    let e = k.before in
-    c.renewed.ensures ∙ cooled-expired _ _ _ _ _ (e.if-not-self.false) k.in-Since.is (le-leb _ _ (rw h.saturating_sub.ensures at c.if-cooldown-saturating_sub.true))
+    c.renewed.ensures ∙ cooled-expired _ _ _ _ _ (not-false _ c.if-not-self.false) c.in-Since.is (le-leb _ _ (rw c.saturating_sub.ensures at c.if-cooldown-saturating_sub.true))
 
 returns-3 : tie.Need-returns-else-cooldown-saturating_sub
 returns-3 c =
-    let h = c.before in
-    let k = h.before in
-    let e = k.before in
-    cooled-waiting _ _ _ _ _ (e.if-not-self.false) k.in-Since.is (lt-leb _ _ (rw h.saturating_sub.ensures at c.if-cooldown-saturating_sub.false))
+    cooled-waiting _ _ _ _ _ (not-false _ c.if-not-self.false) c.in-Since.is (lt-leb _ _ (rw c.saturating_sub.ensures at c.if-cooldown-saturating_sub.false))
 
 returns-4 : tie.Need-returns-in_default
-returns-4 c = cooled-first _ _ _ _ (c.if-not-self.false) c.in_default.is
+returns-4 c = cooled-first _ _ _ _ (not-false _ c.if-not-self.false) c.in_default.is
 
 pub cool_spec : {M : Type 1} → statement M
 cool_spec =

@@ -6,27 +6,19 @@ use Rattle.hot.proofs.hot_set.HotSet.ask_each.Statement.{statement}
 use Rattle.hot.proofs.hot_set.HotSet.ask_each.Tie as tie
 
 returns : tie.Need-returns-then-no-ne0
-returns c = let s = c.before.before.before.before in set-no s.args.self s.args.hot.now s.args.n s.args.demands.now s.args.room _ c.ask-no.ensures c.if-no-ne0.true
+returns c = let s = c in set-no s.args.self s.args.hot.now s.args.n s.args.demands.now s.args.room _ c.ask-no.ensures c.if-no-ne0.true
 
 returns-2 : tie.Need-returns-then-not-are_magnitudes
 returns-2 c =
-    let e = c.before.before in
-    let s = e.before.before.before.before in
-    demands-no s.args.self s.args.hot.now s.args.n s.args.demands.now s.args.room _ e.ask-no.ensures e.if-no-ne0.false (told-no c.are_magnitudes.ensures c.if-not-are_magnitudes.true)
+    demands-no c.args.self c.args.hot.now c.args.n c.args.demands.now c.args.room _ c.ask-no.ensures c.if-no-ne0.false (told-no c.are_magnitudes.ensures c.if-not-are_magnitudes.true)
 
 returns-3 : tie.Need-returns-then-room-n
 returns-3 c =
-    let d = c.before in
-    let e = d.before.before in
-    let s = e.before.before.before.before in
-    places-no s.args.self s.args.hot.now s.args.n s.args.demands.now s.args.room _ e.ask-no.ensures e.if-no-ne0.false (told-yes d.are_magnitudes.ensures d.if-not-are_magnitudes.false) c.if-room-n.true
+    places-no c.args.self c.args.hot.now c.args.n c.args.demands.now c.args.room _ c.ask-no.ensures c.if-no-ne0.false (told-yes c.are_magnitudes.ensures c.if-not-are_magnitudes.false) c.if-room-n.true
 
 returns-4 : tie.Need-returns
 returns-4 c =
-    let d = c.before in
-    let e = d.before.before in
-    let s = e.before.before.before.before in
-    places-yes s.args.self s.args.hot.now s.args.n s.args.demands.now s.args.room _ e.ask-no.ensures e.if-no-ne0.false (told-yes d.are_magnitudes.ensures d.if-not-are_magnitudes.false) c.if-room-n.false
+    places-yes c.args.self c.args.hot.now c.args.n c.args.demands.now c.args.room _ c.ask-no.ensures c.if-no-ne0.false (told-yes c.are_magnitudes.ensures c.if-not-are_magnitudes.false) c.if-room-n.false
 
 pub ask_each_spec : {M : Type 1} → statement M
 ask_each_spec =

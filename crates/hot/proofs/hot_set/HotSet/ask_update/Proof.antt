@@ -10,27 +10,22 @@ use Rattle.hot.proofs.HotSet.Answers.{numbered-set, asks-demand}
 use Rattle.hot.proofs.hot_set.HotSet.ask_update.Statement.{statement}
 use Rattle.hot.proofs.hot_set.HotSet.ask_update.Tie as tie
 
-asked : (e : tie.Else-no-ne0) → let s = e.before.before.before in passes (ask_set s.args.self s.args.hot.now) ≡ true
-asked e = let s = e.before.before.before in passed_none _ _ (numbered-set s.args.self s.args.hot.now s.args.demand_rate) e.ask-no.ensures e.if-no-ne0.false
+asked : (e : tie.Else-no-ne0) → let s = e in passes (ask_set s.args.self s.args.hot.now) ≡ true
+asked e = let s = e in passed_none _ _ (numbered-set s.args.self s.args.hot.now s.args.demand_rate) e.ask-no.ensures e.if-no-ne0.false
 
 returns : tie.Need-returns-then-no-ne0
 returns c =
-    let s = c.before.before.before in
-    first_more (ask_set s.args.self s.args.hot.now) (asks-demand s.args.self s.args.hot.now s.args.demand_rate) _ c.ask-no.ensures c.if-no-ne0.true
+    first_more (ask_set c.args.self c.args.hot.now) (asks-demand c.args.self c.args.hot.now c.args.demand_rate) _ c.ask-no.ensures c.if-no-ne0.true
 
 returns-2 : tie.Need-returns-then-not-is_magnitude
 returns-2 c =
-    let e = c.before.before in
-    let s = e.before.before.before in
     first-no 11 _ (told-no c.is_magnitude.ensures c.if-not-is_magnitude.true)
-    ∙ first_rest (ask_set s.args.self s.args.hot.now) (asks-demand s.args.self s.args.hot.now s.args.demand_rate) (asked e)
+    ∙ first_rest (ask_set c.args.self c.args.hot.now) (asks-demand c.args.self c.args.hot.now c.args.demand_rate) (asked c.before.before)
 
 returns-3 : tie.Need-returns
 returns-3 c =
-    let e = c.before.before in
-    let s = e.before.before.before in
     first-yes 11 _ (told-yes c.is_magnitude.ensures c.if-not-is_magnitude.false) first-none
-    ∙ first_rest (ask_set s.args.self s.args.hot.now) (asks-demand s.args.self s.args.hot.now s.args.demand_rate) (asked e)
+    ∙ first_rest (ask_set c.args.self c.args.hot.now) (asks-demand c.args.self c.args.hot.now c.args.demand_rate) (asked c.before.before)
 
 pub ask_update_spec : {M : Type 1} → statement M
 ask_update_spec =

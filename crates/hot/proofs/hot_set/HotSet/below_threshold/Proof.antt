@@ -14,7 +14,7 @@ use Rattle.hot.proofs.hot_set.HotSet.below_threshold.Statement.{statement}
 use Rattle.hot.proofs.hot_set.HotSet.below_threshold.Tie as tie
 
 abbrev there : tie.In-Entry → tie.Start
-there c = c.before.before.before.before.before.before
+there c = c.before.before.before
 
 found : (c : tie.In-Entry) → get (there c).args.key (entries_of (there c).args.self (there c).args.hot.now) ≡ some c.in-Entry.entry
 found c = sym c.get.ensures ∙ ap slot c.in-Entry.is
@@ -23,7 +23,7 @@ same_key : (c : tie.After-cool-cooled) → c.cool-cooled.result.key ≡ c.in-Ent
 same_key c = ap (λ (e : HotEntry). e.key) c.cool-cooled.ensures ∙ cooled-key _ _ _ _
 
 abbrev away : tie.In-Free → tie.Start
-away c = c.before.before.before.before.before
+away c = c.before.before.before
 
 free : (c : tie.In-Free) → get (away c).args.key (entries_of (away c).args.self (away c).args.hot.now) ≡ none
 free c = sym c.get.ensures ∙ ap slot c.in-Free.is
@@ -33,49 +33,36 @@ get-requires c κs = ready-now _ _ c.requires
 
 put-requires : tie.Need-put-requires
 put-requires c κs =
-    let f = c.before.before in
-    let s = there f.before in
-    (ready-now _ _ s.pre, kept-room s.args.self s.args.hot.now s.pre s.args.key _ _ (found f.before) (same_key f))
+    let s = there c.before.before.before in
+    (ready-now _ _ s.requires, kept-room s.args.self s.args.hot.now s.requires s.args.key _ _ (found c.before.before.before) (same_key c.before.before))
 
 returns : tie.Need-returns-then-cooled
 returns c =
-    let p = c.before.before.before in
-    let j = p.before.before in
-    let f = j.before in
-    let s = there f.before in
-    cooled-stays s.args.self s.args.hot.now s.pre s.args.margin s.args.key s.args.demand_rate s.args.now s.args.hot_elsewhere _ _ _ _ (found f.before) f.cool-cooled.ensures (either f.cool-cooled.result.primary s.args.hot_elsewhere (⊎_elim (λ w. inl w.taken) (λ w. inr w.1.taken) j.then-cooled.branch)) c.counted.ensures p.put.ensures
+    let s = there c.before.before.before.before.before.before.before in
+    cooled-stays s.args.self s.args.hot.now s.requires s.args.margin s.args.key s.args.demand_rate s.args.now s.args.hot_elsewhere _ _ _ _ (found c.before.before.before.before.before.before.before) c.cool-cooled.ensures (either c.cool-cooled.result.primary s.args.hot_elsewhere (⊎_elim (λ w. inl w.true) (λ w. inr w.1.true) c.then-cooled.branch-raw)) c.counted.ensures c.put.ensures
 
 remove-requires : tie.Need-remove-requires
 remove-requires c κs = ready-now _ _ c.requires
 
 sub-counted : tie.Need-overflow_sub-n
 sub-counted c =
-    let f = c.before.before.before.before.before.before in
-    let s = there f.before in
-    omega (arith, gone-count s.args.self s.args.hot.now s.pre s.args.key _ f.cool-cooled.result (found f.before) (same_key f))
+    let s = there c.before.before.before.before.before.before.before in
+    omega (arith, gone-count s.args.self s.args.hot.now s.requires s.args.key _ c.cool-cooled.result (found c.before.before.before.before.before.before.before) (same_key c.before.before.before.before.before.before))
 
 returns-2 : tie.Need-returns-then-hot_elsewhere-2
 returns-2 c =
-    let p = c.before.before in
-    let t = p.before.before in
-    let e = t.before in
-    let s = away e in
-    absent-elsewhere s.args.self s.args.hot.now s.pre s.args.margin s.args.key s.args.demand_rate s.args.now s.args.hot_elsewhere _ _ (free e) t.if-hot_elsewhere-2.true p.promote.ensures
+    let s = away c.before.before.before.before.before in
+    absent-elsewhere s.args.self s.args.hot.now s.requires s.args.margin s.args.key s.args.demand_rate s.args.now s.args.hot_elsewhere _ _ (free c.before.before.before.before.before) c.if-hot_elsewhere-2.true c.promote.ensures
 
 returns-3 : tie.Need-returns-else-hot_elsewhere
 returns-3 c =
-    let r = c.before.before.before in
-    let e = r.before.before in
-    let f = e.before.before in
-    let s = there f.before in
-    cooled-leaves s.args.self s.args.hot.now s.pre s.args.margin s.args.key s.args.demand_rate s.args.now s.args.hot_elsewhere _ _ _ _ (found f.before) f.cool-cooled.ensures (neither _ _ e.then-cooled.false e.if-hot_elsewhere.false) c.counted-in-Entry.ensures r.remove.ensures
+    let s = there c.before.before.before.before.before.before.before.before in
+    cooled-leaves s.args.self s.args.hot.now s.requires s.args.margin s.args.key s.args.demand_rate s.args.now s.args.hot_elsewhere _ _ _ _ (found c.before.before.before.before.before.before.before.before) c.cool-cooled.ensures (neither _ _ c.if-cooled.false c.if-hot_elsewhere.false) c.counted-in-Entry.ensures c.remove.ensures
 
 returns-4 : tie.Need-returns-else-hot_elsewhere-2
 returns-4 c =
-    let t = c.before in
-    let e = t.before in
-    let s = away e in
-    absent-stays s.args.self s.args.hot.now s.pre s.args.margin s.args.key s.args.demand_rate s.args.now s.args.hot_elsewhere _ _ (free e) t.if-hot_elsewhere-2.false c.counted-in-Free.ensures refl
+    let s = away c.before.before in
+    absent-stays s.args.self s.args.hot.now s.requires s.args.margin s.args.key s.args.demand_rate s.args.now s.args.hot_elsewhere _ _ (free c.before.before) c.if-hot_elsewhere-2.false c.counted-in-Free.ensures refl
 
 pub below_threshold_spec : {M : Type 1} → statement M
 below_threshold_spec =

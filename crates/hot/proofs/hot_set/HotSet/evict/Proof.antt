@@ -13,37 +13,25 @@ some-entry : (s : tie.Start) → 0 < s.args.self.len
 some-entry s = let p = passed-set s.args.self s.args.hot.now s.requires.0 in let f = s.requires.1.0 in omega (arith, p.some_size)
 
 weakest-requires : tie.Need-weakest-least-requires
-weakest-requires c κs = let s = c.before.before in (ready-now _ _ s.requires.0, some-entry s)
+weakest-requires c κs = let s = c in (ready-now _ _ s.requires.0, some-entry s.before)
 
 remove-requires : tie.Need-remove-requires
 remove-requires c κs = ready-now _ _ c.requires.0
 
 sub-put : tie.Need-overflow_sub-n
-sub-put c = let s = c.before.before.before.before.before.before.before.before.before.before.before in omega (arith, some-entry s)
+sub-put c = let s = c in omega (arith, some-entry s.before.before.before.before.before.before.before.before.before.before)
 
 put-requires : tie.Need-put-requires
 put-requires c κs =
-    let r = c.before.before.before in
-    let t = r.before.before in
-    let w = t.before.before.before in
-    let s = w.before.before.before in
-    (evict-ready s.args.self s.args.hot.now s.requires.0 s.args.entry w.weakest-least.result s.requires.1.0 s.requires.1.1 w.weakest-least.ensures _ r.remove.ensures, evict-room s.args.self s.args.hot.now s.requires.0 s.args.entry w.weakest-least.result s.requires.1.0 s.requires.1.1 w.weakest-least.ensures _ r.remove.ensures)
+    (evict-ready c.args.self c.args.hot.now c.requires.0 c.args.entry c.weakest-least.result c.requires.1.0 c.requires.1.1 c.weakest-least.ensures _ c.remove.ensures, evict-room c.args.self c.args.hot.now c.requires.0 c.args.entry c.weakest-least.result c.requires.1.0 c.requires.1.1 c.weakest-least.ensures _ c.remove.ensures)
 
 returns : tie.Need-returns-then-entry-least
 returns c =
-    let p = c.before.before.before in
-    let r = p.before.before.before.before in
-    let t = r.before.before in
-    let w = t.before.before.before in
-    let s = w.before.before.before in
-    evicted s.args.self s.args.hot.now s.requires.0 s.args.entry w.weakest-least.result s.requires.1.0 s.requires.1.1 w.weakest-least.ensures _ r.remove.ensures s.args.margin _ _ t.if-entry-least.true c.counted.ensures p.put.ensures
+    evicted c.args.self c.args.hot.now c.requires.0 c.args.entry c.weakest-least.result c.requires.1.0 c.requires.1.1 c.weakest-least.ensures _ c.remove.ensures c.args.margin _ _ c.if-entry-least.true c.counted.ensures c.put.ensures
 
 returns-2 : tie.Need-returns
 returns-2 c =
-    let t = c.before in
-    let w = t.before.before.before in
-    let s = w.before.before.before in
-    not-evicted s.args.self s.args.hot.now s.requires.0 s.args.entry w.weakest-least.result s.requires.1.0 s.requires.1.1 w.weakest-least.ensures s.args.margin _ _ t.if-entry-least.false c.counted-2.ensures refl
+    not-evicted c.args.self c.args.hot.now c.requires.0 c.args.entry c.weakest-least.result c.requires.1.0 c.requires.1.1 c.weakest-least.ensures c.args.margin _ _ c.if-entry-least.false c.counted-2.ensures refl
 
 pub evict_spec : {M : Type 1} → statement M
 evict_spec =

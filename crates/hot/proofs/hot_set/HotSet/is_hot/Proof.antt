@@ -13,7 +13,7 @@ use Rattle.hot.proofs.hot_set.HotSet.is_hot.Statement.{statement}
 use Rattle.hot.proofs.hot_set.HotSet.is_hot.Tie as tie
 
 asked : (c : tie.Else-no-ne0) → passes (ask_set c.args.self c.args.hot.now) ≡ true
-asked c = let s = c.before.before.before in passed_none _ _ (numbered-set s.args.self s.args.hot.now nan) c.ask-no.ensures c.if-no-ne0.false
+asked c = let s = c in passed_none _ _ (numbered-set s.args.self s.args.hot.now nan) c.ask-no.ensures c.if-no-ne0.false
 
 returns : tie.Need-returns-then-no-ne0
 returns c = answer-no _ _ _ c.ask-no.ensures c.if-no-ne0.true
@@ -22,10 +22,10 @@ get-requires : tie.Need-get-requires
 get-requires c κs = (passed-set _ _ (asked c)).ready
 
 returns-2 : tie.Need-returns-in-Entry
-returns-2 c = let g = c.before in answer-slot present _ g.get.result _ _ (asked g.before) g.get.ensures (ap slot c.in-Entry.is)
+returns-2 c = let g = c in answer-slot present _ g.get.result _ _ (asked g.before.before) g.get.ensures (ap slot c.in-Entry.is)
 
 returns-3 : tie.Need-returns-in-Free
-returns-3 c = let g = c.before in answer-slot present _ g.get.result _ _ (asked g.before) g.get.ensures (ap slot c.in-Free.is)
+returns-3 c = let g = c in answer-slot present _ g.get.result _ _ (asked g.before.before) g.get.ensures (ap slot c.in-Free.is)
 
 pub is_hot_spec : {M : Type 1} → statement M
 is_hot_spec =

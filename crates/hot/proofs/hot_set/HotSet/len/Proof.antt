@@ -11,8 +11,7 @@ returns c = answer-no _ _ _ c.ask-no.ensures c.if-no-ne0.true
 
 returns-2 : tie.Need-returns
 returns-2 c =
-    let s = c.before.before.before in
-    answer-passed _ _ (passed_none _ _ (numbered-set s.args.self s.args.hot.now nan) c.ask-no.ensures c.if-no-ne0.false)
+    answer-passed _ _ (passed_none _ _ (numbered-set c.args.self c.args.hot.now nan) c.ask-no.ensures c.if-no-ne0.false)
 
 pub len_spec : {M : Type 1} → statement M
 len_spec = tie.close (tie.spec (λ c κs. search rules) returns returns-2)

@@ -41,8 +41,7 @@ inside c =
 
 loop-holds : tie.Need-loop-i-init invariant-loop-i decreases-loop-i
 loop-holds c =
-    let s = c.before.before.before.before.before.before in
-    updating-start eviction_margin _ _ _ _ _ (passed s).asked
+    updating-start eviction_margin _ _ _ _ _ (passed c.before.before.before.before.before.before).asked
 
 mul-update-with-margin : tie.Need-overflow_mul-i invariant-loop-i decreases-loop-i
 mul-update-with-margin c = omega (arith, inside c.before)
@@ -54,55 +53,46 @@ shared-slice-read-update-with-margin : tie.Need-bounds-keys-i invariant-loop-i d
 shared-slice-read-update-with-margin c = inside c.before.before
 
 mul-update-with-margin-3 : tie.Need-offset_bounds-demands-i invariant-loop-i decreases-loop-i
-mul-update-with-margin-3 c = let e = c.before.before in omega (arith, e.loop-i-test.true, (passed (start e.before)).fit.demands_fit)
+mul-update-with-margin-3 c = let e = c in omega (arith, e.loop-i-test.true, (passed (start e.before.before.before)).fit.demands_fit)
 
 shared-slice-read-update-with-margin-2 : tie.Need-bounds-demands-i invariant-loop-i decreases-loop-i
 shared-slice-read-update-with-margin-2 c =
-    let e = c.before.before.before in
-    omega (arith, e.loop-i-test.true, (passed (start e.before)).fit.demands_fit)
+    omega (arith, c.loop-i-test.true, (passed (start c.before.before.before.before)).fit.demands_fit)
 
 mul-update-with-margin-4 : tie.Need-offset_bounds-thresholds-i invariant-loop-i decreases-loop-i
 mul-update-with-margin-4 c =
-    let e = c.before.before.before in
-    omega (arith, e.loop-i-test.true, (passed (start e.before)).fit.thresholds_fit)
+    omega (arith, c.loop-i-test.true, (passed (start c.before.before.before.before)).fit.thresholds_fit)
 
 shared-slice-read-update-with-margin-3 : tie.Need-bounds-thresholds-i invariant-loop-i decreases-loop-i
 shared-slice-read-update-with-margin-3 c =
-    let e = c.before.before.before.before in
-    omega (arith, e.loop-i-test.true, (passed (start e.before)).fit.thresholds_fit)
+    omega (arith, c.loop-i-test.true, (passed (start c.before.before.before.before.before)).fit.thresholds_fit)
 
 shared-slice-read-update-with-margin-4 : tie.Need-bounds-elsewhere-i invariant-loop-i decreases-loop-i
 shared-slice-read-update-with-margin-4 c =
-    let e = c.before.before.before.before.before in
-    omega (arith, e.loop-i-test.true, (passed (start e.before)).fit.flags_fit)
+    omega (arith, c.loop-i-test.true, (passed (start c.before.before.before.before.before.before)).fit.flags_fit)
 
 update-with-margin-requires : tie.Need-update_with_margin-updated-requires invariant-loop-i decreases-loop-i
 update-with-margin-requires c κs = c.loop-i.invariant.asked
 
 slice-write-out : tie.Need-bounds-out-i invariant-loop-i decreases-loop-i
 slice-write-out c =
-    let e = c.before.before.before.before.before.before.before.before in
-    omega (arith, e.loop-i-test.true, (passed (start e.before)).room, e.loop-i.invariant.wide)
+    omega (arith, c.loop-i-test.true, (passed (start c.before.before.before.before.before.before.before.before.before)).room, c.loop-i.invariant.wide)
 
 add-i : tie.Need-overflow_add-i invariant-loop-i decreases-loop-i
 add-i c =
-    let e = c.before.before.before.before.before.before.before.before.before in
-    omega (arith, e.loop-i-test.true)
+    omega (arith, c.loop-i-test.true)
 
 loop-less : tie.Need-loop-i-smaller invariant-loop-i decreases-loop-i
 loop-less c =
-    let e = c.before.before.before.before.before.before.before.before.before in
-    omega (arith, e.loop-i-test.true)
+    omega (arith, c.loop-i-test.true)
 
 loop-again : tie.Need-loop-i-preserved invariant-loop-i decreases-loop-i
 loop-again c =
-    let a = c.before.before.before in
-    let e = a.before.before.before.before.before.before in
-    let s = start e.before in
-    let l = e.loop-i in
-    let h = e.loop-i-test.true in
+    let s = start c.before.before.before.before.before.before.before.before.before.before in
+    let l = c.loop-i in
+    let h = c.loop-i-test.true in
     let p = passed s in
-    let key : get_or s.args.keys.now (l.i * s.args.w) 0 < 2 ^ 64 = omega (arith, a.shared_slice_known-in-loop-i-1.given (l.i * s.args.w)) in
+    let key : get_or s.args.keys.now (l.i * s.args.w) 0 < 2 ^ 64 = omega (arith, c.shared_slice_known-in-loop-i-1.given (l.i * s.args.w)) in
     let reading : s.args.now < 2 ^ 64 = omega (arith, s.fits.now) in
     updating-next eviction_margin s.args.self s.args.now (updates s) s.args.hot.now s.args.out.now l.i l.set l.hot l.out l.invariant
     (omega (arith, h, count s))
@@ -111,13 +101,13 @@ loop-again c =
     (lent-next s.args.keys.now s.args.w s.args.n s.args.demands.now s.args.thresholds.now s.args.elsewhere.now p.fit _ _ _ l.i h)
     (record {
       key_word = lt-ltb (get_or s.args.keys.now (l.i * s.args.w) 0) (2 ^ 64) key;
-      demand_f64 = is_true _ (a.shared_slice_known-in-loop-i-2-1.given l.i);
+      demand_f64 = is_true _ (c.shared_slice_known-in-loop-i-2-1.given l.i);
       finite = p.numbers _ l.i h;
       now_word = lt-ltb s.args.now (2 ^ 64) reading;
     })
-    a.update_with_margin-updated.result
+    c.update_with_margin-updated.result
     _
-    a.update_with_margin-updated.ensures
+    c.update_with_margin-updated.ensures
 
 same_length : tie.Need-shape_of-hot invariant-loop-i decreases-loop-i
 same_length c = c.loop-i.invariant.long

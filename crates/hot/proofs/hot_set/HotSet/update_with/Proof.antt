@@ -10,7 +10,7 @@ use Rattle.hot.proofs.hot_set.HotSet.update_with.Statement.{statement}
 use Rattle.hot.proofs.hot_set.HotSet.update_with.Tie as tie
 
 abbrev start : tie.Else-no-ne0 → tie.Start
-start c = c.before.before.before.before
+start c = c.before.before.before
 
 asked : (c : tie.Else-no-ne0) → passes (ask_update (start c).args.self (start c).args.hot.now (start c).args.demand_rate) ≡ true
 asked c = let s = start c in passed_none _ _ (numbered-update s.args.self s.args.hot.now s.args.demand_rate) c.ask_update-no.ensures c.if-no-ne0.false
@@ -23,11 +23,9 @@ update-with-margin-requires c κs = let s = start c.before in update-passed-set 
 
 returns-2 : tie.Need-returns
 returns-2 c =
-    let u = c.before.before in
-    let e = u.before.before in
     record {
-      answered = ap given u.update_with_margin.ensures.says ∙ answer-passed _ _ (asked e);
-      left = u.update_with_margin.ensures.left ∙ changed-passed _ _ _ (asked e);
+      answered = ap given c.update_with_margin.ensures.says ∙ answer-passed _ _ (asked c.before.before.before.before);
+      left = c.update_with_margin.ensures.left ∙ changed-passed _ _ _ (asked c.before.before.before.before);
     }
 
 pub update_with_spec : {M : Type 1} → statement M

@@ -14,30 +14,24 @@ returns c =
 
 returns-2 : tie.Need-returns-then-not-has_room-2
 returns-2 c =
-    let d = c.before.before.before in
-    let s = d.args in
+    let s = c.args in
     no-requests s.attempts s.denials s.shadow_denials s.self.gcra (key_record s.self)
-    (told-yes d.has_room.ensures d.if-not-has_room.false)
+    (told-yes c.has_room.ensures c.if-not-has_room.false)
     (told-no c.has_room-2.ensures c.if-not-has_room-2.true)
 
 returns-3 : tie.Need-returns-then-not-has_room-3
 returns-3 c =
-    let r = c.before.before.before in
-    let d = r.before.before.before in
-    let s = d.args in
+    let s = c.args in
     no-denials s.attempts s.denials s.shadow_denials s.self.gcra (key_record s.self)
-    (told-yes d.has_room.ensures d.if-not-has_room.false)
-    (told-yes r.has_room-2.ensures r.if-not-has_room-2.false) (told-no c.has_room-3.ensures c.if-not-has_room-3.true)
+    (told-yes c.has_room.ensures c.if-not-has_room.false)
+    (told-yes c.has_room-2.ensures c.if-not-has_room-2.false) (told-no c.has_room-3.ensures c.if-not-has_room-3.true)
 
 returns-4 : tie.Need-returns
 returns-4 c =
-    let n = c.before.before in
-    let r = n.before.before.before in
-    let d = r.before.before.before in
-    let s = d.args in
+    let s = c.args in
     by-shadow s.attempts s.denials s.shadow_denials s.self.gcra (key_record s.self) _
-    (told-yes d.has_room.ensures d.if-not-has_room.false)
-    (told-yes r.has_room-2.ensures r.if-not-has_room-2.false) (told-yes n.has_room-3.ensures n.if-not-has_room-3.false) c.has_room-4.ensures
+    (told-yes c.has_room.ensures c.if-not-has_room.false)
+    (told-yes c.has_room-2.ensures c.if-not-has_room-2.false) (told-yes c.has_room-3.ensures c.if-not-has_room-3.false) c.has_room-4.ensures
 
 pub has_room_spec : {M : Type 1} → statement M
 has_room_spec =

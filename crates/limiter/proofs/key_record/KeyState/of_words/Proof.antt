@@ -6,19 +6,14 @@ use Rattle.limiter.proofs.key_record.KeyState.of_words.Tie as tie
 
 returns : tie.Need-returns
 returns c =
-    let m = c.before in
-    let s = m.before in
-    let n = s.before in
-    let r = n.before in
-    let d = r.before in
     rw (
       key-at,
-      d.from_bits-rate.ensures,
-      d.of_words-demand.ensures,
-      r.of_words-requests.ensures,
-      n.of_words-denials.ensures,
-      s.of_words-shadow_denials.ensures,
-      m.meter_of_words-gcra.ensures,
+      c.from_bits-rate.ensures,
+      c.of_words-demand.ensures,
+      c.of_words-requests.ensures,
+      c.of_words-denials.ensures,
+      c.of_words-shadow_denials.ensures,
+      c.meter_of_words-gcra.ensures,
     )
 
 pub of_words_spec : {M : Type 1} → statement M

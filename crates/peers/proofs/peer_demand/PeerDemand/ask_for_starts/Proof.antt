@@ -9,34 +9,26 @@ use Rattle.peers.proofs.peer_demand.PeerDemand.ask_for_starts.Tie as tie
 
 returns : tie.Need-returns-then-not-has_room
 returns c =
-    let e = c.before in
-    asked-no _ _ _ 1 c.refused.ensures (first-no 1 _ (told-no e.has_room.ensures e.if-not-has_room.true)) (omega arith)
+    asked-no _ _ _ 1 c.refused.ensures (first-no 1 _ (told-no c.has_room.ensures c.if-not-has_room.true)) (omega arith)
 
 is-valid-requires : tie.Need-is_valid-requires
 is-valid-requires c κs =
-    let e = c.before.before in
-    (told-yes e.has_room.ensures e.if-not-has_room.false, (search rules, search rules))
+    (told-yes c.has_room.ensures c.if-not-has_room.false, (search rules, search rules))
 
 returns-2 : tie.Need-returns-then-not-is_valid
 returns-2 c =
-    let f = c.before in
-    let v = f.before.before.before in
-    let e = v.before.before.before in
     asked-no _ _ _ 2 c.refused-then-not-is_valid.ensures
-    (first-yes 1 _ (told-yes e.has_room.ensures e.if-not-has_room.false) (first-no 2 _ (told-no v.is_valid.ensures.0 f.if-not-is_valid.true)))
+    (first-yes 1 _ (told-yes c.has_room.ensures c.if-not-has_room.false) (first-no 2 _ (told-no c.is_valid.ensures.0 c.if-not-is_valid.true)))
     (omega arith)
 
 returns-3 : tie.Need-returns
 returns-3 c =
-    let v = c.before.before.before in
-    let e = v.before.before.before in
-    let known = e.before.before in
-    let passed = first-yes 1 _ (told-yes e.has_room.ensures e.if-not-has_room.false) (first-yes 2 _ (told-yes v.is_valid.ensures.0 c.if-not-is_valid.false) first-none) in
+    let passed = first-yes 1 _ (told-yes c.has_room.ensures c.if-not-has_room.false) (first-yes 2 _ (told-yes c.is_valid.ensures.0 c.if-not-is_valid.false) first-none) in
     record {
       first = passed;
       ready = λ h. record {
-        ready = asked-ready _ _ 0 passed refl (λ i. (known.shared_slice_known-1.given i).fits) (λ i. (known.shared_slice_known-2-1.given i).fits) (λ i. (known.shared_slice_known-3-1.given i).fits);
-        started = v.is_valid.ensures.1 (c.if-not-is_valid.false);
+        ready = asked-ready _ _ 0 passed refl (λ i. (c.shared_slice_known-1.given i).fits) (λ i. (c.shared_slice_known-2-1.given i).fits) (λ i. (c.shared_slice_known-3-1.given i).fits);
+        started = c.is_valid.ensures.1 (c.if-not-is_valid.false);
       };
     }
 

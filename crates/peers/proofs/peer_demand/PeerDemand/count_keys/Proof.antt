@@ -36,8 +36,7 @@ loop-holds c = (omega arith, omega arith, refl)
 
 count-unlisted-requires : tie.Need-count_unlisted-count-requires invariant-loop-i decreases-loop-i
 count-unlisted-requires c κs =
-    let st = c.before.before.before.before.before in
-    (st.requires.snapshot_keys, omega (arith, st.requires.contested.ready.fit))
+    (c.requires.snapshot_keys, omega (arith, c.requires.contested.ready.fit))
 
 add-count : tie.Need-overflow_add-count invariant-loop-i decreases-loop-i
 add-count c = omega (arith, turn c, small c)

@@ -9,14 +9,11 @@ returns c = changes-not _ _ _ _ _ _ c.ask-no.ensures c.if-no-ne0.true c.refused.
 
 expire-all-requires : tie.Need-expire_all-requires
 expire-all-requires c κs =
-    let e = c.before.before.before in
-    asked-all _ _ _ e.ask-no.ensures e.if-no-ne0.false
+    asked-all _ _ _ c.ask-no.ensures c.if-no-ne0.false
 
 returns-2 : tie.Need-returns
 returns-2 c =
-    let f = c.before.before.before.before.before.before.before in
-    let e = f.before.before.before.before in
-    peers-changed _ _ _ _ _ _ _ e.ask-no.ensures e.if-no-ne0.false c.done.ensures f.expire_all.ensures
+    peers-changed _ _ _ _ _ _ _ c.ask-no.ensures c.if-no-ne0.false c.done.ensures c.expire_all.ensures
 
 pub expire_spec : {M : Type 1} → statement M
 expire_spec =

@@ -13,46 +13,42 @@ sound : (c : tie.Start) → Tables c.args.self (lent c)
 sound c = tables-of c.args.self (lent c) c.requires
 
 abbrev first : tie.After-retain_contested-c → tie.Start
-first c = c.before.before.before.before.before.before
+first c = c.before.before.before.before.before
 
 abbrev second : tie.After-retain_peers-n → tie.After-retain_contested-c
-second c = c.before.before.before.before.before
+second c = c.before.before.before.before
 
 retain-contested-requires : tie.Need-retain_contested-c-requires
 retain-contested-requires c κs =
-    let o = sound c.before.before.before.before.before in
+    let o = sound c.before.before.before.before in
     (o.peers.order, omega (arith, o.contested.within, o.contested.room))
 
 retain-peers-requires : tie.Need-retain_peers-n-requires
 retain-peers-requires c κs =
-    let r = c.before.before.before.before in
-    let s = first r in
+    let s = first c.before.before.before in
     let o = sound s in (
-      contested-order s.args.self (lent s) o s.args.reading s.args.max_age r.retain_contested-c.result r.retain_contested-c.new.1.1.0 r.retain_contested-c.ensures,
+      contested-order s.args.self (lent s) o s.args.reading s.args.max_age c.retain_contested-c.result c.retain_contested-c.new.1.1.0 c.retain_contested-c.ensures,
       omega (arith, o.peers.within, o.peers.room),
       o.peers.exactly,
     )
 
 retain-snapshot-keys-requires : tie.Need-retain_snapshot_keys-k-requires
 retain-snapshot-keys-requires c κs =
-    let q = c.before.before.before.before in
-    let r = second q in
+    let r = second c.before.before.before in
     let s = first r in
     let o = sound s in (
       peers-order s.args.self (lent s) o s.args.reading s.args.max_age r.retain_contested-c.result r.retain_contested-c.last.1.1.0 r.retain_contested-c.ensures
-          q.retain_peers-n.result q.retain_peers-n.new.1.1.0 q.retain_peers-n.ensures,
+          c.retain_peers-n.result c.retain_peers-n.new.1.1.0 c.retain_peers-n.ensures,
       omega (arith, o.snapshot_keys.within, o.snapshot_keys.room),
     )
 
 returns : tie.Need-returns
 returns c =
-    let k = c.before.before in
-    let q = k.before.before.before.before.before in
-    let r = second q in
+    let r = second c.before.before.before.before.before.before in
     let s = first r in
     expired s.args.self (lent s) (sound s) s.args.reading s.args.max_age r.retain_contested-c.result r.retain_contested-c.last.1.1.0 r.retain_contested-c.ensures
-    q.retain_peers-n.result q.retain_peers-n.new.1.1.0 q.retain_peers-n.ensures
-    k.retain_snapshot_keys-k.result k.retain_snapshot_keys-k.new.1.1.0 k.retain_snapshot_keys-k.ensures
+    c.retain_peers-n.result c.retain_peers-n.new.1.1.0 c.retain_peers-n.ensures
+    c.retain_snapshot_keys-k.result c.retain_snapshot_keys-k.new.1.1.0 c.retain_snapshot_keys-k.ensures
 
 pub expire_all_spec : {M : Type 1} → statement M
 expire_all_spec =

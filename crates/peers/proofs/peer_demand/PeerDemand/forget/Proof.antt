@@ -9,14 +9,11 @@ returns c = changes-not _ _ _ _ _ _ c.ask-no.ensures c.if-no-ne0.true c.refused.
 
 forget-peer-requires : tie.Need-forget_peer-requires
 forget-peer-requires c κs =
-    let e = c.before.before.before in
-    asked-all _ _ _ e.ask-no.ensures e.if-no-ne0.false
+    asked-all _ _ _ c.ask-no.ensures c.if-no-ne0.false
 
 returns-2 : tie.Need-returns
 returns-2 c =
-    let f = c.before.before.before.before.before.before.before in
-    let e = f.before.before.before.before in
-    peers-changed _ _ _ _ _ _ _ e.ask-no.ensures e.if-no-ne0.false c.done.ensures f.forget_peer.ensures
+    peers-changed _ _ _ _ _ _ _ c.ask-no.ensures c.if-no-ne0.false c.done.ensures c.forget_peer.ensures
 
 pub forget_spec : {M : Type 1} → statement M
 forget_spec =

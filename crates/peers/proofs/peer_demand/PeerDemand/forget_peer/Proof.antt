@@ -39,16 +39,15 @@ replace-run-requires-3 c κs = let s = start (second (third c).before).before in
 
 returns : tie.Need-returns
 returns c =
-    let w₃ = c.before.before in
-    let w₂ = third w₃.before in
+    let w₂ = third c.before.before.before in
     let w₁ = second w₂.before in
     let s = start w₁.before in
     forgotten s.args.self (tables s.args.peers.now s.args.snapshot-keys.now s.args.contested.now) s.args.id
-    w₁.replace_run-n.result w₂.replace_run-k.result w₃.replace_run-c.result w₁.replace_run-n.last.0 w₂.replace_run-k.last.0 w₃.replace_run-c.new.0
+    w₁.replace_run-n.result w₂.replace_run-k.result c.replace_run-c.result w₁.replace_run-n.last.0 w₂.replace_run-k.last.0 c.replace_run-c.new.0
     (sound s)
     (run_out 12 1 _ s.args.id _ (omega arith) (peers s) _ _ w₁.replace_run-n.ensures)
     (run_out 4 2 _ s.args.id _ (omega arith) (keys s) _ _ w₂.replace_run-k.ensures)
-    (run_out 6 2 _ s.args.id _ (omega arith) (contested s) _ _ w₃.replace_run-c.ensures)
+    (run_out 6 2 _ s.args.id _ (omega arith) (contested s) _ _ c.replace_run-c.ensures)
 
 pub forget_peer_spec : {M : Type 1} → statement M
 forget_peer_spec =

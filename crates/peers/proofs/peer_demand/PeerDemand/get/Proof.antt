@@ -11,19 +11,16 @@ returns c = answer-no _ _ c.ask-asked.result c.ask-asked.ensures c.if-asked-ne0.
 
 heard-by-requires : tie.Need-heard_by-requires
 heard-by-requires c κs =
-    let k = c.before.before in
-    asked-ready _ _ _ c.ask-asked.ensures c.if-asked-ne0.false (λ i. (k.shared_slice_known-1.given i).fits)
-    (λ i. (k.shared_slice_known-2-1.given i).fits) (λ i. (k.shared_slice_known-3-1.given i).fits)
+    asked-ready _ _ _ c.ask-asked.ensures c.if-asked-ne0.false (λ i. (c.shared_slice_known-1.given i).fits)
+    (λ i. (c.shared_slice_known-2-1.given i).fits) (λ i. (c.shared_slice_known-3-1.given i).fits)
 
 returns-2 : tie.Need-returns-in-Silence
 returns-2 c =
-    let e = c.before.before in
-    answer-yes _ _ e.ask-asked.result _ _ e.ask-asked.ensures e.if-asked-ne0.false (sym (ap said_of c.in-Silence.is) ∙ c.heard_by.ensures)
+    answer-yes _ _ c.ask-asked.result _ _ c.ask-asked.ensures c.if-asked-ne0.false (sym (ap said_of c.in-Silence.is) ∙ c.heard_by.ensures)
 
 returns-3 : tie.Need-returns-in-Of
 returns-3 c =
-    let e = c.before.before in
-    answer-yes _ _ e.ask-asked.result _ _ e.ask-asked.ensures e.if-asked-ne0.false (sym (ap said_of c.in-Of.is) ∙ c.heard_by.ensures)
+    answer-yes _ _ c.ask-asked.result _ _ c.ask-asked.ensures c.if-asked-ne0.false (sym (ap said_of c.in-Of.is) ∙ c.heard_by.ensures)
 
 pub get_spec : {M : Type 1} → statement M
 get_spec =

@@ -19,13 +19,13 @@ heard-from-requires : tie.Need-heard_from-requires
 heard-from-requires c κs =
     let st = start c.before.before in
     let s = st.args in
-    (own-ready s.self (tables s.peers.now s.snapshot-keys.now s.contested.now) s.i s.own st.pre.1.0 st.pre.0, st.pre.1.1)
+    (own-ready s.self (tables s.peers.now s.snapshot-keys.now s.contested.now) s.i s.own st.requires.1.0 st.requires.0, st.requires.1.1)
 
 returns : tie.Need-returns
 returns c =
     let st = start c.before.before.before in
     let s = st.args in
-    c.heard_from.ensures ∙ own-heard s.self (tables s.peers.now s.snapshot-keys.now s.contested.now) s.i s.own st.pre.1.0 st.pre.0 st.pre.1.1 s.key
+    c.heard_from.ensures ∙ own-heard s.self (tables s.peers.now s.snapshot-keys.now s.contested.now) s.i s.own st.requires.1.0 st.requires.0 st.requires.1.1 s.key
 
 pub heard_among_own_spec : {M : Type 1} → statement M
 heard_among_own_spec =

@@ -15,34 +15,27 @@ place : (c : tie.In-At) → (c.in-At.i < (start c).args.self.peers) × (get_or (
 place c =
     let st = start c in
     let s = st.args in
-    let b = c.before in
-    id-at s.self.peers s.peers.now st.pre.peers s.id c.in-At.i (find-says 12 1 s.self.peers s.id 0 s.peers.now (omega arith) (omega arith) (omega arith) st.pre.peers.fit b.find.result b.find.ensures ∙ c.in-At.is)
+    id-at s.self.peers s.peers.now st.requires.peers s.id c.in-At.i (find-says 12 1 s.self.peers s.id 0 s.peers.now (omega arith) (omega arith) (omega arith) st.requires.peers.fit c.find.result c.find.ensures ∙ c.in-At.is)
 
 heard-from-requires : tie.Need-heard_from-requires
 heard-from-requires c κs =
     let st = start c in
-    (st.pre, (place c).0)
+    (st.requires, (place c).0)
 
 returns : tie.Need-returns-in-At
 returns c =
-    let a = c.before in
-    let s = (start a).args in
-    c.heard_from.ensures ∙ ap (λ (id : ℕ). heard id s.key (state_of s.self (tables s.peers.now s.snapshot-keys.now s.contested.now))) (place a).1
+    let s = (start c.before).args in
+    c.heard_from.ensures ∙ ap (λ (id : ℕ). heard id s.key (state_of s.self (tables s.peers.now s.snapshot-keys.now s.contested.now))) (place c.before).1
 
 returns-2 : tie.Need-returns-in-Gap
 returns-2 c =
-    let a = c in
-    let b = a.before in
-    let st = b.before.before.before.before in
-    let s = st.args in
-    heard-missing s.self (tables s.peers.now s.snapshot-keys.now s.contested.now) st.requires s.key s.id a.in-Gap.i (find-says 12 1 s.self.peers s.id 0 s.peers.now (omega arith) (omega arith) (omega arith) st.requires.peers.fit b.find.result b.find.ensures ∙ a.in-Gap.is)
+    let s = c.args in
+    heard-missing s.self (tables s.peers.now s.snapshot-keys.now s.contested.now) c.requires s.key s.id c.in-Gap.i (find-says 12 1 s.self.peers s.id 0 s.peers.now (omega arith) (omega arith) (omega arith) c.requires.peers.fit c.find.result c.find.ensures ∙ c.in-Gap.is)
 
 returns-3 : tie.Need-returns-in-Unfit
 returns-3 c =
-    let b = c.before in
-    let st = b.before.before.before.before in
-    let s = st.args in
-    absurd (never-unfit 12 1 s.self.peers s.id 0 s.peers.now (omega arith) (omega arith) (omega arith) st.requires.peers.fit b.find.result b.find.ensures c.in-Unfit.is)
+    let s = c.args in
+    absurd (never-unfit 12 1 s.self.peers s.id 0 s.peers.now (omega arith) (omega arith) (omega arith) c.requires.peers.fit c.find.result c.find.ensures c.in-Unfit.is)
 
 pub heard_by_spec : {M : Type 1} → statement M
 heard_by_spec =

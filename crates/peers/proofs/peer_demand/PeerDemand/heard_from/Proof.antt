@@ -8,14 +8,12 @@ use Rattle.peers.proofs.peer_demand.PeerDemand.heard_from.Tie as tie
 
 heard-taken-requires : tie.Need-heard_taken-taken-requires
 heard-taken-requires c κs =
-    let st = c.before.before.before.before.before.before.before in
-    (st.requires.0.snapshot_keys, peer-round st.args.self.peers st.args.peers.now st.requires.0.peers st.requires.0.pass st.args.i st.requires.1)
+    (c.requires.0.snapshot_keys, peer-round c.args.self.peers c.args.peers.now c.requires.0.peers c.requires.0.pass c.args.i c.requires.1)
 
 returns : tie.Need-returns
 returns c =
-    let st = c.before.before.before.before.before.before.before.before.before.before in
-    let s = st.args in
-    c.join.ensures ∙ (λ k. join (c.heard_taken-taken.ensures k) (c.heard_contested-other.ensures k)) ∙ heard-at s.self (tables s.peers.now s.snapshot-keys.now s.contested.now) st.requires.0 s.key s.i st.requires.1
+    let s = c.args in
+    c.join.ensures ∙ (λ k. join (c.heard_taken-taken.ensures k) (c.heard_contested-other.ensures k)) ∙ heard-at s.self (tables s.peers.now s.snapshot-keys.now s.contested.now) c.requires.0 s.key s.i c.requires.1
 
 pub heard_from_spec : {M : Type 1} → statement M
 heard_from_spec =

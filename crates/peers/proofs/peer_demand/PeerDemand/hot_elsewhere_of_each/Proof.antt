@@ -9,47 +9,31 @@ use Rattle.peers.proofs.peer_demand.PeerDemand.hot_elsewhere_of_each.Tie as tie
 
 returns : tie.Need-returns-then-no-ne0
 returns c =
-    let q = c.before in
-    each-refused hot_elsewhere _ _ _ _ _ _ q.ask_for_each-no.result (q.ask_for_each-no.ensures.first _ _ q.ask_for_starts-asked.ensures.first) c.if-no-ne0.true
+    each-refused hot_elsewhere _ _ _ _ _ _ c.ask_for_each-no.result (c.ask_for_each-no.ensures.first _ _ c.ask_for_starts-asked.ensures.first) c.if-no-ne0.true
 
 primary-of-ascending-requires : tie.Need-primary_of_ascending-requires
 primary-of-ascending-requires c κs =
-    let g = c.before.before in
-    let e = g.before.before in
-    let q = e.before in
-    let a = q.before in
-    let ready = (a.ask_for_starts-asked.ensures.ready (q.ask_for_each-no.ensures.state e.if-no-ne0.false)).ready in
-    let fit = each_fits _ _ _ _ _ _ q.ask_for_each-no.result (q.ask_for_each-no.ensures.first _ _ a.ask_for_starts-asked.ensures.first) e.if-no-ne0.false in (
-      record { fit = fit.0; ascends = many-ascending _ _ _ _ g.are_many_ascending.ensures c.if-are_many_ascending.true; room = fit.1 },
+    let ready = (c.ask_for_starts-asked.ensures.ready (c.ask_for_each-no.ensures.state c.if-no-ne0.false)).ready in
+    let fit = each_fits _ _ _ _ _ _ c.ask_for_each-no.result (c.ask_for_each-no.ensures.first _ _ c.ask_for_starts-asked.ensures.first) c.if-no-ne0.false in (
+      record { fit = fit.0; ascends = many-ascending _ _ _ _ c.are_many_ascending.ensures c.if-are_many_ascending.true; room = fit.1 },
       ready.snapshot_keys.ready,
       ready.contested.ready,
     )
 
 returns-2 : tie.Need-returns-then-are_many_ascending
 returns-2 c =
-    let done = c.before.before in
-    let e = done.before.before.before.before.before in
-    let q = e.before in
-    let a = q.before in
-    let ready = (a.ask_for_starts-asked.ensures.ready (q.ask_for_each-no.ensures.state e.if-no-ne0.false)).ready in
-    let valid = each-valid _ _ _ _ _ _ q.ask_for_each-no.result (q.ask_for_each-no.ensures.first _ _ a.ask_for_starts-asked.ensures.first) e.if-no-ne0.false in
-    each-done hot_elsewhere _ _ _ _ _ _ q.ask_for_each-no.result (q.ask_for_each-no.ensures.first _ _ a.ask_for_starts-asked.ensures.first) e.if-no-ne0.false _
-    (done.primary_of_ascending.ensures ∙ marked-told _ hot_elsewhere _ _ _ _ _ (hot-by-records _ _ ready valid))
+    let ready = (c.ask_for_starts-asked.ensures.ready (c.ask_for_each-no.ensures.state c.if-no-ne0.false)).ready in
+    let valid = each-valid _ _ _ _ _ _ c.ask_for_each-no.result (c.ask_for_each-no.ensures.first _ _ c.ask_for_starts-asked.ensures.first) c.if-no-ne0.false in
+    each-done hot_elsewhere _ _ _ _ _ _ c.ask_for_each-no.result (c.ask_for_each-no.ensures.first _ _ c.ask_for_starts-asked.ensures.first) c.if-no-ne0.false _
+    (c.primary_of_ascending.ensures ∙ marked-told _ hot_elsewhere _ _ _ _ _ (hot-by-records _ _ ready valid))
 
 primary-each-requires : tie.Need-primary_each-requires
 primary-each-requires c κs =
-    let e = c.before.before.before.before in
-    let q = e.before in
-    let a = q.before in
-    (a.ask_for_starts-asked.ensures.ready (q.ask_for_each-no.ensures.state e.if-no-ne0.false), each_fits _ _ _ _ _ _ q.ask_for_each-no.result (q.ask_for_each-no.ensures.first _ _ a.ask_for_starts-asked.ensures.first) e.if-no-ne0.false)
+    (c.ask_for_starts-asked.ensures.ready (c.ask_for_each-no.ensures.state c.if-no-ne0.false), each_fits _ _ _ _ _ _ c.ask_for_each-no.result (c.ask_for_each-no.ensures.first _ _ c.ask_for_starts-asked.ensures.first) c.if-no-ne0.false)
 
 returns-3 : tie.Need-returns
 returns-3 c =
-    let done = c.before.before in
-    let e = done.before.before.before.before.before in
-    let q = e.before in
-    let a = q.before in
-    each-done hot_elsewhere _ _ _ _ _ _ q.ask_for_each-no.result (q.ask_for_each-no.ensures.first _ _ a.ask_for_starts-asked.ensures.first) e.if-no-ne0.false _ done.primary_each.ensures
+    each-done hot_elsewhere _ _ _ _ _ _ c.ask_for_each-no.result (c.ask_for_each-no.ensures.first _ _ c.ask_for_starts-asked.ensures.first) c.if-no-ne0.false _ c.primary_each.ensures
 
 pub hot_elsewhere_of_each_spec : {M : Type 1} → statement M
 hot_elsewhere_of_each_spec =

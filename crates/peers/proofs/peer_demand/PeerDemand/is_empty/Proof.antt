@@ -7,13 +7,11 @@ use Rattle.peers.proofs.peer_demand.PeerDemand.is_empty.Tie as tie
 
 returns : tie.Need-returns-in-No
 returns c =
-    let m = c in
-    refused-any _ _ _ _ (sym (ap len_answer m.in-No.is) ∙ m.len.ensures)
+    refused-any _ _ _ _ (sym (ap len_answer c.in-No.is) ∙ c.len.ensures)
 
 returns-2 : tie.Need-returns-in-Is
 returns-2 c =
-    let m = c in
-    given_by (λ (n : ℕ). eqb n 0) _ _ _ (sym (ap len_answer m.in-Is.is) ∙ m.len.ensures)
+    given_by (λ (n : ℕ). eqb n 0) _ _ _ (sym (ap len_answer c.in-Is.is) ∙ c.len.ensures)
 
 pub is_empty_spec : {M : Type 1} → statement M
 is_empty_spec = tie.close (tie.spec (λ c κs. search rules) (λ c. search rules) (λ c. search rules) returns returns-2)

@@ -25,31 +25,27 @@ start c = c.before.before.before.before.before.before.before
 
 own-keys-requires : tie.Need-own_keys-own-requires invariant-loop-i decreases-loop-i
 own-keys-requires c κs =
-    let e = c.before.before in
-    let st = start e in
+    let st = start c.before.before in
     let s = st.args in
-    starts-room s.self (tables s.peers.now s.snapshot-keys.now s.contested.now) s.starts st.pre e.loop-i.i e.loop-i-test.true
+    starts-room s.self (tables s.peers.now s.snapshot-keys.now s.contested.now) s.starts st.requires c.loop-i.i c.loop-i-test.true
 
 heard-among-own-requires : tie.Need-heard_among_own-said-requires invariant-loop-i decreases-loop-i
 heard-among-own-requires c κs =
-    let e = c.before.before.before in
-    let st = start e in
+    let st = start c.before.before.before in
     let s = st.args in
-    (st.pre.ready, (own-told s.self (tables s.peers.now s.snapshot-keys.now s.contested.now) s.starts st.pre e.loop-i.i e.loop-i-test.true c.own_keys-own.result c.own_keys-own.ensures, e.loop-i-test.true))
+    (st.requires.ready, (own-told s.self (tables s.peers.now s.snapshot-keys.now s.contested.now) s.starts st.requires c.loop-i.i c.loop-i-test.true c.own_keys-own.result c.own_keys-own.ensures, c.loop-i-test.true))
 
 returns : tie.Need-returns-then-is_primary invariant-loop-i decreases-loop-i
 returns c =
-    let e = c.before.before.before.before.before.before in
-    let s = (start e).args in
-    let l = e.loop-i in
-    hot-here s.self (tables s.peers.now s.snapshot-keys.now s.contested.now) s.key (start e).requires.ready l.i e.loop-i-test.true (ap is_primary (sym c.heard_among_own-said.ensures) ∙ sym c.is_primary.ensures ∙ c.if-is_primary.true) l.invariant.1
+    let s = (start c.before.before.before.before.before.before).args in
+    let l = c.loop-i in
+    hot-here s.self (tables s.peers.now s.snapshot-keys.now s.contested.now) s.key (start c.before.before.before.before.before.before).requires.ready l.i c.loop-i-test.true (ap is_primary (sym c.heard_among_own-said.ensures) ∙ sym c.is_primary.ensures ∙ c.if-is_primary.true) l.invariant.1
 
 loop-again : tie.Need-loop-i-preserved invariant-loop-i decreases-loop-i
 loop-again c =
-    let e = c.before.before.before.before.before.before in
-    let s = (start e).args in
-    let l = e.loop-i in
-    (omega (arith, e.loop-i-test.true), hot-goes s.self (tables s.peers.now s.snapshot-keys.now s.contested.now) s.key (start e).requires.ready l.i e.loop-i-test.true (ap is_primary (sym c.heard_among_own-said.ensures) ∙ sym c.is_primary.ensures ∙ c.if-is_primary.false) l.invariant.1)
+    let s = (start c.before.before.before.before.before.before).args in
+    let l = c.loop-i in
+    (omega (arith, c.loop-i-test.true), hot-goes s.self (tables s.peers.now s.snapshot-keys.now s.contested.now) s.key (start c.before.before.before.before.before.before).requires.ready l.i c.loop-i-test.true (ap is_primary (sym c.heard_among_own-said.ensures) ∙ sym c.is_primary.ensures ∙ c.if-is_primary.false) l.invariant.1)
 
 returns-2 : tie.Need-returns invariant-loop-i decreases-loop-i
 returns-2 c =

@@ -12,9 +12,8 @@ use Rattle.peers.proofs.peer_demand.PeerDemand.is_valid.Tie as tie
 
 scanned : (c : tie.After-shared_slice_known-3-1) → let s = c.args in is_scanned s.self (tables s.peers.now s.snapshot-keys.now s.contested.now) ≡ is_valid s.self (tables s.peers.now s.snapshot-keys.now s.contested.now)
 scanned c =
-    let st = c.before.before.before in
-    let s = st.args in
-    scanned-is-valid s.self (tables s.peers.now s.snapshot-keys.now s.contested.now) st.requires.0
+    let s = c.args in
+    scanned-is-valid s.self (tables s.peers.now s.snapshot-keys.now s.contested.now) c.requires.0
     (all_words s.peers.now (λ i. omega (arith, c.shared_slice_known-1.given i)))
     (all_words s.snapshot-keys.now (λ i. omega (arith, c.shared_slice_known-2-1.given i)))
     (all_words s.contested.now (λ i. omega (arith, c.shared_slice_known-3-1.given i)))
@@ -35,9 +34,8 @@ ready c = peers-ready (start c).args.self.peers (start c).args.peers.now (roomy 
 
 are-peers-requires : tie.Need-are_peers-requires
 are-peers-requires c κs =
-    let st = c.before.before.before.before.before in
-    let s = st.args in
-    (room_says (tables s.peers.now s.snapshot-keys.now s.contested.now) st.requires.0).peers
+    let s = c.args in
+    (room_says (tables s.peers.now s.snapshot-keys.now s.contested.now) c.requires.0).peers
 
 returns : tie.Need-returns-then-not-are_peers
 unfolding is_scanned
@@ -45,31 +43,24 @@ returns c = (stop _ _ (sym c.are_peers.ensures ∙ c.if-not-are_peers.true) ∙ 
 
 are-keys-requires : tie.Need-are_keys-requires
 are-keys-requires c κs =
-    let e = c.before in
-    (ready e, ((omega arith, omega arith, omega (arith, (roomy e).snapshot_keys)), (start e).requires.1.0))
+    (ready c.before, ((omega arith, omega arith, omega (arith, (roomy c.before).snapshot_keys)), (start c.before).requires.1.0))
 
 returns-2 : tie.Need-returns-then-not-are_keys
 unfolding is_scanned
 returns-2 c =
-    let k = c.before.before.before in
-    let e = k.before.before in
-    (goes _ _ false (passed e) (stop _ _ (sym k.are_keys.ensures.0 ∙ c.if-not-are_keys.true)) ∙ scanned e.before.before.before.before, λ e. contradiction (sym e))
+    let e = c in
+    (goes _ _ false (passed e.before.before.before.before.before) (stop _ _ (sym c.are_keys.ensures.0 ∙ c.if-not-are_keys.true)) ∙ scanned e.before.before.before.before.before.before.before.before.before, λ e. contradiction (sym e))
 
 are-keys-requires-2 : tie.Need-are_keys-requires-2
 are-keys-requires-2 c κs =
-    let e = c.before.before.before.before.before.before in
-    (ready e, ((omega arith, omega arith, omega (arith, (roomy e).contested)), (start e).requires.1.1))
+    (ready c.before.before.before.before.before.before, ((omega arith, omega arith, omega (arith, (roomy c.before.before.before.before.before.before).contested)), (start c.before.before.before.before.before.before).requires.1.1))
 
 returns-3 : tie.Need-returns
 unfolding is_scanned
 returns-3 c =
-    let d = c.before.before in
-    let f = d.before.before in
-    let k = f.before.before.before in
-    let e = k.before.before in
-    let found = f.if-not-are_keys.false in (
-      goes _ _ _ (passed e) (goes _ _ _ (sym k.are_keys.ensures.0 ∙ found) d.are_keys-2.ensures.0) ∙ scanned e.before.before.before.before,
-      λ h. record { snapshot_keys = k.are_keys.ensures.1 found; contested = d.are_keys-2.ensures.1 h },
+    let found = c.if-not-are_keys.false in (
+      goes _ _ _ (passed c.before.before.before.before.before.before.before.before.before) (goes _ _ _ (sym c.are_keys.ensures.0 ∙ found) c.are_keys-2.ensures.0) ∙ scanned c.before.before.before.before.before.before.before.before.before.before.before.before.before,
+      λ h. record { snapshot_keys = c.are_keys.ensures.1 found; contested = c.are_keys-2.ensures.1 h },
     )
 
 pub is_valid_spec : {M : Type 1} → statement M

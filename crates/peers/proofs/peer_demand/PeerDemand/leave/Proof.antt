@@ -7,15 +7,14 @@ use Rattle.peers.proofs.peer_demand.PeerDemand.leave.Statement.{statement}
 use Rattle.peers.proofs.peer_demand.PeerDemand.leave.Tie as tie
 
 abbrev start : tie.Else-no-ne0 → tie.Start
-start c = c.before.before.before.before.before.before.before.before.before
+start c = c.before.before.before.before.before.before
 
 sound : (c : tie.Else-no-ne0) → Tables (start c).args.self (tables (start c).args.peers.now (start c).args.snapshot-keys.now (start c).args.contested.now)
 sound c = tables-of _ _ (asked-all _ _ _ c.ask-no.ensures c.if-no-ne0.false)
 
 returns : tie.Need-returns-then-hold-eq0
 returns c =
-    let f = c.before.before.before.before.before.before in
-    changes-as _ _ _ _ _ _ _ (sym (leaves-now _ _ _ _ f.if-hold-eq0.true)) f.forget.ensures
+    changes-as _ _ _ _ _ _ _ (sym (leaves-now _ _ _ _ c.if-hold-eq0.true)) c.forget.ensures
 
 returns-2 : tie.Need-returns-then-no-ne0
 returns-2 c = changes-not _ _ _ _ _ _ c.ask-no.ensures c.if-no-ne0.true c.refused.ensures
@@ -27,12 +26,8 @@ hold-peer-requires c κs =
 
 returns-3 : tie.Need-returns
 returns-3 c =
-    let h = c.before.before.before in
-    let b = h.before in
-    let e = b.before.before in
-    let a = e.before in
-    peers-changed _ _ _ _ _ _ _ a.ask-no.ensures e.if-no-ne0.false c.done.ensures
-    (leave-stores _ _ _ _ _ _ _ (sound e) a.if-hold-eq0.false b.saturating_add.ensures h.hold_peer.ensures)
+    peers-changed _ _ _ _ _ _ _ c.ask-no.ensures c.if-no-ne0.false c.done.ensures
+    (leave-stores _ _ _ _ _ _ _ (sound c.before.before.before.before.before.before) c.if-hold-eq0.false c.saturating_add.ensures c.hold_peer.ensures)
 
 pub leave_spec : {M : Type 1} → statement M
 leave_spec =

@@ -12,16 +12,14 @@ returns c = answer-no _ _ c.ask-asked.result c.ask-asked.ensures c.if-asked-ne0.
 
 count-keys-requires : tie.Need-count_keys-requires
 count-keys-requires c κs =
-    let k = c.before.before in
-    asked-ready _ _ _ c.ask-asked.ensures c.if-asked-ne0.false (λ i. (k.shared_slice_known-1.given i).fits)
-    (λ i. (k.shared_slice_known-2-1.given i).fits) (λ i. (k.shared_slice_known-3-1.given i).fits)
+    asked-ready _ _ _ c.ask-asked.ensures c.if-asked-ne0.false (λ i. (c.shared_slice_known-1.given i).fits)
+    (λ i. (c.shared_slice_known-2-1.given i).fits) (λ i. (c.shared_slice_known-3-1.given i).fits)
 
 returns-2 : tie.Need-returns
 returns-2 c =
-    let e = c.before in
-    let s = e.args in
-    let all-keys = c.count_keys.ensures ∙ asked-counted s.self (tables s.peers.now s.snapshot-keys.now s.contested.now) e.ask-asked.result e.ask-asked.ensures e.if-asked-ne0.false in
-    answer-yes _ _ e.ask-asked.result _ _ e.ask-asked.ensures e.if-asked-ne0.false all-keys
+    let s = c.args in
+    let all-keys = c.count_keys.ensures ∙ asked-counted s.self (tables s.peers.now s.snapshot-keys.now s.contested.now) c.ask-asked.result c.ask-asked.ensures c.if-asked-ne0.false in
+    answer-yes _ _ c.ask-asked.result _ _ c.ask-asked.ensures c.if-asked-ne0.false all-keys
 
 pub len_spec : {M : Type 1} → statement M
 len_spec = tie.close (tie.spec (λ c κs. search rules) returns count-keys-requires returns-2)

@@ -22,23 +22,21 @@ state s = state_of s.args.self (tables s.args.peers.now s.args.snapshot-keys.now
 inside : (c : tie.In-loop-i invariant-loop-i decreases-loop-i) → c.loop-i.i * (start c.before).args.w < length (start c.before).args.keys.now
 inside c =
     let s = start c.before in
-    key-within total (state s) s.args.w s.args.n s.args.keys.now s.args.out.now s.pre.1.0 s.pre.1.1 c.loop-i.i c.loop-i-test.true
+    key-within total (state s) s.args.w s.args.n s.args.keys.now s.args.out.now s.requires.1.0 s.requires.1.1 c.loop-i.i c.loop-i-test.true
 
 room : (c : tie.In-loop-i invariant-loop-i decreases-loop-i) → c.loop-i.i < length c.loop-i.out
 room c =
     let s = start c.before in
-    place-within total (state s) s.args.w s.args.n s.args.keys.now s.args.out.now s.pre.1.0 s.pre.1.1 c.loop-i.i c.loop-i-test.true c.loop-i.out c.loop-i.invariant
+    place-within total (state s) s.args.w s.args.n s.args.keys.now s.args.out.now s.requires.1.0 s.requires.1.1 c.loop-i.i c.loop-i-test.true c.loop-i.out c.loop-i.invariant
 
 loop-holds : tie.Need-loop-i-init invariant-loop-i decreases-loop-i
 loop-holds c =
-    let s = c.before.before.before.before.before in
-    telling-starts total (state s) s.args.w s.args.n s.args.keys.now s.args.out.now
+    telling-starts total (state c.before.before.before.before.before) c.args.w c.args.n c.args.keys.now c.args.out.now
 
 loop-again : tie.Need-loop-i-preserved invariant-loop-i decreases-loop-i
 loop-again c =
-    let e = c.before.before in
-    let s = start e.before in
-    telling-goes total (state s) s.args.w s.args.n s.args.keys.now s.args.out.now s.pre.1.0 s.pre.1.1 e.loop-i.i e.loop-i-test.true e.loop-i.out e.loop-i.invariant c.sum_heard.result c.sum_heard.ensures
+    let s = start c.before.before.before in
+    telling-goes total (state s) s.args.w s.args.n s.args.keys.now s.args.out.now s.requires.1.0 s.requires.1.1 c.loop-i.i c.loop-i-test.true c.loop-i.out c.loop-i.invariant c.sum_heard.result c.sum_heard.ensures
 
 returns : tie.Need-returns invariant-loop-i decreases-loop-i
 returns c =
@@ -55,7 +53,7 @@ sum_each_spec =
     (λ c. omega (arith, inside c))
     (λ c. omega (arith, inside c))
     (λ c. omega (arith, inside c.before))
-    (λ c κs. (start c.before.before).pre.0)
+    (λ c κs. (start c.before.before).requires.0)
     (λ c. omega (arith, room c.before.before))
     (λ c. room c.before.before)
     (λ c. omega (arith, room c.before.before))

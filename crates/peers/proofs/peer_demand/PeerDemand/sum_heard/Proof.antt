@@ -26,25 +26,22 @@ start c = c.before.before.before.before.before.before.before
 
 own-keys-requires : tie.Need-own_keys-own-requires invariant-loop-i decreases-loop-i
 own-keys-requires c κs =
-    let e = c.before.before in
-    let st = start e in
+    let st = start c.before.before in
     let s = st.args in
-    starts-room s.self (tables s.peers.now s.snapshot-keys.now s.contested.now) s.starts st.pre e.loop-i.i e.loop-i-test.true
+    starts-room s.self (tables s.peers.now s.snapshot-keys.now s.contested.now) s.starts st.requires c.loop-i.i c.loop-i-test.true
 
 heard-among-own-requires : tie.Need-heard_among_own-said-requires invariant-loop-i decreases-loop-i
 heard-among-own-requires c κs =
-    let e = c.before.before.before in
-    let st = start e in
+    let st = start c.before.before.before in
     let s = st.args in
-    (st.pre.ready, (own-told s.self (tables s.peers.now s.snapshot-keys.now s.contested.now) s.starts st.pre e.loop-i.i e.loop-i-test.true c.own_keys-own.result c.own_keys-own.ensures, e.loop-i-test.true))
+    (st.requires.ready, (own-told s.self (tables s.peers.now s.snapshot-keys.now s.contested.now) s.starts st.requires c.loop-i.i c.loop-i-test.true c.own_keys-own.result c.own_keys-own.ensures, c.loop-i-test.true))
 
 loop-again : tie.Need-loop-i-preserved invariant-loop-i decreases-loop-i
 loop-again c =
-    let e = c.before.before.before.before.before in
-    let s = (start e).args in
-    let l = e.loop-i in
+    let s = (start c.before.before.before.before.before).args in
+    let l = c.loop-i in
     let t = tables s.peers.now s.snapshot-keys.now s.contested.now in
-    (omega (arith, e.loop-i-test.true), ap (λ (x : Float). total_from x s.key (state_of s.self t) (map peer_of (drop (l.i + 1) (records 12 s.self.peers s.peers.now)))) (c.add_heard-sum.ensures ∙ ap (add_heard l.sum) c.heard_among_own-said.ensures) ∙ sym (total-goes s.self t s.key (start e).requires.ready l.sum l.i e.loop-i-test.true) ∙ l.invariant.1)
+    (omega (arith, c.loop-i-test.true), ap (λ (x : Float). total_from x s.key (state_of s.self t) (map peer_of (drop (l.i + 1) (records 12 s.self.peers s.peers.now)))) (c.add_heard-sum.ensures ∙ ap (add_heard l.sum) c.heard_among_own-said.ensures) ∙ sym (total-goes s.self t s.key (start c.before.before.before.before.before).requires.ready l.sum l.i c.loop-i-test.true) ∙ l.invariant.1)
 
 returns : tie.Need-returns invariant-loop-i decreases-loop-i
 returns c =

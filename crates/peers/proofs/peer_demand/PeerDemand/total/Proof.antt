@@ -7,8 +7,7 @@ use Rattle.peers.proofs.peer_demand.PeerDemand.total.Tie as tie
 
 returns : tie.Need-returns-in-No
 returns c =
-    let m = c in
-    one-refused total _ _ _ _ _ _ m.total_of_each.ensures _ m.in-No.is
+    one-refused total _ _ _ _ _ _ c.total_of_each.ensures _ c.in-No.is
 
 returns-2 : tie.Need-returns-in-Done
 returns-2 c = one-given total _ _ _ _ _ _ c.total_of_each.ensures _ c.in-Done.is

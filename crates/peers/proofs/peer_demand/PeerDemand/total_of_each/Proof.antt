@@ -7,22 +7,15 @@ use Rattle.peers.proofs.peer_demand.PeerDemand.total_of_each.Tie as tie
 
 returns : tie.Need-returns-then-no-ne0
 returns c =
-    let q = c.before in
-    each-refused total _ _ _ _ _ _ q.ask_for_each-no.result (q.ask_for_each-no.ensures.first _ _ q.ask_for_starts-asked.ensures.first) c.if-no-ne0.true
+    each-refused total _ _ _ _ _ _ c.ask_for_each-no.result (c.ask_for_each-no.ensures.first _ _ c.ask_for_starts-asked.ensures.first) c.if-no-ne0.true
 
 sum-each-requires : tie.Need-sum_each-requires
 sum-each-requires c κs =
-    let e = c.before.before in
-    let q = e.before in
-    let a = q.before in
-    (a.ask_for_starts-asked.ensures.ready (q.ask_for_each-no.ensures.state e.if-no-ne0.false), each_fits _ _ _ _ _ _ q.ask_for_each-no.result (q.ask_for_each-no.ensures.first _ _ a.ask_for_starts-asked.ensures.first) e.if-no-ne0.false)
+    (c.ask_for_starts-asked.ensures.ready (c.ask_for_each-no.ensures.state c.if-no-ne0.false), each_fits _ _ _ _ _ _ c.ask_for_each-no.result (c.ask_for_each-no.ensures.first _ _ c.ask_for_starts-asked.ensures.first) c.if-no-ne0.false)
 
 returns-2 : tie.Need-returns
 returns-2 c =
-    let done = c.before.before in
-    let e = done.before.before.before in
-    let q = e.before in
-    each-done total _ _ _ _ _ _ q.ask_for_each-no.result (q.ask_for_each-no.ensures.first _ _ q.ask_for_starts-asked.ensures.first) e.if-no-ne0.false _ done.sum_each.ensures
+    each-done total _ _ _ _ _ _ c.ask_for_each-no.result (c.ask_for_each-no.ensures.first _ _ c.ask_for_starts-asked.ensures.first) c.if-no-ne0.false _ c.sum_each.ensures
 
 pub total_of_each_spec : {M : Type 1} → statement M
 total_of_each_spec = tie.close (tie.spec (λ c κs. search rules) (λ c κs. search rules) returns sum-each-requires (λ c. search rules) returns-2)
