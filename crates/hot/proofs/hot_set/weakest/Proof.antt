@@ -7,6 +7,7 @@ use borrow.Author.Rules.{rules}
 use lib.ListN.{length}
 use Rattle.hot.proofs.HotSet.Scan.{Weakest, weakest-start, weakest-next, weakest-same, weakest-done}
 use Rattle.hot.proofs.hot_set.weakest.Statement.{statement}
+use Rattle.hot.proofs.hot_set.weakest.Lts.{then-total_less, else-total_less}
 use Rattle.hot.proofs.hot_set.weakest.Tie as tie
 
 abbrev invariant-loop-i : tie.invariant-loop-i
@@ -58,10 +59,14 @@ loop-less c = let l = c in omega (arith, l.loop-i-test.true)
 loop-again : tie.Need-loop-i-preserved invariant-loop-i decreases-loop-i
 loop-again c =
     let i = c.loop-i.i in
-    ⊎_elim
-    (λ w. subst (λ (m : ℕ). Weakest c.args.n c.args.hot.now m (i + 1)) (sym w.1) (weakest-next c.args.n c.args.hot.now c.requires.0 _ i c.loop-i.invariant c.loop-i-test.true (sym c.total_less.ensures ∙ w.0.true)))
-    (λ w. subst (λ (m : ℕ). Weakest c.args.n c.args.hot.now m (i + 1)) (sym w.1) (weakest-same c.args.n c.args.hot.now c.requires.0 _ i c.loop-i.invariant c.loop-i-test.true (sym c.total_less.ensures ∙ w.0.false)))
-    c.if-total_less.branch-raw
+    elim c.if-total_less.branch [
+      then-total_less w ↦
+        subst (λ (m : ℕ). Weakest c.args.n c.args.hot.now m (i + 1)) (sym w.least-is)
+        (weakest-next c.args.n c.args.hot.now c.requires.0 _ i c.loop-i.invariant c.loop-i-test.true (sym c.total_less.ensures ∙ w.if-total_less.true))
+    | else-total_less w ↦
+        subst (λ (m : ℕ). Weakest c.args.n c.args.hot.now m (i + 1)) (sym w.least-is)
+        (weakest-same c.args.n c.args.hot.now c.requires.0 _ i c.loop-i.invariant c.loop-i-test.true (sym c.total_less.ensures ∙ w.if-total_less.false))
+    ]
 
 mul-of-words : tie.Need-overflow_mul-least-2 invariant-loop-i decreases-loop-i
 mul-of-words c = omega (arith, last c)

@@ -93,7 +93,7 @@ loop-again c =
     let h = c.loop-i-test.true in
     let p = passed s in
     let key : get_or s.args.keys.now (l.i * s.args.w) 0 < 2 ^ 64 = omega (arith, c.shared_slice_known-in-loop-i-1.given (l.i * s.args.w)) in
-    let reading : s.args.now < 2 ^ 64 = omega (arith, s.fits.now) in
+    let reading : s.args.now < 2 ^ 64 = omega (arith, s.ranges.now.fits) in
     updating-next eviction_margin s.args.self s.args.now (updates s) s.args.hot.now s.args.out.now l.i l.set l.hot l.out l.invariant
     (omega (arith, h, count s))
     (omega (arith, p.room, count s))
