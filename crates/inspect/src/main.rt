@@ -1,5 +1,7 @@
 // Reads a saved image from standard input and writes a line for each of its records, or `no 13`
 // where it is no valid image.
+#![tactic(auto)]
+
 mod bignum;
 mod decimal;
 mod fields;
@@ -10,8 +12,8 @@ ghost use Rattle.std.specs.Prelude.{◌≡◌, ◌<◌, ◌≤◌, length};
 use image::LoadAnswer;
 use image::judge::{HOT_SIZE, KEYS_SIZE, SHADOWS_SIZE};
 use image::rows::RecordAnswer;
-use libc::STDIN_FILENO;
 use peers::peer_demand::{CONTESTED_SIZE, PEERS_SIZE, SNAPSHOT_KEYS_SIZE};
+use std::io::Read;
 
 // One byte more than the largest image has: an input of so many bytes is no image.
 const INPUT: usize = image::LARGEST_IMAGE + 1;
@@ -31,34 +33,35 @@ fn record_end(image: &[u8], here: usize) -> usize
 }
 
 // Writes the line of one record, and what is ready where little room is left then.
-fn put_line(out: &mut [u8], at: usize, record: &[u8]) -> usize {
+fn put_line(rt: &(impl Print + Eprint), out: &mut [u8], at: usize, record: &[u8]) -> usize {
     let end = lines::put_record(out, at, record);
     let next = text::put(out, end, b"\n");
-    text::flush(out, next, LINE)
+    text::flush(rt, out, next, LINE)
 }
 
 // Writes the lines of a valid image, as long as no write fails.
-fn put_image(out: &mut [u8], image: &[u8]) {
+fn put_image(rt: &(impl Print + Eprint), out: &mut [u8], image: &[u8]) {
     let mut at = 0;
     let mut here = 0;
     while here < image.len() && at != text::FAILED {
         let end = record_end(image, here);
-        at = put_line(out, at, &image[here..end]);
+        at = put_line(rt, out, at, &image[here..end]);
         here = end;
     }
-    text::flush(out, at, out.len());
+    text::flush(rt, out, at, out.len());
 }
 
 // Writes the number of the question that was answered 'no'.
-fn put_no(out: &mut [u8], no: u8) {
+fn put_no(rt: &(impl Print + Eprint), out: &mut [u8], no: u8) {
     let word = text::put(out, 0, b"no ");
     let number = text::put_decimal(out, word, no as u64);
     let end = text::put(out, number, b"\n");
-    text::flush(out, end, out.len());
+    text::flush(rt, out, end, out.len());
 }
 
 // Writes the image as text once a load has taken it.
 fn inspect(
+    rt: &(impl Print + Eprint),
     image: &[u8],
     keys: &mut [u64],
     hot: &mut [u64],
@@ -69,13 +72,13 @@ fn inspect(
     out: &mut [u8],
 ) {
     match image::load(image, keys, hot, shadows, peers, snapshot_keys, contested) {
-        LoadAnswer::No(no) => put_no(out, no),
-        LoadAnswer::Is(_) => put_image(out, image),
+        LoadAnswer::No(no) => put_no(rt, out, no),
+        LoadAnswer::Is(_) => put_image(rt, out, image),
     }
 }
 
 // The same, with tables for the largest image.
-fn run(image: &[u8]) {
+fn run(rt: &(impl Print + Eprint), image: &[u8]) {
     let mut keys = [0u64; KEYS_SIZE];
     let mut hot = [0u64; HOT_SIZE];
     let mut shadows = [0u64; SHADOWS_SIZE];
@@ -84,6 +87,7 @@ fn run(image: &[u8]) {
     let mut contested = [0u64; CONTESTED_SIZE];
     let mut out = io::large_buffer();
     inspect(
+        rt,
         image,
         &mut keys,
         &mut hot,
@@ -102,8 +106,24 @@ fn input_buffer() -> [u8; INPUT]
     [0; INPUT]
 }
 
-fn main() {
+// Reads until the buffer is full, the input ends or a read fails, and answers how many bytes came.
+fn read_full(stdin: &mut impl Read, buf: &mut [u8]) -> usize
+    ensures { result ≤ length buf.new }
+{
+    let mut done = 0;
+    while done < buf.len() {
+        let n = stdin.read(&mut buf[done..]).unwrap_or(0);
+        if n == 0 {
+            break;
+        }
+        done += n;
+    }
+    done
+}
+
+fn main(rt: HostRuntime) {
+    let mut stdin = rt.stdin();
     let mut input = input_buffer();
-    let n = io::read_full(STDIN_FILENO, &mut input);
-    run(&input[..n]);
+    let n = read_full(&mut stdin, &mut input);
+    run(&rt, &input[..n]);
 }

@@ -1,6 +1,9 @@
 // Reads a rate and a burst, then a reading a line, and writes the meter's decision on each. It stops
 // at the first line that is not what it should be, and where a write fails.
+#![tactic(auto)]
+
 use gcra::{CheckAnswer, Decision, Gcra, GcraAnswer, Quota, QuotaAnswer};
+use std::io::Read;
 use text::Number;
 use text::lines::{Kind, Lines};
 
@@ -81,7 +84,14 @@ struct Turn {
 }
 
 // Checks a reading and writes the decision.
-fn decide(out: &mut [u8], at: usize, gcra: Gcra, reading: u64, left: Lines) -> Turn {
+fn decide(
+    rt: &(impl Print + Eprint),
+    out: &mut [u8],
+    at: usize,
+    gcra: Gcra,
+    reading: u64,
+    left: Lines,
+) -> Turn {
     let checked = gcra.check(reading);
     let answer = checked.answer;
     let after = checked.gcra;
@@ -95,7 +105,7 @@ fn decide(out: &mut [u8], at: usize, gcra: Gcra, reading: u64, left: Lines) -> T
         };
     };
     let end = put_decision(out, at, decision);
-    let next = text::flush(out, end, DECISION);
+    let next = text::flush(rt, out, end, DECISION);
     Turn {
         over: next == text::FAILED,
         at: next,
@@ -106,8 +116,16 @@ fn decide(out: &mut [u8], at: usize, gcra: Gcra, reading: u64, left: Lines) -> T
 }
 
 // Reads a line and decides on its reading.
-fn turn_of(input: &mut [u8], out: &mut [u8], rest: Lines, at: usize, gcra: Gcra) -> Turn {
-    let line = text::lines::next_line(input, rest);
+fn turn_of(
+    rt: &(impl Print + Eprint),
+    stdin: &mut impl Read,
+    input: &mut [u8],
+    out: &mut [u8],
+    rest: Lines,
+    at: usize,
+    gcra: Gcra,
+) -> Turn {
+    let line = text::lines::next_line(stdin, input, rest);
     let kind = line.kind;
     let start = line.start;
     let end = line.end;
@@ -123,7 +141,7 @@ fn turn_of(input: &mut [u8], out: &mut [u8], rest: Lines, at: usize, gcra: Gcra)
     }
     let number = text::decimal(&input[start..end]);
     match number {
-        Number::Value(reading) => decide(out, at, gcra, reading, left),
+        Number::Value(reading) => decide(rt, out, at, gcra, reading, left),
         Number::Unfit => Turn {
             over: true,
             at,
@@ -135,7 +153,14 @@ fn turn_of(input: &mut [u8], out: &mut [u8], rest: Lines, at: usize, gcra: Gcra)
 }
 
 // Decides on reading after reading. The loop counts its turns down from a number that no run uses up.
-fn run(input: &mut [u8], out: &mut [u8], first: Lines, gcra: Gcra) {
+fn run(
+    rt: &(impl Print + Eprint),
+    stdin: &mut impl Read,
+    input: &mut [u8],
+    out: &mut [u8],
+    first: Lines,
+    gcra: Gcra,
+) {
     let mut t = Turn {
         over: false,
         at: 0,
@@ -150,14 +175,14 @@ fn run(input: &mut [u8], out: &mut [u8], first: Lines, gcra: Gcra) {
             to: t.to,
         };
         let meter = t.gcra;
-        t = turn_of(input, out, rest, t.at, meter);
+        t = turn_of(rt, stdin, input, out, rest, t.at, meter);
         turns -= 1;
     }
-    text::flush(out, t.at, out.len());
+    text::flush(rt, out, t.at, out.len());
 }
 
-fn start(input: &mut [u8], out: &mut [u8]) {
-    let line = text::lines::next_line(input, text::lines::start());
+fn start(rt: &(impl Print + Eprint), stdin: &mut impl Read, input: &mut [u8], out: &mut [u8]) {
+    let line = text::lines::next_line(stdin, input, text::lines::start());
     let kind = line.kind;
     let start = line.start;
     let end = line.end;
@@ -169,11 +194,12 @@ fn start(input: &mut [u8], out: &mut [u8]) {
     let Meter::Of(gcra) = meter else {
         return;
     };
-    run(input, out, rest, gcra);
+    run(rt, stdin, input, out, rest, gcra);
 }
 
-fn main() {
+fn main(rt: HostRuntime) {
+    let mut stdin = rt.stdin();
     let mut input = io::large_buffer();
     let mut out = io::large_buffer();
-    start(&mut input, &mut out);
+    start(&rt, &mut stdin, &mut input, &mut out);
 }

@@ -1,4 +1,6 @@
 // Runs points on the edge through the code and prints a line each.
+#![tactic(auto)]
+
 use demand::allocation::{ShareAnswer, View};
 use demand::decay::decay_weight;
 use gcra::{Gcra, NumberAnswer, Quota, QuotaAnswer, Tat};
@@ -198,7 +200,7 @@ fn rounds(out: &mut [u8], at: usize) -> usize {
     line(out, d, b"round 0 newer than 32768: ", newer(0, 32768))
 }
 
-fn print(out: &mut [u8]) {
+fn print(rt: &(impl Print + Eprint), out: &mut [u8]) {
     let a = three_two(out, 0);
     let b = intervals(out, a);
     let c = five_micros(out, b);
@@ -207,10 +209,10 @@ fn print(out: &mut [u8]) {
     let f = shares(out, e);
     let g = weights(out, f);
     let h = rounds(out, g);
-    text::flush(out, h, out.len());
+    text::flush(rt, out, h, out.len());
 }
 
-fn main() {
+fn main(rt: HostRuntime) {
     let mut out = io::large_buffer();
-    print(&mut out);
+    print(&rt, &mut out);
 }

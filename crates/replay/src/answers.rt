@@ -260,12 +260,12 @@ pub(crate) fn put(out: &mut [u8], at: usize, answer: Answer, list: &[u64]) -> us
 }
 
 // Ends the line of an answer, and writes what is ready where little room is left then.
-pub(crate) fn end_line(out: &mut [u8], at: usize) -> usize {
+pub(crate) fn end_line(rt: &(impl Print + Eprint), out: &mut [u8], at: usize) -> usize {
     let next = text::put(out, at, b"\n");
-    spare(out, next)
+    spare(rt, out, next)
 }
 
 // Writes what is ready where there might be too little room for an answer.
-pub(crate) fn spare(out: &[u8], at: usize) -> usize {
-    text::flush(out, at, ROOM)
+pub(crate) fn spare(rt: &(impl Print + Eprint), out: &[u8], at: usize) -> usize {
+    text::flush(rt, out, at, ROOM)
 }

@@ -58,12 +58,17 @@ pub(crate) fn decode(line: &mut [u8], from: usize) -> Decoded {
 }
 
 // Writes the digits of the bytes, whatever room there is: what is ready is written out.
-pub(crate) fn put_bytes(out: &mut [u8], from: usize, bytes: &[u8]) -> usize {
+pub(crate) fn put_bytes(
+    rt: &(impl Print + Eprint),
+    out: &mut [u8],
+    from: usize,
+    bytes: &[u8],
+) -> usize {
     let mut at = from;
     let mut i = 0;
     while i < bytes.len() {
         let next = text::put_hex(out, at, wide(bytes[i]), 2);
-        at = answers::spare(out, next);
+        at = answers::spare(rt, out, next);
         i += 1;
     }
     at

@@ -1,5 +1,7 @@
 // Reads a script of calls from standard input and answers each on a line of its own. The input's
 // buffer holds a line of 3,145,728 bytes and its line feed; a longer one is no call.
+#![tactic(auto)]
+
 mod answers;
 mod calls;
 mod digits;
@@ -22,6 +24,8 @@ use answers::{Answer, Value};
 use calls::Call;
 use fields::Args;
 use session::{Done, Session};
+use std::env::Env;
+use std::io::Read;
 use tables::{
     ContestedTable, HotKeyTable, HotTable, Kept, KeyTable, List, PeerTable, Ready, ShadowTable,
     SnapshotTable,
@@ -161,6 +165,7 @@ fn is_dump(first: Value) -> bool {
 // Writes the line of an answer, the image's length and hash behind it where the script is to show
 // images and there is one. The room for an image is made only where one is shown.
 fn put_line(
+    rt: &(impl Print + Eprint),
     show: bool,
     out: &mut Ready,
     at: usize,
@@ -182,15 +187,15 @@ fn put_line(
     let mut end = answers::put(out, at, answer, list);
     if is_dump(first) {
         end = shown::put(
-            out, end, true, s, keys, hot_keys, shadows, peer_table, snapshots, contested,
+            rt, out, end, true, s, keys, hot_keys, shadows, peer_table, snapshots, contested,
         );
     }
     if show && session::has_both(s) {
         end = shown::put(
-            out, end, false, s, keys, hot_keys, shadows, peer_table, snapshots, contested,
+            rt, out, end, false, s, keys, hot_keys, shadows, peer_table, snapshots, contested,
         );
     }
-    answers::end_line(out, end)
+    answers::end_line(rt, out, end)
 }
 
 // Whether no further line is to be answered: the input ended, or a write failed.
@@ -211,6 +216,7 @@ struct Answered {
 
 // Answers what came.
 fn answer_line(
+    rt: &(impl Print + Eprint),
     show: bool,
     kind: Kind,
     line: &mut [u8],
@@ -231,7 +237,7 @@ fn answer_line(
         kind, line, s, hot, keys, hot_keys, shadows, peer_table, snapshots, contested, kept, list,
     );
     let end = put_line(
-        show, out, at, done, keys, hot_keys, shadows, peer_table, snapshots, contested, list,
+        rt, show, out, at, done, keys, hot_keys, shadows, peer_table, snapshots, contested, list,
     );
     let session = done.session;
     Answered { at: end, session }
@@ -250,6 +256,8 @@ struct Turn {
 
 // Reads a line and answers it.
 fn turn_of(
+    rt: &(impl Print + Eprint),
+    stdin: &mut impl Read,
     show: bool,
     input: &mut [u8],
     out: &mut Ready,
@@ -269,12 +277,13 @@ fn turn_of(
         to: t.to,
     };
     let s = t.session;
-    let came = text::lines::next_line(input, rest);
+    let came = text::lines::next_line(stdin, input, rest);
     let kind = came.kind;
     let start = came.start;
     let end = came.end;
     let left = came.rest;
     let answered = answer_line(
+        rt,
         show,
         kind,
         &mut input[start..end],
@@ -303,6 +312,8 @@ fn turn_of(
 
 // Answers line after line. The loop counts its turns down from a number that no run uses up.
 fn run(
+    rt: &(impl Print + Eprint),
+    stdin: &mut impl Read,
     show: bool,
     input: &mut [u8],
     out: &mut Ready,
@@ -327,23 +338,28 @@ fn run(
     let mut turns = u64::MAX;
     while 0 < turns && !t.over {
         t = turn_of(
-            show, input, out, t, hot, keys, hot_keys, shadows, peer_table, snapshots, contested,
-            kept, list,
+            rt, stdin, show, input, out, t, hot, keys, hot_keys, shadows, peer_table, snapshots,
+            contested, kept, list,
         );
         turns -= 1;
     }
-    text::flush(out, t.at, out.len());
+    text::flush(rt, out, t.at, out.len());
 }
 
 // Whether the program is to show images.
-fn shows_images() -> bool {
+fn shows_images(rt: &impl Env) -> bool {
     let mut word = io::buffer();
-    let n = os::arg(1, &mut word);
+    let n = rt.arg(1, &mut word).unwrap_or(0);
     fields::same(&word[..n], b"--images")
 }
 
 // Makes the tables, and answers the script.
-fn start(input: &mut [u8], kept: &mut Kept) {
+fn start(
+    rt: &(impl Print + Eprint + Env),
+    stdin: &mut impl Read,
+    input: &mut [u8],
+    kept: &mut Kept,
+) {
     let mut out = io::large_buffer();
     let mut hot = [0u64; 384];
     let mut keys = [0u64; 90112];
@@ -354,7 +370,9 @@ fn start(input: &mut [u8], kept: &mut Kept) {
     let mut contested = [0u64; 49152];
     let mut list = [0u64; 1024];
     run(
-        shows_images(),
+        rt,
+        stdin,
+        shows_images(rt),
         input,
         &mut out,
         &mut hot,
@@ -369,8 +387,9 @@ fn start(input: &mut [u8], kept: &mut Kept) {
     );
 }
 
-fn main() {
+fn main(rt: HostRuntime) {
+    let mut stdin = rt.stdin();
     let mut input = [0u8; 3_145_729];
     let mut kept = [0u8; image::LARGEST_IMAGE];
-    start(&mut input, &mut kept);
+    start(&rt, &mut stdin, &mut input, &mut kept);
 }

@@ -16,16 +16,29 @@ fn put_hash(out: &mut [u8], at: usize, bytes: &[u8]) -> usize {
 }
 
 // An image: whole, or its length and hash.
-fn put_image(out: &mut [u8], at: usize, whole: bool, bytes: &[u8]) -> usize {
+fn put_image(
+    rt: &(impl Print + Eprint),
+    out: &mut [u8],
+    at: usize,
+    whole: bool,
+    bytes: &[u8],
+) -> usize {
     if !whole {
         return put_hash(out, at, bytes);
     }
     let next = text::put(out, at, b"image ");
-    digits::put_bytes(out, next, bytes)
+    digits::put_bytes(rt, out, next, bytes)
 }
 
 // What a save answers and wrote; where it is refused there is no length and no hash.
-fn put_saved(out: &mut [u8], at: usize, whole: bool, answer: LenAnswer, room: &[u8]) -> usize {
+fn put_saved(
+    rt: &(impl Print + Eprint),
+    out: &mut [u8],
+    at: usize,
+    whole: bool,
+    answer: LenAnswer,
+    room: &[u8],
+) -> usize {
     match answer {
         LenAnswer::No(n) => {
             if whole {
@@ -34,7 +47,7 @@ fn put_saved(out: &mut [u8], at: usize, whole: bool, answer: LenAnswer, room: &[
                 at
             }
         }
-        LenAnswer::Is(len) => { put_image(out, at, whole, lent::bytes(room, len as u64)) }
+        LenAnswer::Is(len) => { put_image(rt, out, at, whole, lent::bytes(room, len as u64)) }
     }
 }
 
@@ -45,6 +58,7 @@ fn large_room() -> [u8; image::LARGEST_IMAGE] {
 
 // With room for every image.
 fn put_large(
+    rt: &(impl Print + Eprint),
     out: &mut Ready,
     at: usize,
     whole: bool,
@@ -60,7 +74,7 @@ fn put_large(
     let answer = images::save_to(
         s, keys, hot_keys, shadows, peer_table, snapshots, contested, &mut room,
     );
-    put_saved(out, at, whole, answer, &room)
+    put_saved(rt, out, at, whole, answer, &room)
 }
 
 // Whether there was too little room.
@@ -73,6 +87,7 @@ fn is_full(answer: LenAnswer) -> bool {
 
 // Shows the image of the state. Little room is tried first: there is less to clear.
 pub(crate) fn put(
+    rt: &(impl Print + Eprint),
     out: &mut Ready,
     at: usize,
     whole: bool,
@@ -90,8 +105,8 @@ pub(crate) fn put(
     );
     if is_full(answer) {
         return put_large(
-            out, at, whole, s, keys, hot_keys, shadows, peer_table, snapshots, contested,
+            rt, out, at, whole, s, keys, hot_keys, shadows, peer_table, snapshots, contested,
         );
     }
-    put_saved(out, at, whole, answer, &room)
+    put_saved(rt, out, at, whole, answer, &room)
 }

@@ -1,4 +1,6 @@
 // Text for the programs: numbers in ASCII, read and written, and the lines of standard input.
+#![tactic(auto)]
+
 pub mod lines;
 
 ghost use Rattle.std.specs.Prelude.{◌≡◌, ◌≤◌, ◌<◌, min, max, length};
@@ -6,7 +8,7 @@ ghost use Rattle.text.specs.Input.{index_of};
 ghost use Rattle.text.specs.Numbers.{digit, if_fits, numeral, decimal_number, hex_number};
 ghost use Rattle.text.specs.Output.{written, end, Spelled, Flushed};
 
-use libc::STDOUT_FILENO;
+use std::fmt::InlineText;
 
 #[derive(Clone, Copy)]
 pub enum Number {
@@ -133,10 +135,21 @@ pub fn put_hex(out: &mut [u8], at: usize, n: u64, width: usize) -> usize
 // The index that text is put at once standard output has failed: `put` writes nothing there.
 pub const FAILED: usize = usize::MAX;
 
+// Tells a failed write on standard error, in the system's words, without its number.
+fn tell(rt: &impl Eprint, error: std::io::Error) {
+    let text = InlineText::<128>::of(error);
+    let all = text.as_str();
+    let cause = match all.split_once(" (os error ") {
+        Some((words, _)) => words,
+        None => all,
+    };
+    let _ = eprintln!(rt; "standard output: {cause}");
+}
+
 // Writes the first `at` bytes of the buffer to standard output where fewer than `room` are left
 // behind them, and answers where to go on. A write that fails is told on standard error and
 // answered with FAILED, which stays, so it is told once.
-pub fn flush(out: &[u8], at: usize, room: usize) -> usize
+pub fn flush(rt: &(impl Print + Eprint), out: &[u8], at: usize, room: usize) -> usize
     ensures { Flushed at room out.now result }
 {
     if out.len() < at {
@@ -145,9 +158,11 @@ pub fn flush(out: &[u8], at: usize, room: usize) -> usize
     if room <= out.len() - at {
         return at;
     }
-    if io::write_all(STDOUT_FILENO, &out[..at]) {
-        return 0;
+    match rt.write_all(&out[..at]) {
+        Ok(()) => 0,
+        Err(error) => {
+            tell(rt, error);
+            FAILED
+        }
     }
-    os::fail(b"standard output");
-    FAILED
 }

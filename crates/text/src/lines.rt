@@ -1,10 +1,10 @@
-// Lines of standard input, however many, through a buffer that the caller lends.
+// Lines of a reader, as of standard input, however many, through a buffer that the caller lends.
 ghost use Rattle.std.specs.Prelude.{◌≡◌, ◌+◌, ◌-◌, ◌≤◌, length, take};
 ghost use Rattle.std.proofs.Math.Seq.{slice};
 ghost use Rattle.text.specs.Input.{index_of, feed, Came};
 ghost use Rattle.text.specs.Steps.{seen, Held, NoFeed, Roomy, More, LineRead, line_of, no_line, last_line};
 
-use libc::STDIN_FILENO;
+use std::io::Read;
 
 // Bytes from..to of the buffer are read and not yet handed out.
 #[derive(Clone, Copy)]
@@ -50,17 +50,19 @@ fn to_front(buf: &mut [u8], from: usize, to: usize)
     }
 }
 
-// Reads once into the buffer from `to` on, where a turn is left, and answers where the bytes end then.
-fn read_more(buf: &mut [u8], to: usize, turns: u64) -> usize
+// Reads once into the buffer from `to` on, where a turn is left, and answers where the bytes end
+// then. A read that fails counts as the end of the input.
+fn read_more(input: &mut impl Read, buf: &mut [u8], to: usize, turns: u64) -> usize
     requires { to ≤ length buf.old }
     ensures { More turns to result buf.old buf.new }
 {
     if turns == 0 {
         return to;
     }
-    let part = &mut buf[to..];
-    let got = libc::read(STDIN_FILENO, part);
-    to + io::count(got, part)
+    match input.read(&mut buf[to..]) {
+        Ok(n) => to + n,
+        Err(_) => to,
+    }
 }
 
 // What is in hand while a line is looked for: bytes from..to, and whether the line's first bytes
@@ -164,7 +166,7 @@ fn in_hand(buf: &[u8], s: Lines) -> Window
 
 // The next line where none is in hand: the input is read as far as need be. The loop counts its
 // turns down from a number that no run uses up; where it did, the input would count as ended.
-fn read_line(buf: &mut [u8], hand: Window) -> Line
+fn read_line(input: &mut impl Read, buf: &mut [u8], hand: Window) -> Line
     requires { NoFeed hand buf.old }
     ensures { LineRead (seen hand buf.old) buf.old result buf.new }
 {
@@ -172,7 +174,7 @@ fn read_line(buf: &mut [u8], hand: Window) -> Line
     let mut turns = u64::MAX;
     loop {
         w = make_room(buf, w);
-        let more = read_more(buf, w.to, turns);
+        let more = read_more(input, buf, w.to, turns);
         if more == w.to {
             return last_line(w);
         }
@@ -186,7 +188,7 @@ fn read_line(buf: &mut [u8], hand: Window) -> Line
 }
 
 // The next line: the one in hand, or one that the input is read for.
-pub fn next_line(buf: &mut [u8], s: Lines) -> Line
+pub fn next_line(input: &mut impl Read, buf: &mut [u8], s: Lines) -> Line
     ensures { Came s buf.old result buf.new }
 {
     let w = in_hand(buf, s);
@@ -196,5 +198,5 @@ pub fn next_line(buf: &mut [u8], s: Lines) -> Line
     if e < to {
         return line_of(from, e, false, e + 1, to);
     }
-    read_line(buf, w)
+    read_line(input, buf, w)
 }

@@ -13,6 +13,7 @@ pub main_spec : {M : Type 1} → statement M
 main_spec =
     tie.close
     (tie.spec
+    (λ c κs. search rules)
     slice-aggregate-start
     (λ c κs. search rules)
     (λ c. search rules))

@@ -42,10 +42,10 @@ module _ (c : tie.After-digit-d invariant-loop-i decreases-loop-i) where
   inside = c.before.before.loop-i-test.true
 
   so_far : numeral base 0 s ≡ numeral base n (drop loop.loop-i.i s)
-  so_far = loop.loop-i.inv.1
+  so_far = loop.loop-i.invariant.1
 
   room : d < base → n ≤ (18446744073709551615 - d) / base → base * n + d < 2 ^ 64
-  room h k = room-left base n d start.pre.0 (omega (arith, h, start.pre.1)) k
+  room h k = room-left base n d start.requires.0 (omega (arith, h, start.requires.1)) k
 
 returns : tie.Need-returns-then-d-base invariant-loop-i decreases-loop-i
 returns c = let a = c.before in sym (so_far a ∙ no_digit (base a) (n a) (loop a).loop-i.i (s a) (d a) (inside a) a.digit-d.ensures c.if-d-base.true)

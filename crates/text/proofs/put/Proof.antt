@@ -45,7 +45,7 @@ module _ (l : tie.At-loop-i invariant-loop-i decreases-loop-i) where
   t = l.before.before.before
 
   long : length l.loop-i.out ≡ length t.args.out.now
-  long = ap length l.loop-i.inv.2 ∙ length-paste t.args.out.now t.args.at t.args.s.now l.loop-i.i (omega arith) (omega arith)
+  long = ap length l.loop-i.invariant.2 ∙ length-paste t.args.out.now t.args.at t.args.s.now l.loop-i.i (omega arith) (omega arith)
 
 add-out : tie.Need-overflow_add-out invariant-loop-i decreases-loop-i
 add-out c = omega (arith, long c.before.before)
