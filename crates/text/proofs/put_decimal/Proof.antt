@@ -5,7 +5,7 @@ use Rattle.text.proofs.put_decimal.Statement.{statement}
 use Rattle.text.proofs.put_decimal.Tie as tie
 
 returns : tie.Need-returns
-returns c = (let e = c.before.before.before.before.before.decimal-k.ensures.1 in spelled (e.0, e.1.0) c.before.before.put.ensures)
+returns c = let e = c.before.before.before.before.before.decimal-k.ensures.1 in spelled (e.0, e.1.0) c.before.before.put.ensures
 
 pub put_decimal_spec : {M : Type 1} → statement M
 put_decimal_spec = tie.close (tie.spec (λ c κs. search rules) (λ c. search rules) (λ c. search rules) (λ c κs. search rules) (λ c. search rules) returns)
