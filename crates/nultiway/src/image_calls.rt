@@ -1,7 +1,7 @@
 // The saved image.
 ghost use Rattle.std.specs.Prelude.{◌≤◌, length};
 ghost use Rattle.peers.specs.Peers.State as peer-state;
-ghost use Rattle.limiter.specs.State.{at_entry, at_exit};
+ghost use Rattle.limiter.specs.State.{tables};
 ghost use Rattle.image.specs.Calls.{load_answer};
 ghost use Rattle.nultiway.specs.ImageCalls.{PutLoaded};
 ghost use Rattle.nultiway.specs.ImageCalls as Calls;
@@ -45,8 +45,8 @@ pub extern "C" fn nultiway_save(
     out: &mut [u8],
     answer: &mut [u64],
 ) -> u8
-    ensures { Calls.Save limiter.now (at_entry keys hot shadows) peers.now
-        (peer-state.at_entry peer_table snapshot_keys contested) out.old
+    ensures { Calls.Save limiter.now (tables keys.now hot.now shadows.now) peers.now
+        (peer-state.tables peer_table.now snapshot_keys.now contested.now) out.old
         answer.old result out.new answer.new }
 {
     let room = peers_have_room(
@@ -89,10 +89,10 @@ pub extern "C" fn nultiway_load(
     snapshot_keys: &mut [u64],
     contested: &mut [u64],
 ) -> u8
-    ensures { Calls.Load image.now limiter.old (at_entry keys hot shadows)
-        peers.old (peer-state.at_entry peer_table snapshot_keys contested) result
-        limiter.new (at_exit keys hot shadows) peers.new
-        (peer-state.at_exit peer_table snapshot_keys contested) }
+    ensures { Calls.Load image.now limiter.old (tables keys.old hot.old shadows.old)
+        peers.old (peer-state.tables peer_table.old snapshot_keys.old contested.old) result
+        limiter.new (tables keys.new hot.new shadows.new) peers.new
+        (peer-state.tables peer_table.new snapshot_keys.new contested.new) }
 {
     if !are_long(limiter.len(), LIMITER_WORDS, peers.len(), PEERS_WORDS) {
         return 1;

@@ -1,7 +1,7 @@
 // A limiter made, its cap set, its counts and ticks.
 ghost use Rattle.std.specs.Prelude.{◌≡◌};
 ghost use Rattle.peers.specs.Peers.State as peer-state;
-ghost use Rattle.limiter.specs.State.{at_entry, at_exit, cap_of};
+ghost use Rattle.limiter.specs.State.{tables, cap_of};
 ghost use Rattle.nultiway.specs.LimiterCalls as Calls;
 
 use crate::answers::{change_number, put_new};
@@ -27,7 +27,7 @@ pub extern "C" fn nultiway_limiter_new(
     demand_time_constant: u64,
     table_size: u64,
 ) -> u8
-    ensures { Calls.New limiter.old (at_entry keys hot shadows)
+    ensures { Calls.New limiter.old (tables keys.now hot.now shadows.now)
         (Calls.config rate burst alpha floor_factor cooldown hot_set_size max_tracked_keys
         demand_time_constant table_size)
         result limiter.new }
@@ -66,7 +66,7 @@ pub extern "C" fn nultiway_limiter_ask(
     hot: &[u64],
     shadows: &[u64],
 ) -> u8
-    ensures { Calls.Ask limiter.now (at_entry keys hot shadows) result }
+    ensures { Calls.Ask limiter.now (tables keys.now hot.now shadows.now) result }
 {
     let no = ask_limiter(limiter, keys.len(), hot.len(), shadows.len(), true);
     if no != 0 {
@@ -87,7 +87,7 @@ pub extern "C" fn nultiway_set_cap(
     has_cap: u8,
     cap: f64,
 ) -> u8
-    ensures { Calls.SetCap limiter.old (at_entry keys hot shadows)
+    ensures { Calls.SetCap limiter.old (tables keys.now hot.now shadows.now)
         (Calls.cap_given has_cap cap) result limiter.new }
 {
     let no = ask_limiter(limiter, keys.len(), hot.len(), shadows.len(), true);
@@ -119,10 +119,10 @@ pub extern "C" fn nultiway_record(
     reading: u64,
     cluster_size: u64,
 ) -> u8
-    ensures { Calls.Record limiter.old (at_entry keys hot shadows) key
+    ensures { Calls.Record limiter.old (tables keys.old hot.now shadows.now) key
         (Calls.tally attempts denials shadow_denials)
         (Calls.limit rate burst) reading cluster_size result limiter.new
-        (at_exit keys hot shadows) }
+        (tables keys.new hot.now shadows.now) }
 {
     let no = ask_limiter(limiter, keys.len(), hot.len(), shadows.len(), true);
     if no != 0 {
@@ -153,8 +153,8 @@ pub extern "C" fn nultiway_tick(
     reading: u64,
     cluster_size: u64,
 ) -> u8
-    ensures { Calls.Tick limiter.old (at_entry keys hot shadows) reading cluster_size result
-        limiter.new (at_exit keys hot shadows) }
+    ensures { Calls.Tick limiter.old (tables keys.old hot.old shadows.old) reading cluster_size result
+        limiter.new (tables keys.new hot.new shadows.new) }
 {
     let no = ask_limiter(limiter, keys.len(), hot.len(), shadows.len(), true);
     if no != 0 {
@@ -183,10 +183,10 @@ pub extern "C" fn nultiway_tick_with_shares(
     reading: u64,
     cluster_size: u64,
 ) -> u8
-    ensures { Calls.TickWithShares limiter.old (at_entry keys hot shadows) peers.now
-        (peer-state.at_entry peer_table snapshot_keys contested) reading cluster_size result
+    ensures { Calls.TickWithShares limiter.old (tables keys.old hot.old shadows.old) peers.now
+        (peer-state.tables peer_table.now snapshot_keys.now contested.now) reading cluster_size result
         limiter.new
-        (at_exit keys hot shadows) }
+        (tables keys.new hot.new shadows.new) }
 {
     let room = peers_have_room(
         true,

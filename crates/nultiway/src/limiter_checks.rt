@@ -1,6 +1,6 @@
 // Checks of keys.
 ghost use Rattle.std.specs.Prelude.{◌≡◌};
-ghost use Rattle.limiter.specs.State.{at_entry, at_exit};
+ghost use Rattle.limiter.specs.State.{tables};
 ghost use Rattle.limiter.specs.Calls.{shadow_limit};
 ghost use Rattle.nultiway.specs.LimiterCalls as Calls;
 
@@ -21,9 +21,9 @@ pub extern "C" fn nultiway_check(
     cluster_size: u64,
     answer: &mut [u64],
 ) -> u8
-    ensures { Calls.Check limiter.old (at_entry keys hot shadows) key reading cluster_size
+    ensures { Calls.Check limiter.old (tables keys.old hot.now shadows.now) key reading cluster_size
         answer.old result
-        limiter.new (at_exit keys hot shadows) answer.new }
+        limiter.new (tables keys.new hot.now shadows.now) answer.new }
 {
     let room = 2 <= answer.len();
     let no = ask_limiter(limiter, keys.len(), hot.len(), shadows.len(), room);
@@ -53,9 +53,9 @@ pub extern "C" fn nultiway_check_in(
     cluster_size: u64,
     answer: &mut [u64],
 ) -> u8
-    ensures { Calls.CheckIn limiter.old (at_entry keys hot shadows) key
+    ensures { Calls.CheckIn limiter.old (tables keys.old hot.now shadows.now) key
         (Calls.limit rate burst) reading cluster_size answer.old result
-        limiter.new (at_exit keys hot shadows) answer.new }
+        limiter.new (tables keys.new hot.now shadows.now) answer.new }
 {
     let room = 2 <= answer.len();
     let no = ask_limiter(limiter, keys.len(), hot.len(), shadows.len(), room);
@@ -101,11 +101,11 @@ pub extern "C" fn nultiway_check_in_traced(
     cluster_size: u64,
     answer: &mut [u64],
 ) -> u8
-    ensures { Calls.CheckInTraced limiter.old (at_entry keys hot shadows) key
+    ensures { Calls.CheckInTraced limiter.old (tables keys.old hot.now shadows.old) key
         (Calls.limit rate burst)
         (Calls.shadow_given has_shadow (Calls.limit shadow_rate shadow_burst)) reading
         cluster_size answer.old result
-        limiter.new (at_exit keys hot shadows) answer.new }
+        limiter.new (tables keys.new hot.now shadows.new) answer.new }
 {
     let room = 5 <= answer.len();
     let no = ask_limiter(limiter, keys.len(), hot.len(), shadows.len(), room);
@@ -137,9 +137,9 @@ pub extern "C" fn nultiway_check_each(
     cluster_size: u64,
     out: &mut [u64],
 ) -> u8
-    ensures { Calls.CheckEach limiter.old (at_entry keys hot shadows) list.now
+    ensures { Calls.CheckEach limiter.old (tables keys.old hot.now shadows.now) list.now
         count cluster_size
-        out.old result limiter.new (at_exit keys hot shadows) out.new }
+        out.old result limiter.new (tables keys.new hot.now shadows.now) out.new }
 {
     let many = count as usize;
     let room = records::fits(list.len(), 2, many);

@@ -1,5 +1,5 @@
 // Lists of keys, in words that the caller lends for them.
-ghost use Rattle.limiter.specs.State.{at_entry};
+ghost use Rattle.limiter.specs.State.{tables};
 ghost use Rattle.nultiway.specs.LimiterCalls as Calls;
 
 use crate::answers::put_len;
@@ -16,7 +16,7 @@ pub extern "C" fn nultiway_hot_demand(
     out: &mut [u64],
     answer: &mut [u64],
 ) -> u8
-    ensures { Calls.HotDemand limiter.now (at_entry keys hot shadows) out.old
+    ensures { Calls.HotDemand limiter.now (tables keys.now hot.now shadows.now) out.old
         answer.old result
         out.new answer.new }
 {
@@ -42,7 +42,7 @@ pub extern "C" fn nultiway_most_denied(
     out: &mut [u64],
     answer: &mut [u64],
 ) -> u8
-    ensures { Calls.MostDenied limiter.now (at_entry keys hot shadows) k out.old
+    ensures { Calls.MostDenied limiter.now (tables keys.now hot.now shadows.now) k out.old
         answer.old result
         out.new answer.new }
 {
@@ -68,7 +68,7 @@ pub extern "C" fn nultiway_most_shadow_denied(
     out: &mut [u64],
     answer: &mut [u64],
 ) -> u8
-    ensures { Calls.MostShadowDenied limiter.now (at_entry keys hot shadows) k
+    ensures { Calls.MostShadowDenied limiter.now (tables keys.now hot.now shadows.now) k
         out.old answer.old result
         out.new answer.new }
 {

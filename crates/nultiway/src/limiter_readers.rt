@@ -1,5 +1,5 @@
 // What a limiter tells.
-ghost use Rattle.limiter.specs.State.{at_entry};
+ghost use Rattle.limiter.specs.State.{tables};
 ghost use Rattle.nultiway.specs.LimiterCalls as Calls;
 
 use crate::answers::{
@@ -21,7 +21,7 @@ pub extern "C" fn nultiway_new_key_quota(
     cluster_size: u64,
     answer: &mut [u64],
 ) -> u8
-    ensures { Calls.NewKeyQuota limiter.now (at_entry keys hot shadows)
+    ensures { Calls.NewKeyQuota limiter.now (tables keys.now hot.now shadows.now)
         (Calls.limit rate burst) cluster_size answer.old result answer.new }
 {
     let room = 2 <= answer.len();
@@ -48,7 +48,7 @@ pub extern "C" fn nultiway_new_key_factor(
     cluster_size: u64,
     answer: &mut [u64],
 ) -> u8
-    ensures { Calls.NewKeyFactor limiter.now (at_entry keys hot shadows) cluster_size
+    ensures { Calls.NewKeyFactor limiter.now (tables keys.now hot.now shadows.now) cluster_size
         answer.old result answer.new }
 {
     let room = 1 <= answer.len();
@@ -72,7 +72,7 @@ pub extern "C" fn nultiway_key_rates(
     key: u64,
     answer: &mut [u64],
 ) -> u8
-    ensures { Calls.LimiterKeyRates limiter.now (at_entry keys hot shadows) key
+    ensures { Calls.LimiterKeyRates limiter.now (tables keys.now hot.now shadows.now) key
         answer.old result answer.new }
 {
     let room = 4 <= answer.len();
@@ -94,7 +94,7 @@ pub extern "C" fn nultiway_quota(
     key: u64,
     answer: &mut [u64],
 ) -> u8
-    ensures { Calls.LimiterQuota limiter.now (at_entry keys hot shadows) key
+    ensures { Calls.LimiterQuota limiter.now (tables keys.now hot.now shadows.now) key
         answer.old result answer.new }
 {
     let room = 3 <= answer.len();
@@ -116,7 +116,7 @@ pub extern "C" fn nultiway_limit(
     key: u64,
     answer: &mut [u64],
 ) -> u8
-    ensures { Calls.LimiterLimit limiter.now (at_entry keys hot shadows) key
+    ensures { Calls.LimiterLimit limiter.now (tables keys.now hot.now shadows.now) key
         answer.old result answer.new }
 {
     let room = 3 <= answer.len();
@@ -137,7 +137,7 @@ pub extern "C" fn nultiway_config(
     shadows: &[u64],
     answer: &mut [u64],
 ) -> u8
-    ensures { Calls.LimiterConfig limiter.now (at_entry keys hot shadows)
+    ensures { Calls.LimiterConfig limiter.now (tables keys.now hot.now shadows.now)
         answer.old result answer.new }
 {
     let room = 9 <= answer.len();
@@ -159,7 +159,7 @@ pub extern "C" fn nultiway_hot_since(
     key: u64,
     answer: &mut [u64],
 ) -> u8
-    ensures { Calls.HotSince limiter.now (at_entry keys hot shadows) key
+    ensures { Calls.HotSince limiter.now (tables keys.now hot.now shadows.now) key
         answer.old result answer.new }
 {
     let room = 2 <= answer.len();
@@ -181,7 +181,7 @@ pub extern "C" fn nultiway_is_hot(
     key: u64,
     answer: &mut [u64],
 ) -> u8
-    ensures { Calls.IsHot limiter.now (at_entry keys hot shadows) key
+    ensures { Calls.IsHot limiter.now (tables keys.now hot.now shadows.now) key
         answer.old result answer.new }
 {
     let room = 1 <= answer.len();
@@ -203,7 +203,7 @@ pub extern "C" fn nultiway_tracked(
     key: u64,
     answer: &mut [u64],
 ) -> u8
-    ensures { Calls.Tracked limiter.now (at_entry keys hot shadows) key
+    ensures { Calls.Tracked limiter.now (tables keys.now hot.now shadows.now) key
         answer.old result answer.new }
 {
     let room = 1 <= answer.len();
@@ -224,7 +224,7 @@ pub extern "C" fn nultiway_hot_keys(
     shadows: &[u64],
     answer: &mut [u64],
 ) -> u8
-    ensures { Calls.HotKeys limiter.now (at_entry keys hot shadows)
+    ensures { Calls.HotKeys limiter.now (tables keys.now hot.now shadows.now)
         answer.old result answer.new }
 {
     let room = 1 <= answer.len();
@@ -245,7 +245,7 @@ pub extern "C" fn nultiway_tracked_keys(
     shadows: &[u64],
     answer: &mut [u64],
 ) -> u8
-    ensures { Calls.TrackedKeys limiter.now (at_entry keys hot shadows)
+    ensures { Calls.TrackedKeys limiter.now (tables keys.now hot.now shadows.now)
         answer.old result answer.new }
 {
     let room = 1 <= answer.len();

@@ -1,5 +1,5 @@
 // What the peers tell.
-ghost use Rattle.peers.specs.Peers.State.{at_entry};
+ghost use Rattle.peers.specs.Peers.State.{tables};
 ghost use Rattle.nultiway.specs.PeerCalls as Calls;
 
 use crate::answers::{change_number, put_flag, put_len};
@@ -15,7 +15,7 @@ pub extern "C" fn nultiway_peers_ask(
     snapshot_keys: &[u64],
     contested: &[u64],
 ) -> u8
-    ensures { Calls.Ask peers.now (at_entry peer_table snapshot_keys contested) result }
+    ensures { Calls.Ask peers.now (tables peer_table.now snapshot_keys.now contested.now) result }
 {
     if peers.len() < PEERS_WORDS {
         return 1;
@@ -36,7 +36,7 @@ pub extern "C" fn nultiway_peers_get(
     key: u64,
     answer: &mut [u64],
 ) -> u8
-    ensures { Calls.Get peers.now (at_entry peer_table snapshot_keys contested) peer key
+    ensures { Calls.Get peers.now (tables peer_table.now snapshot_keys.now contested.now) peer key
         answer.old result answer.new }
 {
     if !are_long(peers.len(), PEERS_WORDS, answer.len(), 5) {
@@ -57,7 +57,7 @@ pub extern "C" fn nultiway_peers_total(
     key: u64,
     answer: &mut [u64],
 ) -> u8
-    ensures { Calls.Total peers.now (at_entry peer_table snapshot_keys contested) key
+    ensures { Calls.Total peers.now (tables peer_table.now snapshot_keys.now contested.now) key
         answer.old result answer.new }
 {
     if !are_long(peers.len(), PEERS_WORDS, answer.len(), 1) {
@@ -77,7 +77,7 @@ pub extern "C" fn nultiway_peers_hot_elsewhere(
     key: u64,
     answer: &mut [u64],
 ) -> u8
-    ensures { Calls.HotElsewhere peers.now (at_entry peer_table snapshot_keys contested) key
+    ensures { Calls.HotElsewhere peers.now (tables peer_table.now snapshot_keys.now contested.now) key
         answer.old result answer.new }
 {
     if !are_long(peers.len(), PEERS_WORDS, answer.len(), 1) {
@@ -99,7 +99,7 @@ pub extern "C" fn nultiway_peers_len(
     contested: &[u64],
     answer: &mut [u64],
 ) -> u8
-    ensures { Calls.Len peers.now (at_entry peer_table snapshot_keys contested)
+    ensures { Calls.Len peers.now (tables peer_table.now snapshot_keys.now contested.now)
         answer.old result answer.new }
 {
     if !are_long(peers.len(), PEERS_WORDS, answer.len(), 1) {
@@ -118,7 +118,7 @@ pub extern "C" fn nultiway_peers_is_empty(
     contested: &[u64],
     answer: &mut [u64],
 ) -> u8
-    ensures { Calls.IsEmpty peers.now (at_entry peer_table snapshot_keys contested)
+    ensures { Calls.IsEmpty peers.now (tables peer_table.now snapshot_keys.now contested.now)
         answer.old result answer.new }
 {
     if !are_long(peers.len(), PEERS_WORDS, answer.len(), 1) {
@@ -141,7 +141,7 @@ pub extern "C" fn nultiway_peers_total_of_each(
     count: u64,
     out: &mut [f64],
 ) -> u8
-    ensures { Calls.TotalOfEach peers.now (at_entry peer_table snapshot_keys contested)
+    ensures { Calls.TotalOfEach peers.now (tables peer_table.now snapshot_keys.now contested.now)
         keys.now width count out.old result out.new }
 {
     if peers.len() < PEERS_WORDS {
@@ -167,7 +167,7 @@ pub extern "C" fn nultiway_peers_hot_elsewhere_of_each(
     out: &mut [bool],
 ) -> u8
     ensures { Calls.HotElsewhereOfEach peers.now
-        (at_entry peer_table snapshot_keys contested) keys.now width count
+        (tables peer_table.now snapshot_keys.now contested.now) keys.now width count
         out.old result out.new }
 {
     if peers.len() < PEERS_WORDS {

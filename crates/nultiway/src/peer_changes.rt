@@ -1,5 +1,5 @@
 // Calls that make and change the peers.
-ghost use Rattle.peers.specs.Peers.State.{at_entry, at_exit};
+ghost use Rattle.peers.specs.Peers.State.{tables};
 ghost use Rattle.nultiway.specs.PeerCalls as Calls;
 
 use crate::answers::change_number;
@@ -17,7 +17,7 @@ pub extern "C" fn nultiway_peers_new(
     snapshot_keys: &[u64],
     contested: &[u64],
 ) -> u8
-    ensures { Calls.New peers.old (at_entry peer_table snapshot_keys contested) result
+    ensures { Calls.New peers.old (tables peer_table.now snapshot_keys.now contested.now) result
         peers.new }
 {
     if peers.len() < PEERS_WORDS {
@@ -35,8 +35,8 @@ pub extern "C" fn nultiway_peers_forget(
     contested: &mut [u64],
     peer: u64,
 ) -> u8
-    ensures { Calls.Forget peers.old (at_entry peer_table snapshot_keys contested) peer result
-        peers.new (at_exit peer_table snapshot_keys contested) }
+    ensures { Calls.Forget peers.old (tables peer_table.old snapshot_keys.old contested.old) peer result
+        peers.new (tables peer_table.new snapshot_keys.new contested.new) }
 {
     if peers.len() < PEERS_WORDS {
         return 1;
@@ -60,8 +60,8 @@ pub extern "C" fn nultiway_peers_leave(
     reading: u64,
     hold: u64,
 ) -> u8
-    ensures { Calls.Leave peers.old (at_entry peer_table snapshot_keys contested) peer
-        reading hold result peers.new (at_exit peer_table snapshot_keys contested) }
+    ensures { Calls.Leave peers.old (tables peer_table.old snapshot_keys.old contested.old) peer
+        reading hold result peers.new (tables peer_table.new snapshot_keys.new contested.new) }
 {
     if peers.len() < PEERS_WORDS {
         return 1;
@@ -85,8 +85,8 @@ pub extern "C" fn nultiway_peers_expire(
     reading: u64,
     max_age: u64,
 ) -> u8
-    ensures { Calls.Expire peers.old (at_entry peer_table snapshot_keys contested) reading
-        max_age result peers.new (at_exit peer_table snapshot_keys contested) }
+    ensures { Calls.Expire peers.old (tables peer_table.old snapshot_keys.old contested.old) reading
+        max_age result peers.new (tables peer_table.new snapshot_keys.new contested.new) }
 {
     if peers.len() < PEERS_WORDS {
         return 1;
@@ -117,9 +117,9 @@ pub extern "C" fn nultiway_peers_apply(
     count: u64,
     reading: u64,
 ) -> u8
-    ensures { Calls.Apply peers.old (at_entry peer_table snapshot_keys contested) from
+    ensures { Calls.Apply peers.old (tables peer_table.old snapshot_keys.old contested.old) from
         origin epoch round report.now count reading result
-        peers.new (at_exit peer_table snapshot_keys contested) }
+        peers.new (tables peer_table.new snapshot_keys.new contested.new) }
 {
     let room = peers_have_room(
         true,
