@@ -10,7 +10,7 @@ fn main() {
     let archive = folder.join("libnultiway.a");
     println!("cargo:rerun-if-changed={}", archive.display());
     if !archive.exists() {
-        eprintln!("there is no {}: `rt staticlib nultiway` makes it; NULTIWAY_LIB names its folder", archive.display());
+        eprintln!("there is no {}: `tests/library/archive` makes it; NULTIWAY_LIB names its folder", archive.display());
         process::exit(1);
     }
     println!("cargo:rustc-link-search=native={}", folder.display());

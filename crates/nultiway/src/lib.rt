@@ -2,22 +2,22 @@
 // that the caller lends. A function answers 0, or the number of the first question that was
 // answered 'no'; then no lent word has changed.
 mod answers;
-mod demand_calls;
-mod gcra_calls;
-mod helpers;
+pub mod demand_calls;
+pub mod gcra_calls;
+pub mod helpers;
 mod hot_answers;
-mod hot_calls;
-mod image_calls;
-mod limiter_changes;
-mod limiter_checks;
-mod limiter_lists;
-mod limiter_readers;
+pub mod hot_calls;
+pub mod image_calls;
+pub mod limiter_changes;
+pub mod limiter_checks;
+pub mod limiter_lists;
+pub mod limiter_readers;
 mod lone_answers;
-mod lone_calls;
+pub mod lone_calls;
 mod peer_answers;
-mod peer_calls;
-mod peer_changes;
+pub mod peer_calls;
+pub mod peer_changes;
 mod report;
-mod share_calls;
+pub mod share_calls;
 mod values;
-mod version;
+pub mod version;
