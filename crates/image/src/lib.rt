@@ -8,7 +8,7 @@ pub mod words;
 pub mod writer;
 
 ghost use Rattle.peers.specs.Peers.State as peer-state;
-ghost use Rattle.limiter.specs.State.{at_entry, at_exit};
+ghost use Rattle.limiter.specs.State.{tables};
 ghost use Rattle.image.specs.Calls as Calls;
 
 use demand::answers::LenAnswer;
@@ -65,7 +65,7 @@ pub fn save(
     contested: &[u64],
     out: &mut [u8],
 ) -> LenAnswer
-    ensures { Calls.Saves limiter (at_entry keys hot shadows) peers (peer-state.at_entry peer_table snapshot_keys contested)
+    ensures { Calls.Saves limiter (tables keys.now hot.now shadows.now) peers (peer-state.tables peer_table.now snapshot_keys.now contested.now)
         out.old result out.new }
 {
     let here = limiter.ask(keys, hot, shadows);
@@ -96,9 +96,9 @@ pub fn load(
     snapshot_keys: &mut [u64],
     contested: &mut [u64],
 ) -> LoadAnswer
-    ensures { Calls.Loads image.now (at_entry keys hot shadows)
-        (peer-state.at_entry peer_table snapshot_keys contested) result (at_exit keys hot shadows)
-        (peer-state.at_exit peer_table snapshot_keys contested) }
+    ensures { Calls.Loads image.now (tables keys.old hot.old shadows.old)
+        (peer-state.tables peer_table.old snapshot_keys.old contested.old) result (tables keys.new hot.new shadows.new)
+        (peer-state.tables peer_table.new snapshot_keys.new contested.new) }
 {
     if !room::has_room(
         image,

@@ -5,7 +5,7 @@ ghost use Rattle.questions.specs.Questions.{first_no};
 ghost use Rattle.records.specs.Fields.{time_words};
 ghost use Rattle.peers.specs.Peers.State as peer-state;
 ghost use Rattle.limiter.specs.Calls.{both_questions};
-ghost use Rattle.limiter.specs.State.{lent, at_entry, cap_words, cap_of, last_tick_of, settings_words, settings_of};
+ghost use Rattle.limiter.specs.State.{tables, cap_words, cap_of, last_tick_of, settings_words, settings_of};
 ghost use Rattle.image.specs.Steps.{limiter_bytes, limiter_length, LimiterReady, first_of, peers_bytes};
 ghost use Rattle.image.specs.Steps.{peers_length, PeersReady, Few, count_of, image_length};
 ghost use Rattle.image.specs.Calls as Calls;
@@ -70,9 +70,9 @@ fn put_limiter(
     hot: &[u64],
     shadows: &[u64],
 ) -> usize
-    requires { LimiterReady limiter (lent keys hot shadows) × (limiter_length limiter ≤ length out.old) }
+    requires { LimiterReady limiter (tables keys.now hot.now shadows.now) × (limiter_length limiter ≤ length out.old) }
     ensures value { result ≡ limiter_length limiter }
-    ensures out_after { out.new ≡ paste 0 (limiter_bytes limiter (at_entry keys hot shadows)) out.old }
+    ensures out_after { out.new ≡ paste 0 (limiter_bytes limiter (tables keys.now hot.now shadows.now)) out.old }
 {
     let settings = settings_words(limiter);
     let keys_at = put_table(out, 0, 1, &settings, 1);
@@ -90,11 +90,11 @@ fn put_peers(
     snapshot_keys: &[u64],
     contested: &[u64],
 ) -> usize
-    requires { PeersReady peers (peer-state.lent peer_table snapshot_keys contested)
+    requires { PeersReady peers (peer-state.tables peer_table.now snapshot_keys.now contested.now)
         × (at + peers_length peers ≤ length out.old) }
     ensures value { result ≡ at + peers_length peers }
     ensures out_after { out.new
-        ≡ paste at (peers_bytes peers (peer-state.at_entry peer_table snapshot_keys contested)) out.old }
+        ≡ paste at (peers_bytes peers (peer-state.tables peer_table.now snapshot_keys.now contested.now)) out.old }
 {
     let keys_at = put_table(out, at, 5, peer_table, peers.peers);
     let contested_at = put_table(out, keys_at, 6, snapshot_keys, peers.snapshot_keys);
@@ -153,8 +153,8 @@ pub(crate) fn save_asked(
     out: &mut [u8],
 ) -> LenAnswer
     requires { no
-        ≡ first_no (both_questions limiter (lent keys hot shadows) peers (peer-state.lent peer_table snapshot_keys contested)) }
-    ensures { Calls.Saves limiter (at_entry keys hot shadows) peers (peer-state.at_entry peer_table snapshot_keys contested)
+        ≡ first_no (both_questions limiter (tables keys.now hot.now shadows.now) peers (peer-state.tables peer_table.now snapshot_keys.now contested.now)) }
+    ensures { Calls.Saves limiter (tables keys.now hot.now shadows.now) peers (peer-state.tables peer_table.now snapshot_keys.now contested.now)
         out.old result out.new }
 {
     if no != 0 {

@@ -2,8 +2,6 @@
 -- Definitions only.
 use Rattle.std.specs.Prelude.{ℕ, ◌*◌, min, Bool, true, not, ◌&&◌, List, [], ◌∷◌, ◌++◌, map, leb, eqb, Float, length, get_or, drop}
 use Rattle.std.proofs.Math.Option.{Option, none, some}
-use Rattle.std.specs.Borrow.{Bor}
-use denote.Triple.Both.{Both}
 use Rattle.std.specs.Float.{binary64}
 use Rattle.std.specs.Float.Ieee.{of_bits, to_bits, lt, le, fits, is_nan}
 use Rattle.float.specs.Magnitude.{magnitude}
@@ -274,16 +272,6 @@ pub record LimiterTables : Type 0 where
 
 abbrev pub tables : List ℕ → List ℕ → List ℕ → LimiterTables
 tables keys hot shadows = record { keys = keys; hot = hot; shadows = shadows }
-
--- of the references that are lent, at a call's entry and at its exit
-abbrev pub lent : Bor (List ℕ) → Bor (List ℕ) → Bor (List ℕ) → LimiterTables
-lent keys hot shadows = tables keys.now hot.now shadows.now
-
-abbrev pub at_entry : {X Y Z : Type 0} → Both (Bor (List ℕ)) X → Both (Bor (List ℕ)) Y → Both (Bor (List ℕ)) Z → LimiterTables
-at_entry keys hot shadows = lent keys.entry hot.entry shadows.entry
-
-abbrev pub at_exit : {X Y Z : Type 0} → Both X (Bor (List ℕ)) → Both Y (Bor (List ℕ)) → Both Z (Bor (List ℕ)) → LimiterTables
-at_exit keys hot shadows = lent keys.exit hot.exit shadows.exit
 
 -- how many words each has
 pub record Lengths : Type 0 where

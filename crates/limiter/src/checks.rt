@@ -461,7 +461,7 @@ impl Limiter {
         reading: u64,
         cluster_size: usize,
     ) -> Checked
-        ensures { Calls.Checks self (State.at_entry keys hot shadows) key reading cluster_size result (State.at_exit keys hot shadows) }
+        ensures { Calls.Checks self (State.tables keys.old hot.now shadows.now) key reading cluster_size result (State.tables keys.new hot.now shadows.now) }
     {
         let no = self.ask_cluster(keys, hot, shadows, cluster_size);
         if no != 0 {
@@ -486,8 +486,8 @@ impl Limiter {
         reading: u64,
         cluster_size: usize,
     ) -> Checked
-        ensures { Calls.ChecksIn self (State.at_entry keys hot shadows) key limit reading cluster_size result
-            (State.at_exit keys hot shadows) }
+        ensures { Calls.ChecksIn self (State.tables keys.old hot.now shadows.now) key limit reading cluster_size result
+            (State.tables keys.new hot.now shadows.now) }
     {
         let no = self.ask_limit(keys, hot, shadows, limit, cluster_size);
         if no != 0 {
@@ -511,8 +511,8 @@ impl Limiter {
         reading: u64,
         cluster_size: usize,
     ) -> Changed
-        ensures { Calls.Records self (State.at_entry keys hot shadows) key tally limit reading cluster_size result
-            (State.at_exit keys hot shadows) }
+        ensures { Calls.Records self (State.tables keys.old hot.now shadows.now) key tally limit reading cluster_size result
+            (State.tables keys.new hot.now shadows.now) }
     {
         let no = self.ask_limit(keys, hot, shadows, limit, cluster_size);
         if no != 0 {

@@ -15,7 +15,7 @@ mod traces;
 ghost use Rattle.std.specs.Prelude.{◌≡◌, true, ◌&&◌, min, ◌++◌};
 ghost use Rattle.demand.specs.Allocation.{is_floor_factor};
 ghost use Rattle.limiter.specs.State.{parameters_of, units_of, valid_limit, cap_of, valid_cap, is_alpha};
-ghost use Rattle.limiter.specs.State.{are_sizes, settings_of, valid_settings, lent, at_entry, lengths};
+ghost use Rattle.limiter.specs.State.{are_sizes, settings_of, valid_settings, tables, lengths};
 ghost use Rattle.limiter.specs.State.{room_for, have_room, is_valid};
 ghost use Rattle.limiter.specs.Steps.Scan.{has_room};
 ghost use Rattle.questions.specs.Questions.{first_no};
@@ -312,8 +312,8 @@ impl Limiter {
 
     // Question 2: whether the value and its records could stand in a valid image.
     fn is_valid(self, keys: &[u64], hot: &[u64], shadows: &[u64]) -> bool
-        requires { have_room self.config (lengths (lent keys hot shadows)) ≡ true }
-        ensures { result ≡ is_valid (units_of (settings_of self)) self (at_entry keys hot shadows) }
+        requires { have_room self.config (lengths (tables keys.now hot.now shadows.now)) ≡ true }
+        ensures { result ≡ is_valid (units_of (settings_of self)) self (tables keys.now hot.now shadows.now) }
     {
         if !self.has_valid_settings() {
             return false;
@@ -330,7 +330,7 @@ impl Limiter {
 
     // The first of questions 1 and 2 that is answered 'no', 0 where none is.
     pub fn ask(self, keys: &[u64], hot: &[u64], shadows: &[u64]) -> u8
-        ensures { Calls.Asks self (at_entry keys hot shadows) result }
+        ensures { Calls.Asks self (tables keys.now hot.now shadows.now) result }
     {
         let config = self.config;
         if !config.has_room(keys.len(), hot.len(), shadows.len()) {
@@ -344,7 +344,7 @@ impl Limiter {
 
     // The same, and question 7.
     fn ask_cluster(self, keys: &[u64], hot: &[u64], shadows: &[u64], cluster_size: usize) -> u8
-        ensures { result ≡ first_no (Calls.state_questions self (at_entry keys hot shadows) ++ Checks.cluster_questions cluster_size) }
+        ensures { result ≡ first_no (Calls.state_questions self (tables keys.now hot.now shadows.now) ++ Checks.cluster_questions cluster_size) }
     {
         let no = self.ask(keys, hot, shadows);
         if no != 0 {
@@ -362,7 +362,7 @@ impl Limiter {
         limit: Limit,
         cluster_size: usize,
     ) -> u8
-        ensures { result ≡ first_no (Calls.state_questions self (at_entry keys hot shadows)
+        ensures { result ≡ first_no (Calls.state_questions self (tables keys.now hot.now shadows.now)
             ++ (Checks.limit_questions limit ++ Checks.cluster_questions cluster_size)) }
     {
         let no = self.ask(keys, hot, shadows);
@@ -393,7 +393,7 @@ impl Cap {
 impl Config {
     // The first of questions 1 and 3 to 6 that is answered 'no', 0 where none is.
     fn ask(self, keys: &[u64], hot: &[u64], shadows: &[u64]) -> u8
-        ensures { result ≡ first_no (Calls.new_questions self (at_entry keys hot shadows)) }
+        ensures { result ≡ first_no (Calls.new_questions self (tables keys.now hot.now shadows.now)) }
     {
         let limit = self.limit;
         if !self.has_room(keys.len(), hot.len(), shadows.len()) {
@@ -428,7 +428,7 @@ impl Config {
 impl Limiter {
     // A limiter with no key yet.
     pub fn new(config: Config, keys: &[u64], hot: &[u64], shadows: &[u64]) -> LimiterAnswer
-        ensures { Calls.IsNew config (at_entry keys hot shadows) result }
+        ensures { Calls.IsNew config (tables keys.now hot.now shadows.now) result }
     {
         let no = config.ask(keys, hot, shadows);
         if no != 0 {
@@ -462,7 +462,7 @@ impl Limiter {
 
     // Sets or lifts the cap, the greatest part of its limit that a key gets.
     pub fn set_cap(self, keys: &[u64], hot: &[u64], shadows: &[u64], cap: Cap) -> Changed
-        ensures { Calls.SetsCap self (at_entry keys hot shadows) (cap_of cap) result }
+        ensures { Calls.SetsCap self (tables keys.now hot.now shadows.now) (cap_of cap) result }
     {
         let no = self.ask(keys, hot, shadows);
         if no != 0 {

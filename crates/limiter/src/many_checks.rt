@@ -89,7 +89,7 @@ impl Limiter {
         cluster_size: usize,
         out: &[u64],
     ) -> u8
-        ensures { result ≡ first_no (Calls.each_asked self (State.at_entry keys hot shadows) list.now count cluster_size
+        ensures { result ≡ first_no (Calls.each_asked self (State.tables keys.now hot.now shadows.now) list.now count cluster_size
             out.now) }
     {
         if !records::fits(list.len(), PAIR_WORDS, count) {
@@ -116,8 +116,8 @@ impl Limiter {
         cluster_size: usize,
         out: &mut [u64],
     ) -> Changed
-        ensures { Calls.ChecksEach self (State.at_entry keys hot shadows) list.now count cluster_size
-            out.old result (State.at_exit keys hot shadows) out.new }
+        ensures { Calls.ChecksEach self (State.tables keys.old hot.now shadows.now) list.now count cluster_size
+            out.old result (State.tables keys.new hot.now shadows.now) out.new }
     {
         let no = self.ask_each(keys, hot, shadows, list, count, cluster_size, out);
         if no != 0 {

@@ -1,7 +1,7 @@
 // What a limiter tells of its settings and keys. Each call asks its questions and changes nothing.
 ghost use Rattle.std.specs.Prelude.{◌≡◌, true};
 ghost use Rattle.float.specs.Magnitude.{magnitude};
-ghost use Rattle.limiter.specs.State.{at_entry, key_with, valid_key};
+ghost use Rattle.limiter.specs.State.{tables, key_with, valid_key};
 ghost use Rattle.limiter.specs.Ticks.{unbiased_rate};
 ghost use Rattle.limiter.specs.Readers.{rates_of};
 ghost use Rattle.limiter.specs.Calls as Calls;
@@ -77,7 +77,7 @@ pub(crate) fn rates_of(par: Parameters, state: KeyState) -> KeyRates
 impl Limiter {
     // The three rates of a tracked key.
     pub fn key_rates(self, keys: &[u64], hot: &[u64], shadows: &[u64], key: u64) -> RatesAnswer
-        ensures { Calls.TellsRates self (at_entry keys hot shadows) key result }
+        ensures { Calls.TellsRates self (tables keys.now hot.now shadows.now) key result }
     {
         let no = self.ask(keys, hot, shadows);
         if no != 0 {
@@ -91,7 +91,7 @@ impl Limiter {
 
     // The quota that a key is held to.
     pub fn quota(self, keys: &[u64], hot: &[u64], shadows: &[u64], key: u64) -> KeyQuotaAnswer
-        ensures { Calls.TellsQuota self (at_entry keys hot shadows) key result }
+        ensures { Calls.TellsQuota self (tables keys.now hot.now shadows.now) key result }
     {
         let no = self.ask(keys, hot, shadows);
         if no != 0 {
@@ -109,7 +109,7 @@ impl Limiter {
 
     // The limit that a key was last given.
     pub fn limit(self, keys: &[u64], hot: &[u64], shadows: &[u64], key: u64) -> LimitAnswer
-        ensures { Calls.TellsLimit self (at_entry keys hot shadows) key result }
+        ensures { Calls.TellsLimit self (tables keys.now hot.now shadows.now) key result }
     {
         let no = self.ask(keys, hot, shadows);
         if no != 0 {
@@ -133,7 +133,7 @@ impl Limiter {
         limit: Limit,
         cluster_size: usize,
     ) -> QuotaAnswer
-        ensures { Calls.TellsNewKeyQuota self (at_entry keys hot shadows) limit cluster_size result }
+        ensures { Calls.TellsNewKeyQuota self (tables keys.now hot.now shadows.now) limit cluster_size result }
     {
         let no = self.ask_limit(keys, hot, shadows, limit, cluster_size);
         if no != 0 {
@@ -150,7 +150,7 @@ impl Limiter {
         shadows: &[u64],
         cluster_size: usize,
     ) -> RateAnswer
-        ensures { Calls.TellsNewKeyFactor self (at_entry keys hot shadows) cluster_size result }
+        ensures { Calls.TellsNewKeyFactor self (tables keys.now hot.now shadows.now) cluster_size result }
     {
         let no = self.ask_cluster(keys, hot, shadows, cluster_size);
         if no != 0 {
@@ -161,7 +161,7 @@ impl Limiter {
 
     // The settings that it was made with.
     pub fn config(self, keys: &[u64], hot: &[u64], shadows: &[u64]) -> ConfigAnswer
-        ensures { Calls.TellsConfig self (at_entry keys hot shadows) result }
+        ensures { Calls.TellsConfig self (tables keys.now hot.now shadows.now) result }
     {
         let no = self.ask(keys, hot, shadows);
         if no != 0 {
@@ -173,7 +173,7 @@ impl Limiter {
 
     // When a hot key came into the hot set.
     pub fn hot_since(self, keys: &[u64], hot: &[u64], shadows: &[u64], key: u64) -> SinceAnswer
-        ensures { Calls.TellsHotSince self (at_entry keys hot shadows) key result }
+        ensures { Calls.TellsHotSince self (tables keys.now hot.now shadows.now) key result }
     {
         let no = self.ask(keys, hot, shadows);
         if no != 0 {
@@ -190,7 +190,7 @@ impl Limiter {
 
     // Whether a key is hot here.
     pub fn is_hot(self, keys: &[u64], hot: &[u64], shadows: &[u64], key: u64) -> FlagAnswer
-        ensures { Calls.TellsHot self (at_entry keys hot shadows) key result }
+        ensures { Calls.TellsHot self (tables keys.now hot.now shadows.now) key result }
     {
         let no = self.ask(keys, hot, shadows);
         if no != 0 {
@@ -201,7 +201,7 @@ impl Limiter {
 
     // Whether a key has state here.
     pub fn tracked(self, keys: &[u64], hot: &[u64], shadows: &[u64], key: u64) -> FlagAnswer
-        ensures { Calls.TellsTracked self (at_entry keys hot shadows) key result }
+        ensures { Calls.TellsTracked self (tables keys.now hot.now shadows.now) key result }
     {
         let no = self.ask(keys, hot, shadows);
         if no != 0 {
@@ -212,7 +212,7 @@ impl Limiter {
 
     // How many keys have state here.
     pub fn tracked_keys(self, keys: &[u64], hot: &[u64], shadows: &[u64]) -> LenAnswer
-        ensures { Calls.CountsKeys self (at_entry keys hot shadows) result }
+        ensures { Calls.CountsKeys self (tables keys.now hot.now shadows.now) result }
     {
         let no = self.ask(keys, hot, shadows);
         if no != 0 {
@@ -223,7 +223,7 @@ impl Limiter {
 
     // How many keys are hot here.
     pub fn hot_keys(self, keys: &[u64], hot: &[u64], shadows: &[u64]) -> LenAnswer
-        ensures { Calls.CountsHot self (at_entry keys hot shadows) result }
+        ensures { Calls.CountsHot self (tables keys.now hot.now shadows.now) result }
     {
         let no = self.ask(keys, hot, shadows);
         if no != 0 {

@@ -435,7 +435,7 @@ impl Limiter {
         reading: u64,
         cluster_size: usize,
     ) -> Changed
-        ensures { Calls.Ticks self (State.at_entry keys hot shadows) reading cluster_size result (State.at_exit keys hot shadows) }
+        ensures { Calls.Ticks self (State.tables keys.old hot.old shadows.old) reading cluster_size result (State.tables keys.new hot.new shadows.new) }
     {
         let no = self.ask_cluster(keys, hot, shadows, cluster_size);
         if no != 0 {
@@ -479,8 +479,8 @@ impl Limiter {
         contested: &[u64],
         cluster_size: usize,
     ) -> u8
-        ensures { result ≡ first_no (Calls.both_questions self (State.at_entry keys hot shadows) peers
-            (PeerState.at_entry peer_table snapshot_keys contested) ++ Checks.cluster_questions cluster_size) }
+        ensures { result ≡ first_no (Calls.both_questions self (State.tables keys.now hot.now shadows.now) peers
+            (PeerState.tables peer_table.now snapshot_keys.now contested.now) ++ Checks.cluster_questions cluster_size) }
     {
         let here = self.ask(keys, hot, shadows);
         let there = peers.ask(peer_table, snapshot_keys, contested);
@@ -512,11 +512,11 @@ impl Limiter {
         reading: u64,
         cluster_size: usize,
     ) -> Limiter
-        requires { passes (Calls.both_questions self (State.lent keys hot shadows) peers
-            (PeerState.lent peer_table snapshot_keys contested) ++ Checks.cluster_questions cluster_size) ≡ true }
+        requires { passes (Calls.both_questions self (State.tables keys.old hot.old shadows.old) peers
+            (PeerState.tables peer_table.now snapshot_keys.now contested.now) ++ Checks.cluster_questions cluster_size) ≡ true }
         ensures { Ticked (tick_with_shares (State.parameters_of (State.settings_of self)) (State.units_of (State.settings_of self))
-            (PeerState.state_of peers (PeerState.at_entry peer_table snapshot_keys contested)) reading cluster_size
-            (Calls.here self (State.at_entry keys hot shadows))) (State.at_entry keys hot shadows) result (State.at_exit keys hot shadows) }
+            (PeerState.state_of peers (PeerState.tables peer_table.now snapshot_keys.now contested.now)) reading cluster_size
+            (Calls.here self (State.tables keys.old hot.old shadows.old))) (State.tables keys.old hot.old shadows.old) result (State.tables keys.new hot.new shadows.new) }
     {
         let mut elsewhere = [false; 4096];
         peers.hot_elsewhere_of_each(
@@ -567,9 +567,9 @@ impl Limiter {
         reading: u64,
         cluster_size: usize,
     ) -> Changed
-        ensures { Calls.TicksWithShares self (State.at_entry keys hot shadows) peers
-            (PeerState.at_entry peer_table snapshot_keys contested) reading cluster_size result
-            (State.at_exit keys hot shadows) }
+        ensures { Calls.TicksWithShares self (State.tables keys.old hot.old shadows.old) peers
+            (PeerState.tables peer_table.now snapshot_keys.now contested.now) reading cluster_size result
+            (State.tables keys.new hot.new shadows.new) }
     {
         let no = self.ask_both(
             keys,

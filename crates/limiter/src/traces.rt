@@ -270,7 +270,7 @@ impl Limiter {
         shadow: Shadow,
         cluster_size: usize,
     ) -> u8
-        ensures { result ≡ first_no (Calls.state_questions self (State.at_entry keys hot shadows)
+        ensures { result ≡ first_no (Calls.state_questions self (State.tables keys.now hot.now shadows.now)
             ++ (Checks.both_limit_questions limit (Calls.shadow_limit shadow) ++ Checks.cluster_questions cluster_size)) }
     {
         let no = self.ask(keys, hot, shadows);
@@ -295,8 +295,8 @@ impl Limiter {
         reading: u64,
         cluster_size: usize,
     ) -> TracedCheck
-        ensures { Calls.ChecksTraced self (State.at_entry keys hot shadows) key limit (Calls.shadow_limit shadow) reading
-            cluster_size result (State.at_exit keys hot shadows) }
+        ensures { Calls.ChecksTraced self (State.tables keys.old hot.now shadows.old) key limit (Calls.shadow_limit shadow) reading
+            cluster_size result (State.tables keys.new hot.now shadows.new) }
     {
         let no = self.ask_traced(keys, hot, shadows, limit, shadow, cluster_size);
         if no != 0 {

@@ -1,5 +1,5 @@
 // Departures and time: a peer that is forgotten, one that leaves, and what expires.
-ghost use Rattle.peers.specs.Peers.State.{lent, at_entry, at_exit};
+ghost use Rattle.peers.specs.Peers.State.{tables};
 ghost use Rattle.peers.specs.Peers.Calls.{Forgets, Leaves, Expires};
 ghost use Rattle.peers.specs.Peers.Steps.Runs.{Becomes};
 ghost use Rattle.peers.specs.Peers.Steps.Stays.{Valid};
@@ -21,9 +21,9 @@ impl PeerDemand {
         contested: &mut [u64],
         id: u64,
     ) -> PeerDemand
-        requires { Valid self (lent peers snapshot_keys contested) }
-        ensures { Becomes (changes.forget id) self (at_entry peers snapshot_keys contested) result
-            (at_exit peers snapshot_keys contested) }
+        requires { Valid self (tables peers.old snapshot_keys.old contested.old) }
+        ensures { Becomes (changes.forget id) self (tables peers.old snapshot_keys.old contested.old) result
+            (tables peers.new snapshot_keys.new contested.new) }
     {
         let none: [u64; 0] = [];
         let n = peer_runs::replace_run(peers, PEER_WORDS, self.peers, id, &none);
@@ -51,9 +51,9 @@ impl PeerDemand {
         reading: u64,
         max_age: u64,
     ) -> PeerDemand
-        requires { Valid self (lent peers snapshot_keys contested) }
-        ensures { Becomes (changes.expire reading max_age) self (at_entry peers snapshot_keys contested) result
-            (at_exit peers snapshot_keys contested) }
+        requires { Valid self (tables peers.old snapshot_keys.old contested.old) }
+        ensures { Becomes (changes.expire reading max_age) self (tables peers.old snapshot_keys.old contested.old) result
+            (tables peers.new snapshot_keys.new contested.new) }
     {
         let c = peer_steps::retain_contested(
             peers,
@@ -80,8 +80,8 @@ impl PeerDemand {
         contested: &mut [u64],
         peer: PeerId,
     ) -> PeersChanged
-        ensures { Forgets self (at_entry peers snapshot_keys contested) peer.0 result
-            (at_exit peers snapshot_keys contested) }
+        ensures { Forgets self (tables peers.old snapshot_keys.old contested.old) peer.0 result
+            (tables peers.new snapshot_keys.new contested.new) }
     {
         let no = self.ask(peers, snapshot_keys, contested);
         if no != 0 {
@@ -100,8 +100,8 @@ impl PeerDemand {
         reading: u64,
         hold: u64,
     ) -> PeersChanged
-        ensures { Leaves self (at_entry peers snapshot_keys contested) peer.0 reading hold result
-            (at_exit peers snapshot_keys contested) }
+        ensures { Leaves self (tables peers.old snapshot_keys.old contested.old) peer.0 reading hold result
+            (tables peers.new snapshot_keys.new contested.new) }
     {
         if hold == 0 {
             return self.forget(peers, snapshot_keys, contested, peer);
@@ -129,8 +129,8 @@ impl PeerDemand {
         reading: u64,
         max_age: u64,
     ) -> PeersChanged
-        ensures { Expires self (at_entry peers snapshot_keys contested) reading max_age result
-            (at_exit peers snapshot_keys contested) }
+        ensures { Expires self (tables peers.old snapshot_keys.old contested.old) reading max_age result
+            (tables peers.new snapshot_keys.new contested.new) }
     {
         let no = self.ask(peers, snapshot_keys, contested);
         if no != 0 {

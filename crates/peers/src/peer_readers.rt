@@ -1,6 +1,6 @@
 // What the peers said: of one peer and one key, of all peers, of many keys, and how many keys there are.
 ghost use Rattle.std.specs.Prelude.{◌≡◌, ◌+◌, ◌*◌, ◌<◌, ◌≤◌, true, length, slice_index};
-ghost use Rattle.peers.specs.Peers.State.{lent, at_entry, state_of};
+ghost use Rattle.peers.specs.Peers.State.{tables, state_of};
 ghost use Rattle.peers.specs.Peers.Steps.Heard.{said_of, counted, own_keys, StateReady, Own, Readable};
 ghost use Rattle.peers.specs.Peers.Calls.{Gets, Totals, TellsHotElsewhere, Counts, TellsEmpty};
 ghost use Rattle.peers.specs.Peers.Calls.{TotalsEach, TellsHotElsewhereEach};
@@ -50,10 +50,10 @@ impl PeerDemand {
         i: usize,
         key: u64,
     ) -> Said
-        requires state_ready { StateReady self (lent peers snapshot_keys contested) }
+        requires state_ready { StateReady self (tables peers.now snapshot_keys.now contested.now) }
         requires i_lt_peers { i < self.peers }
         ensures { said_of result ≡ readers.heard (slice_index peers.now (i * 12)) key
-            (state_of self (at_entry peers snapshot_keys contested)) }
+            (state_of self (tables peers.now snapshot_keys.now contested.now)) }
     {
         let at = i * PEER_WORDS;
         let id = peers[at];
@@ -80,11 +80,11 @@ impl PeerDemand {
         i: usize,
         key: u64,
     ) -> Said
-        requires state_ready { StateReady self (lent peers snapshot_keys contested) }
-        requires own { Own self (lent peers snapshot_keys contested) i own }
+        requires state_ready { StateReady self (tables peers.now snapshot_keys.now contested.now) }
+        requires own { Own self (tables peers.now snapshot_keys.now contested.now) i own }
         requires i_lt_peers { i < self.peers }
         ensures { said_of result ≡ readers.heard (slice_index peers.now (i * 12)) key
-            (state_of self (at_entry peers snapshot_keys contested)) }
+            (state_of self (tables peers.now snapshot_keys.now contested.now)) }
     {
         let k = own.snapshot_from;
         let k_end = own.snapshot_to;
@@ -113,8 +113,8 @@ impl PeerDemand {
         id: u64,
         key: u64,
     ) -> Said
-        requires { StateReady self (lent peers snapshot_keys contested) }
-        ensures { said_of result ≡ readers.heard id key (state_of self (at_entry peers snapshot_keys contested)) }
+        requires { StateReady self (tables peers.now snapshot_keys.now contested.now) }
+        ensures { said_of result ≡ readers.heard id key (state_of self (tables peers.now snapshot_keys.now contested.now)) }
     {
         match records::find(peers, PEER_WORDS, 1, self.peers, id, 0) {
             records::Found::At(i) => self.heard_from(peers, snapshot_keys, contested, i, key),
@@ -132,8 +132,8 @@ impl PeerDemand {
         starts: KeyStarts,
         key: u64,
     ) -> f64
-        requires { Readable self (lent peers snapshot_keys contested) starts }
-        ensures { result ≡ readers.total key (state_of self (at_entry peers snapshot_keys contested)) }
+        requires { Readable self (tables peers.now snapshot_keys.now contested.now) starts }
+        ensures { result ≡ readers.total key (state_of self (tables peers.now snapshot_keys.now contested.now)) }
     {
         let n = self.peers;
         let snapshot_starts = starts.snapshot_keys;
@@ -158,8 +158,8 @@ impl PeerDemand {
         starts: KeyStarts,
         key: u64,
     ) -> bool
-        requires { Readable self (lent peers snapshot_keys contested) starts }
-        ensures { result ≡ readers.hot_elsewhere key (state_of self (at_entry peers snapshot_keys contested)) }
+        requires { Readable self (tables peers.now snapshot_keys.now contested.now) starts }
+        ensures { result ≡ readers.hot_elsewhere key (state_of self (tables peers.now snapshot_keys.now contested.now)) }
     {
         let n = self.peers;
         let snapshot_starts = starts.snapshot_keys;
@@ -188,9 +188,9 @@ impl PeerDemand {
         n: usize,
         out: &mut [f64],
     )
-        requires readable { Readable self (lent peers snapshot_keys contested) starts }
+        requires readable { Readable self (tables peers.now snapshot_keys.now contested.now) starts }
         requires n_value { (fits (length keys.now) w n ≡ true) × (n ≤ length out.old) }
-        ensures { out.new ≡ told readers.total (state_of self (at_entry peers snapshot_keys contested)) w n
+        ensures { out.new ≡ told readers.total (state_of self (tables peers.now snapshot_keys.now contested.now)) w n
             keys.now out.old }
     {
         let mut i = 0;
@@ -212,9 +212,9 @@ impl PeerDemand {
         n: usize,
         out: &mut [bool],
     )
-        requires readable { Readable self (lent peers snapshot_keys contested) starts }
+        requires readable { Readable self (tables peers.now snapshot_keys.now contested.now) starts }
         requires n_value { (fits (length keys.now) w n ≡ true) × (n ≤ length out.old) }
-        ensures { out.new ≡ told readers.hot_elsewhere (state_of self (at_entry peers snapshot_keys contested)) w n
+        ensures { out.new ≡ told readers.hot_elsewhere (state_of self (tables peers.now snapshot_keys.now contested.now)) w n
             keys.now out.old }
     {
         let mut i = 0;
@@ -226,8 +226,8 @@ impl PeerDemand {
 
     // How many keys are known: those of the snapshots, and those that are contested alone.
     fn count_keys(self, peers: &[u64], snapshot_keys: &[u64], contested: &[u64]) -> usize
-        requires { StateReady self (lent peers snapshot_keys contested) }
-        ensures { result ≡ counted (state_of self (at_entry peers snapshot_keys contested)) }
+        requires { StateReady self (tables peers.now snapshot_keys.now contested.now) }
+        ensures { result ≡ counted (state_of self (tables peers.now snapshot_keys.now contested.now)) }
     {
         let n = self.snapshot_keys;
         let m = self.contested;
@@ -249,7 +249,7 @@ impl PeerDemand {
         peer: PeerId,
         key: u64,
     ) -> HeardAnswer
-        ensures { Gets self (at_entry peers snapshot_keys contested) peer.0 key result }
+        ensures { Gets self (tables peers.now snapshot_keys.now contested.now) peer.0 key result }
     {
         let asked = self.ask(peers, snapshot_keys, contested);
         if asked != 0 {
@@ -269,7 +269,7 @@ impl PeerDemand {
         contested: &[u64],
         key: u64,
     ) -> TotalAnswer
-        ensures { Totals self (at_entry peers snapshot_keys contested) key result }
+        ensures { Totals self (tables peers.now snapshot_keys.now contested.now) key result }
     {
         let keys = [key];
         let mut out = [0.0];
@@ -287,7 +287,7 @@ impl PeerDemand {
         contested: &[u64],
         key: u64,
     ) -> FlagAnswer
-        ensures { TellsHotElsewhere self (at_entry peers snapshot_keys contested) key result }
+        ensures { TellsHotElsewhere self (tables peers.now snapshot_keys.now contested.now) key result }
     {
         let keys = [key];
         let mut out = [false];
@@ -308,7 +308,7 @@ impl PeerDemand {
         n: usize,
         out: &mut [f64],
     ) -> ChangeAnswer
-        ensures { TotalsEach self (at_entry peers snapshot_keys contested) w n keys.now out.old result
+        ensures { TotalsEach self (tables peers.now snapshot_keys.now contested.now) w n keys.now out.old result
             out.new }
     {
         let asked = self.ask_for_starts(peers, snapshot_keys, contested);
@@ -333,7 +333,7 @@ impl PeerDemand {
         n: usize,
         out: &mut [bool],
     ) -> ChangeAnswer
-        ensures { TellsHotElsewhereEach self (at_entry peers snapshot_keys contested) w n keys.now out.old result
+        ensures { TellsHotElsewhereEach self (tables peers.now snapshot_keys.now contested.now) w n keys.now out.old result
             out.new }
     {
         let asked = self.ask_for_starts(peers, snapshot_keys, contested);
@@ -361,7 +361,7 @@ impl PeerDemand {
 
     // How many keys there are a word on, counted peer by peer.
     pub fn len(self, peers: &[u64], snapshot_keys: &[u64], contested: &[u64]) -> LenAnswer
-        ensures { Counts self (at_entry peers snapshot_keys contested) result }
+        ensures { Counts self (tables peers.now snapshot_keys.now contested.now) result }
     {
         let asked = self.ask(peers, snapshot_keys, contested);
         if asked != 0 {
@@ -372,7 +372,7 @@ impl PeerDemand {
 
     // Whether there are none.
     pub fn is_empty(self, peers: &[u64], snapshot_keys: &[u64], contested: &[u64]) -> FlagAnswer
-        ensures { TellsEmpty self (at_entry peers snapshot_keys contested) result }
+        ensures { TellsEmpty self (tables peers.now snapshot_keys.now contested.now) result }
     {
         match self.len(peers, snapshot_keys, contested) {
             LenAnswer::No(no) => FlagAnswer::No(no),

@@ -1,6 +1,6 @@
 // The peers' state in its lent tables: room, validity, and the questions that the calls on it ask first.
 ghost use Rattle.std.specs.Prelude.{◌≡◌, ◌<◌, true, length};
-ghost use Rattle.peers.specs.Peers.State.{lent, at_entry, lengths, have_room, is_valid};
+ghost use Rattle.peers.specs.Peers.State.{tables, lengths, have_room, is_valid};
 ghost use Rattle.peers.specs.Peers.Steps.Heard.{Filled, Asked, EachAsked};
 ghost use Rattle.peers.specs.Peers.Calls.{Asks, IsNew};
 
@@ -43,7 +43,7 @@ impl AskedStarts {
 
 // Whether the lent tables are long enough.
 fn has_room(peers: &[u64], snapshot_keys: &[u64], contested: &[u64]) -> bool
-    ensures { result ≡ have_room (lengths (at_entry peers snapshot_keys contested)) }
+    ensures { result ≡ have_room (lengths (tables peers.now snapshot_keys.now contested.now)) }
 {
     if peers.len() < PEERS_SIZE {
         return false;
@@ -82,10 +82,10 @@ impl PeerDemand {
         snapshot_starts: &mut [usize],
         contested_starts: &mut [usize],
     ) -> bool
-        requires contested_value { have_room (lengths (lent peers snapshot_keys contested)) ≡ true }
+        requires contested_value { have_room (lengths (tables peers.now snapshot_keys.now contested.now)) ≡ true }
         requires in_bounds { (32 < length snapshot_starts.old) × (32 < length contested_starts.old) }
-        ensures value { result ≡ is_valid self (at_entry peers snapshot_keys contested) }
-        ensures filled { result ≡ true → Filled self (at_entry peers snapshot_keys contested) snapshot_starts.new
+        ensures value { result ≡ is_valid self (tables peers.now snapshot_keys.now contested.now) }
+        ensures filled { result ≡ true → Filled self (tables peers.now snapshot_keys.now contested.now) snapshot_starts.new
             contested_starts.new }
     {
         let p = self.peers;
@@ -123,7 +123,7 @@ impl PeerDemand {
         snapshot_keys: &[u64],
         contested: &[u64],
     ) -> AskedStarts
-        ensures { Asked self (at_entry peers snapshot_keys contested) result }
+        ensures { Asked self (tables peers.now snapshot_keys.now contested.now) result }
     {
         if !has_room(peers, snapshot_keys, contested) {
             return AskedStarts::refused(1);
@@ -150,7 +150,7 @@ impl PeerDemand {
 
     // The first of questions 1 and 2 that is answered 'no', 0 where none is.
     pub fn ask(self, peers: &[u64], snapshot_keys: &[u64], contested: &[u64]) -> u8
-        ensures { Asks self (at_entry peers snapshot_keys contested) result }
+        ensures { Asks self (tables peers.now snapshot_keys.now contested.now) result }
     {
         let asked = self.ask_for_starts(peers, snapshot_keys, contested);
         asked.no
@@ -158,7 +158,7 @@ impl PeerDemand {
 
     // A state without peers.
     pub fn new(peers: &[u64], snapshot_keys: &[u64], contested: &[u64]) -> PeersAnswer
-        ensures { IsNew (at_entry peers snapshot_keys contested) result }
+        ensures { IsNew (tables peers.now snapshot_keys.now contested.now) result }
     {
         if !has_room(peers, snapshot_keys, contested) {
             return PeersAnswer::No(1);

@@ -27,7 +27,7 @@ abbrev lent : tie.Start → LimiterTables
 lent s = tables s.args.keys.now s.args.hot.now s.args.shadows.now
 
 abbrev peers_lent : tie.Start → PeerTables
-peers_lent s = peer-state.tables s.args.peer_table.now s.args.snapshot-keys.now s.args.contested.now
+peers_lent s = peer-state.tables s.args.peer_table.now s.args.snapshot_keys.now s.args.contested.now
 
 -- there is room
 room : (e : tie.Else-not-has_room) → let s = begun e.before in have_room (bytes s) (lent s) (peers_lent s) ≡ true

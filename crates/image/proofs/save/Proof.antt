@@ -12,7 +12,7 @@ save-asked-requires c κs =
     let s = c.args in
     c.first_of-no.ensures
     ∙ first-of-both s.limiter (tables s.keys.now s.hot.now s.shadows.now) s.peers
-    (peer-state.tables s.peer_table.now s.snapshot-keys.now s.contested.now) _ _ c.ask-here.ensures c.ask-there.ensures
+    (peer-state.tables s.peer_table.now s.snapshot_keys.now s.contested.now) _ _ c.ask-here.ensures c.ask-there.ensures
 
 pub save_spec : {M : Type 1} → statement M
 save_spec =

@@ -1,8 +1,6 @@
 -- The peers' state, when it is valid (01, 'The saved image'), and the tables that hold it. Definitions only.
 use Rattle.std.specs.Prelude.{ℕ, ◌*◌, ◌^◌, Bool, true, ◌&&◌, ◌||◌, ltb, leb, List, map, length, ◌==◌, nat_eq, nat_le, nat_lt}
 use Rattle.std.proofs.Math.Option.{Option, none, some}
-use Rattle.std.specs.Borrow.{Bor}
-use denote.Triple.Both.{Both}
 use Rattle.records.specs.Records.{records, table, ascending}
 use Rattle.peers.specs.declared.peer_demand.PeerDemand.{PeerDemand}
 use Rattle.questions.specs.Lists.{all, any, first, present, those}
@@ -110,16 +108,6 @@ pub record PeerTables : Type 0 where
 
 abbrev pub tables : List ℕ → List ℕ → List ℕ → PeerTables
 tables peers snapshot_keys contested = record { peers = peers; snapshot_keys = snapshot_keys; contested = contested }
-
--- of the references that are lent; and at a call's entry and at its exit
-abbrev pub lent : Bor (List ℕ) → Bor (List ℕ) → Bor (List ℕ) → PeerTables
-lent peers snapshot_keys contested = tables peers.now snapshot_keys.now contested.now
-
-abbrev pub at_entry : {X Y Z : Type 0} → Both (Bor (List ℕ)) X → Both (Bor (List ℕ)) Y → Both (Bor (List ℕ)) Z → PeerTables
-at_entry peers snapshot_keys contested = lent peers.entry snapshot_keys.entry contested.entry
-
-abbrev pub at_exit : {X Y Z : Type 0} → Both X (Bor (List ℕ)) → Both Y (Bor (List ℕ)) → Both Z (Bor (List ℕ)) → PeerTables
-at_exit peers snapshot_keys contested = lent peers.exit snapshot_keys.exit contested.exit
 
 -- how many words each has
 pub record PeerLengths : Type 0 where

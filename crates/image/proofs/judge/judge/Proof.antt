@@ -116,7 +116,7 @@ returns-6 c =
     ∙ values-read _ _ s.requires (few e) l.limiter_of-limiter.result (reads l) q)
     ∙ alone-yes 13 _
     (is-image _ _ s.requires (few e) l.limiter_of-limiter.result (reads l) q (all-bytes (bytes s) (λ i. omega (arith, e.shared_slice_known-1.given i)))
-    (told-yes (end_is l.before.before.before.before.before) l.if-not-is_end.left)
+    (told-yes (end_is l.before.before.before.before.before) l.if-not-is_end.false)
     (told-yes c.has_valid_limiter.ensures c.if-not-has_valid_limiter.false)
     (told-yes c.has_valid_peers.ensures c.if-not-has_valid_peers.false))
 

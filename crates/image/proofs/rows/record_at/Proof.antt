@@ -30,7 +30,7 @@ returns-5 : tie.Need-returns
 returns-5 c =
     let e = first c.before.before in
     let s = (start e.before.before).args in
-    c.record_of.ensures ∙ by_kind s.at s.from.now e.if-from-at-ne82.left c.if-from-at-ne71.false
+    c.record_of.ensures ∙ by_kind s.at s.from.now e.if-from-at-ne82.false c.if-from-at-ne71.false
 
 pub record_at_spec : {M : Type 1} → statement M
 record_at_spec =

@@ -19,7 +19,7 @@ abbrev lent : tie.Start → LimiterTables
 lent s = tables s.args.keys.now s.args.hot.now s.args.shadows.now
 
 abbrev theirs : tie.Start → PeerTables
-theirs s = peer-state.tables s.args.peer_table.now s.args.snapshot-keys.now s.args.contested.now
+theirs s = peer-state.tables s.args.peer_table.now s.args.snapshot_keys.now s.args.contested.now
 
 abbrev others : tie.Start → Others
 others s = peers_others (settings_of s.args.self) (peer-state.state_of s.args.peers (theirs s)) s.args.cluster_size

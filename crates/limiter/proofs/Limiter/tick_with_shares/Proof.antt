@@ -21,7 +21,7 @@ abbrev lent : tie.Start → LimiterTables
 lent s = tables s.args.keys.now s.args.hot.now s.args.shadows.now
 
 abbrev theirs : tie.Start → PeerTables
-theirs s = peer-state.tables s.args.peer_table.now s.args.snapshot-keys.now s.args.contested.now
+theirs s = peer-state.tables s.args.peer_table.now s.args.snapshot_keys.now s.args.contested.now
 
 abbrev asks : tie.Start → List Question
 asks s = both_questions s.args.self (lent s) s.args.peers (theirs s) ++ cluster_questions s.args.cluster_size

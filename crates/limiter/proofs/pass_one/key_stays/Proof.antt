@@ -26,14 +26,14 @@ returns-2 : tie.Need-returns-then-is_demand
 returns-2 c =
     let e = cold c.before in
     let s = start e in
-    stays-demand units s.args.silent s.args.r.now s.args.reading s.args.hot e.if-hot.left c.from_bits.result c.from_bits.ensures
+    stays-demand units s.args.silent s.args.r.now s.args.reading s.args.hot e.if-hot.false c.from_bits.result c.from_bits.ensures
     (sym c.is_demand.ensures ∙ c.if-is_demand.true)
 
 returns-3 : tie.Need-returns-then-r-gt0
 returns-3 c =
     let e = cold c.before.before.before in
     let s = start e in
-    stays-pending units s.args.silent s.args.r.now s.args.reading s.args.hot e.if-hot.left c.from_bits.result c.from_bits.ensures
+    stays-pending units s.args.silent s.args.r.now s.args.reading s.args.hot e.if-hot.false c.from_bits.result c.from_bits.ensures
     (sym c.is_demand.ensures ∙ c.if-is_demand.false) c.if-r-gt0.true
 
 -- the key's words, once its attempts are read
@@ -52,7 +52,7 @@ returns-4 : tie.Need-returns
 returns-4 c =
     let e = cold c.before.before.before.before.before in
     let s = start e in
-    stays-debt units s.args.silent s.args.r.now s.args.reading s.args.hot e.if-hot.left c.from_bits.result c.from_bits.ensures
+    stays-debt units s.args.silent s.args.r.now s.args.reading s.args.hot e.if-hot.false c.from_bits.result c.from_bits.ensures
     (sym c.is_demand.ensures ∙ c.if-is_demand.false)
     (omega (arith, c.if-r-gt0.false)) c.has_debt.result
     (c.has_debt.ensures ∙ ap (λ (g : Gcra). has_debt g s.args.reading) c.meter_of_words.ensures)

@@ -31,7 +31,7 @@ reads : (s : tie.Start) → is_word s.args.reading ≡ true
 reads s = word_of s.ranges.reading.fits
 
 -- the folded keys stand in the lent table
-held : (c : tie.After-fold_keys) → LentKeys (units_in (start c).args.limiter) (start c).args.limiter.keys c.fold_keys.new.0
+held : (c : tie.After-fold_keys) → LentKeys (units_in (start c).args.limiter) (start c).args.limiter.keys c.fold_keys.new.keys
 unfolding units_for
 held c =
     let s = start c in

@@ -29,7 +29,7 @@ abbrev denials : tie.Start → Estimate
 denials s = folded s.args.denial_time_constant s.args.reading (key s).denials
 
 -- the words after each call
-first : (c : tie.After-fold_estimate-demand) → let s = start c.before in c.fold_estimate-demand.new.0 ≡ key_words units (with_estimates (key s) (demand s) (key s).requests (key s).denials (key s).shadow_denials)
+first : (c : tie.After-fold_estimate-demand) → let s = start c.before in c.fold_estimate-demand.new.t ≡ key_words units (with_estimates (key s) (demand s) (key s).requests (key s).denials (key s).shadow_denials)
 first c =
     let s = start c.before in
     folded-3 units (key s) (key s).demand (key s).requests (key s).denials (key s).shadow_denials s.args.r.now s.requires.0.exact (good s).demand _ _ s.args.time_constant s.args.reading s.requires.1.demand_for c.fold_estimate-demand.ensures.1
@@ -37,7 +37,7 @@ first c =
 abbrev one : tie.After-fold_estimate-arg-2-1 → tie.After-fold_estimate-demand
 one c = c.before.before.before
 
-second : (c : tie.After-fold_estimate-requests) → let s = start (one c.before).before in c.fold_estimate-requests.new.0 ≡ key_words units (with_estimates (key s) (demand s) (requests s) (key s).denials (key s).shadow_denials)
+second : (c : tie.After-fold_estimate-requests) → let s = start (one c.before).before in c.fold_estimate-requests.new.t ≡ key_words units (with_estimates (key s) (demand s) (requests s) (key s).denials (key s).shadow_denials)
 second c =
     let f = one c.before in
     let s = start f.before in
@@ -46,7 +46,7 @@ second c =
 abbrev two : tie.After-fold_estimate-arg-3-1 → tie.After-fold_estimate-requests
 two c = c.before.before.before
 
-third : (c : tie.After-fold_estimate-denials) → let s = start (one (two c.before).before).before in c.fold_estimate-denials.new.0 ≡ key_words units (with_estimates (key s) (demand s) (requests s) (denials s) (key s).shadow_denials)
+third : (c : tie.After-fold_estimate-denials) → let s = start (one (two c.before).before).before in c.fold_estimate-denials.new.t ≡ key_words units (with_estimates (key s) (demand s) (requests s) (denials s) (key s).shadow_denials)
 third c =
     let f = two c.before in
     let s = start (one f.before).before in

@@ -22,7 +22,7 @@ loop-holds c = let s = c in flag-none _ _ _ _ (omega (arith, s.requires)) s.requ
 inside : (c : tie.In-loop-i invariant-loop-i decreases-loop-i) →
     let l = c.loop-i in
     let s = c.args in
-    (l.auto ≤ l.i) × (l.auto * s.w ≤ l.i * s.w) × (l.i * s.w + s.w ≤ length l.t) × (length l.t ≡ length s.t.now)
+    (l.kept ≤ l.i) × (l.kept * s.w ≤ l.i * s.w) × (l.i * s.w + s.w ≤ length l.t) × (length l.t ≡ length s.t.now)
 inside c =
     let k = c.loop-i.invariant in
     let h = flag-inside _ _ _ _ _ _ _ k c.loop-i-test.true in

@@ -25,7 +25,7 @@ abbrev long : tie.Start → Lengths
 long s = lengths (tables s.args.keys.now s.args.hot.now s.args.shadows.now)
 
 abbrev peer_tables : tie.Start → peer-state.PeerTables
-peer_tables s = peer-state.tables s.args.peer_table.now s.args.snapshot-keys.now s.args.contested.now
+peer_tables s = peer-state.tables s.args.peer_table.now s.args.snapshot_keys.now s.args.contested.now
 
 abbrev room : tie.Start → Bool
 room s = peers_room (length s.args.peers.now) (peer-state.lengths (peer_tables s))

@@ -20,7 +20,7 @@ start k = k.before.before.before.before.before.before.before
 
 -- whether the peers have room
 abbrev peer_tables : tie.Start → PeerTables
-peer_tables s = tables s.args.peer_table.now s.args.snapshot-keys.now s.args.contested.now
+peer_tables s = tables s.args.peer_table.now s.args.snapshot_keys.now s.args.contested.now
 
 abbrev room : tie.Start → Bool
 room s = peers_room (length s.args.peers.now) (lengths (peer_tables s))

@@ -9,14 +9,14 @@ use Rattle.peers.proofs.peer_each.primary_of_ascending.Tie as tie
 mark-table-requires-2 : tie.Need-mark_table-requires-2
 mark-table-requires-2 c κs =
     let s = c in (
-      record { fit = s.requires.0.fit; ascends = s.requires.0.ascends; room = omega (arith, s.requires.0.room, ap length c.mark_table.ensures ∙ length_marked _ _ _, c.clear.auto.0) },
+      record { fit = s.requires.0.fit; ascends = s.requires.0.ascends; room = omega (arith, s.requires.0.room, ap length c.mark_table.ensures ∙ length_marked _ _ _, c.clear.auto.out) },
       s.requires.2,
     )
 
 returns : tie.Need-returns
 returns c =
     let rs = records c.args.w c.args.n c.args.keys.now in
-    let taken = is_primary_in (records 4 c.args.k c.args.snapshot-keys.now) in
+    let taken = is_primary_in (records 4 c.args.k c.args.snapshot_keys.now) in
     let contested = is_primary_in (records 6 c.args.c c.args.contested.now) in
     c.mark_table-2.ensures
     ∙ ap (marked contested rs) (c.mark_table.ensures ∙ ap (marked taken rs) c.clear.ensures)

@@ -27,7 +27,7 @@ inside c = omega (arith, below c, (start c).requires.0.ready.fit)
 returns : tie.Need-returns-then-flag-eq0
 returns c =
     let s = c.args in
-    taken-absent s.n s.id s.key s.flag s.round s.heard-at s.t.now c.if-flag-eq0.true
+    taken-absent s.n s.id s.key s.flag s.round s.heard_at s.t.now c.if-flag-eq0.true
 
 mul-key-heard : tie.Need-overflow_mul-i
 mul-key-heard c = omega (arith, inside c)
@@ -40,12 +40,12 @@ key-heard-requires c κs =
 returns-2 : tie.Need-returns-in-At
 returns-2 c =
     let s = (start c.before).args in
-    ap some c.key_heard.ensures ∙ taken-found s.n s.id s.key s.flag s.round s.heard-at s.t.now (start c.before).requires.0 c.if-flag-eq0.false c.in-At.i (found c.before)
+    ap some c.key_heard.ensures ∙ taken-found s.n s.id s.key s.flag s.round s.heard_at s.t.now (start c.before).requires.0 c.if-flag-eq0.false c.in-At.i (found c.before)
 
 returns-3 : tie.Need-returns-in-Gap
 returns-3 c =
     let s = c.args in
-    taken-missing s.n s.id s.key s.flag s.round s.heard-at s.t.now c.requires.0 c.if-flag-eq0.false c.in-Gap.i (find-says 4 2 s.n s.id s.key s.t.now (omega arith) (omega arith) (omega arith) c.requires.0.ready.fit c.find.result c.find.ensures ∙ c.in-Gap.is)
+    taken-missing s.n s.id s.key s.flag s.round s.heard_at s.t.now c.requires.0 c.if-flag-eq0.false c.in-Gap.i (find-says 4 2 s.n s.id s.key s.t.now (omega arith) (omega arith) (omega arith) c.requires.0.ready.fit c.find.result c.find.ensures ∙ c.in-Gap.is)
 
 returns-4 : tie.Need-returns-in-Unfit
 returns-4 c =

@@ -7,7 +7,7 @@ use Rattle.peers.proofs.peer_heard.key_heard.Tie as tie
 returns : tie.Need-returns
 returns c =
     let s = c.args in
-    (λ k. record { demand = c.f32_from_bits.ensures k; primary = flag_is (get_or s.t.now (s.at + 3) 0) k; round = s.round; heard_at = s.heard-at })
+    (λ k. record { demand = c.f32_from_bits.ensures k; primary = flag_is (get_or s.t.now (s.at + 3) 0) k; round = s.round; heard_at = s.heard_at })
 
 pub key_heard_spec : {M : Type 1} → statement M
 key_heard_spec =

@@ -10,7 +10,7 @@ use Rattle.peers.proofs.peer_scan.is_peer.Tie as tie
 timed : (c : tie.Else-not-is_time) → is_time c.args.held c.args.until ≡ true
 timed c = sym c.is_time.ensures ∙ c.if-not-is_time.false
 
-taken : (c : tie.Else-not-is_snapshot) → let s = c.args in is_snapshot s.taken s.epoch s.round s.heard-at ≡ true
+taken : (c : tie.Else-not-is_snapshot) → let s = c.args in is_snapshot s.taken s.epoch s.round s.heard_at ≡ true
 taken c = sym c.is_snapshot.ensures ∙ c.if-not-is_snapshot.false
 
 past : (c : tie.Else-not-is_past) → let s = c.args in is_past s.count s.a s.b s.c s.d ≡ true

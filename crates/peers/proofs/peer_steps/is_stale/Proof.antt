@@ -25,17 +25,17 @@ taken_is at age (suc held) taken heard h k = let z : ⊥ = omega arith in absurd
 returns : tie.Need-returns-then-held-ne0
 returns c =
     let s = c.args in
-    held-is s.reading s.max_age s.held s.taken s.heard-at c.if-held-ne0.true
+    held-is s.reading s.max_age s.held s.taken s.heard_at c.if-held-ne0.true
 
 returns-2 : tie.Need-returns-then-taken-eq0
 returns-2 c =
     let s = c.args in
-    bare-is s.reading s.max_age s.held s.taken s.heard-at c.if-held-ne0.false c.if-taken-eq0.true
+    bare-is s.reading s.max_age s.held s.taken s.heard_at c.if-held-ne0.false c.if-taken-eq0.true
 
 returns-3 : tie.Need-returns
 returns-3 c =
     let s = c.args in
-    ap not c.is_fresh.ensures ∙ taken_is s.reading s.max_age s.held s.taken s.heard-at c.if-held-ne0.false c.if-taken-eq0.false
+    ap not c.is_fresh.ensures ∙ taken_is s.reading s.max_age s.held s.taken s.heard_at c.if-held-ne0.false c.if-taken-eq0.false
 
 pub is_stale_spec : {M : Type 1} → statement M
 is_stale_spec = tie.close (tie.spec returns returns-2 (λ c κs. search rules) returns-3)

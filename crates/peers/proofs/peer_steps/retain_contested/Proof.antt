@@ -20,11 +20,11 @@ invariant-loop-i peers n contested₀ c reading max-age place₀ kept₀ i₀ co
 abbrev decreases-loop-i : tie.decreases-loop-i
 decreases-loop-i peers n contested₀ c reading max-age place₀ kept₀ i₀ contested place kept i = c - i
 
-inside : (c : tie.In-loop-i invariant-loop-i decreases-loop-i) → (c.loop-i.auto ≤ c.loop-i.i) × (c.loop-i.i * 6 + 6 ≤ length c.loop-i.contested)
+inside : (c : tie.In-loop-i invariant-loop-i decreases-loop-i) → (c.loop-i.kept ≤ c.loop-i.i) × (c.loop-i.i * 6 + 6 ≤ length c.loop-i.contested)
 inside c =
     let s = c.args in
     let l = c.loop-i in
-    kept-inside (test s.peers.now s.n s.reading s.max_age) 6 s.c (records 6 s.c s.contested.now) s.contested.now l.contested l.i l.auto l.invariant c.loop-i-test.true
+    kept-inside (test s.peers.now s.n s.reading s.max_age) 6 s.c (records 6 s.c s.contested.now) s.contested.now l.contested l.i l.kept l.invariant c.loop-i-test.true
 
 loop-holds : tie.Need-loop-i-init invariant-loop-i decreases-loop-i
 loop-holds c =
@@ -68,13 +68,13 @@ loop-again c =
     let xs : List ℕ = s.contested.now in
     let rs : List (List ℕ) = records 6 s.c xs in
     let p : List ℕ → Bool = test s.peers.now s.n s.reading s.max_age in
-    kept-copied p 6 s.c rs xs l.contested l.i l.auto l.invariant c.loop-i-test.true
-    c.stays_contested-stays.result c.keep_record-kept.new.0 c.keep_record-kept.result refl
+    kept-copied p 6 s.c rs xs l.contested l.i l.kept l.invariant c.loop-i-test.true
+    c.stays_contested-stays.result c.keep_record-kept.new.t c.keep_record-kept.result refl
     (c.stays_contested-stays.ensures
     ∙ stays-placed s.n s.peers.now (in-order-says 12 1 s.n s.peers.now c.requires.0) s.reading s.max_age _ _ c.peer_place-place.result c.peer_place-place.ensures
     ∙ (λ k. stays_contested s.reading s.max_age (map peer_of (records 12 s.n s.peers.now))
-    (kept-first p 6 s.c rs xs l.contested l.i l.auto l.invariant c.loop-i-test.true k)
-    (kept_word p 6 s.c rs xs l.contested l.i l.auto l.invariant c.loop-i-test.true 5 (omega arith) k)))
+    (kept-first p 6 s.c rs xs l.contested l.i l.kept l.invariant c.loop-i-test.true k)
+    (kept_word p 6 s.c rs xs l.contested l.i l.kept l.invariant c.loop-i-test.true 5 (omega arith) k)))
     c.keep_record-kept.ensures.0
     c.keep_record-kept.ensures.1
 
@@ -82,13 +82,13 @@ same_length : tie.Need-shape_of-contested invariant-loop-i decreases-loop-i
 same_length c =
     let l = c.loop-i in
     let s = c.args in
-    kept-long (test s.peers.now s.n s.reading s.max_age) 6 s.c (records 6 s.c s.contested.now) s.contested.now l.contested l.i l.auto l.invariant
+    kept-long (test s.peers.now s.n s.reading s.max_age) 6 s.c (records 6 s.c s.contested.now) s.contested.now l.contested l.i l.kept l.invariant
 
 returns : tie.Need-returns invariant-loop-i decreases-loop-i
 returns c =
     let l = c.loop-i in
     let s = c.args in
-    kept-all (test s.peers.now s.n s.reading s.max_age) 6 s.c (records 6 s.c s.contested.now) s.contested.now l.contested l.i l.auto l.invariant c.loop-i-test.false
+    kept-all (test s.peers.now s.n s.reading s.max_age) 6 s.c (records 6 s.c s.contested.now) s.contested.now l.contested l.i l.kept l.invariant c.loop-i-test.false
 
 pub retain_contested_spec : {M : Type 1} → statement M
 retain_contested_spec =

@@ -42,11 +42,11 @@ peer c = get_or (records 12 (start c).args.n (start c).args.peers.now) c.loop-i.
 abbrev lent : tie.In-loop-i invariant-loop-i decreases-loop-i → List ℕ
 lent c = let at = c.loop-i.i * 12 in take (at + 12 - at) (drop at c.loop-i.peers)
 
-inside : (c : tie.In-loop-i invariant-loop-i decreases-loop-i) → (c.loop-i.auto ≤ c.loop-i.i) × (c.loop-i.i * 12 + 12 ≤ length c.loop-i.peers)
+inside : (c : tie.In-loop-i invariant-loop-i decreases-loop-i) → (c.loop-i.kept ≤ c.loop-i.i) × (c.loop-i.i * 12 + 12 ≤ length c.loop-i.peers)
 inside c =
     let s = (start c).args in
     let l = c.loop-i in
-    kept-inside (test s.contested.now s.c s.reading) 12 s.n (made c) s.peers.now l.peers l.i l.auto l.invariant c.loop-i-test.true
+    kept-inside (test s.contested.now s.c s.reading) 12 s.n (made c) s.peers.now l.peers l.i l.kept l.invariant c.loop-i-test.true
 
 lent_is : (c : tie.In-loop-i invariant-loop-i decreases-loop-i) → lent c ≡ peer c
 lent_is c =
@@ -54,7 +54,7 @@ lent_is c =
     let l = c.loop-i in
     let twelve : l.i * 12 + 12 - l.i * 12 ≡ 12 = omega arith in
     ap (λ (m : ℕ). take m (drop (l.i * 12) l.peers)) twelve
-    ∙ kept_here (test s.contested.now s.c s.reading) 12 s.n (made c) s.peers.now l.peers l.i l.auto l.invariant c.loop-i-test.true
+    ∙ kept_here (test s.contested.now s.c s.reading) 12 s.n (made c) s.peers.now l.peers l.i l.kept l.invariant c.loop-i-test.true
 
 loop-holds : tie.Need-loop-i-init invariant-loop-i decreases-loop-i
 loop-holds c =
@@ -106,7 +106,7 @@ keep-peer-requires : tie.Need-keep_peer-kept-requires invariant-loop-i decreases
 keep-peer-requires c κs =
     let s = start c.before.before.before.before.before in
     let l = c.loop-i in
-    let e = kept-long (test s.args.contested.now s.args.c s.args.reading) 12 s.args.n (made c.before.before.before.before.before) s.args.peers.now l.peers l.i l.auto l.invariant in
+    let e = kept-long (test s.args.contested.now s.args.c s.args.reading) 12 s.args.n (made c.before.before.before.before.before) s.args.peers.now l.peers l.i l.kept l.invariant in
     (omega (arith, inside c.before.before.before.before.before, c.loop-i-test.true), omega (arith, e, s.requires.1), aged-long c.before.before.before)
 
 loop-again : tie.Need-loop-i-preserved invariant-loop-i decreases-loop-i
@@ -117,8 +117,8 @@ loop-again c =
     let p : List ℕ → Bool = test s.contested.now s.c s.reading in
     let cs : List ContestedKey = map contested_of (records 6 s.c s.contested.now) in
     let x : List ℕ = get_or (made c.before.before.before.before.before.before.before.before) l.i [] in
-    kept-written p 12 s.n (made c.before.before.before.before.before.before.before.before) s.peers.now l.peers l.i l.auto l.invariant c.loop-i-test.true
-    c.stays_peer-stays.result c.aged_words-words.result c.keep_peer-kept.new.0 c.keep_peer-kept.result (aged-long c.before.before.before.before.before.before) (aged-is c.before.before.before.before.before.before)
+    kept-written p 12 s.n (made c.before.before.before.before.before.before.before.before) s.peers.now l.peers l.i l.kept l.invariant c.loop-i-test.true
+    c.stays_peer-stays.result c.aged_words-words.result c.keep_peer-kept.new.peers c.keep_peer-kept.result (aged-long c.before.before.before.before.before.before) (aged-is c.before.before.before.before.before.before)
     (c.stays_peer-stays.ensures
     ∙ ap (λ (y : List ℕ). stays_peer s.reading cs (get_or y 0 0) (time_of (get_or y 1 0) (get_or y 2 0)) (flag_of (get_or y 3 0))) (aged-is c.before.before.before.before.before.before)
     ∙ ap (stays_peer s.reading cs (get_or x 0 0) (time_of (get_or x 1 0) (get_or x 2 0))) (taken-flag (get_or x 3 0) (get_or x 4 0) (get_or x 5 0) (get_or x 6 0)))
@@ -129,13 +129,13 @@ same_length : tie.Need-shape_of-peers invariant-loop-i decreases-loop-i
 same_length c =
     let l = c.loop-i in
     let s = c.args in
-    kept-long (test s.contested.now s.c s.reading) 12 s.n (map (aged s.reading s.max_age) (records 12 s.n s.peers.now)) s.peers.now l.peers l.i l.auto l.invariant
+    kept-long (test s.contested.now s.c s.reading) 12 s.n (map (aged s.reading s.max_age) (records 12 s.n s.peers.now)) s.peers.now l.peers l.i l.kept l.invariant
 
 returns : tie.Need-returns invariant-loop-i decreases-loop-i
 returns c =
     let l = c.loop-i in
     let s = c.args in
-    kept-all (test s.contested.now s.c s.reading) 12 s.n (map (aged s.reading s.max_age) (records 12 s.n s.peers.now)) s.peers.now l.peers l.i l.auto l.invariant c.loop-i-test.false
+    kept-all (test s.contested.now s.c s.reading) 12 s.n (map (aged s.reading s.max_age) (records 12 s.n s.peers.now)) s.peers.now l.peers l.i l.kept l.invariant c.loop-i-test.false
 
 pub retain_peers_spec : {M : Type 1} → statement M
 retain_peers_spec =

@@ -20,15 +20,15 @@ invariant-loop-i peers n snapshot-keys₀ k place₀ kept₀ i₀ snapshot-keys 
 abbrev decreases-loop-i : tie.decreases-loop-i
 decreases-loop-i peers n snapshot-keys₀ k place₀ kept₀ i₀ snapshot-keys place kept i = k - i
 
-inside : (c : tie.In-loop-i invariant-loop-i decreases-loop-i) → (c.loop-i.auto ≤ c.loop-i.i) × (c.loop-i.i * 4 + 4 ≤ length c.loop-i.snapshot-keys)
+inside : (c : tie.In-loop-i invariant-loop-i decreases-loop-i) → (c.loop-i.kept ≤ c.loop-i.i) × (c.loop-i.i * 4 + 4 ≤ length c.loop-i.snapshot_keys)
 inside c =
     let s = c.args in
     let l = c.loop-i in
-    kept-inside (test s.peers.now s.n) 4 s.k (records 4 s.k s.snapshot-keys.now) s.snapshot-keys.now l.snapshot-keys l.i l.auto l.invariant c.loop-i-test.true
+    kept-inside (test s.peers.now s.n) 4 s.k (records 4 s.k s.snapshot_keys.now) s.snapshot_keys.now l.snapshot_keys l.i l.kept l.invariant c.loop-i-test.true
 
 loop-holds : tie.Need-loop-i-init invariant-loop-i decreases-loop-i
 loop-holds c =
-    let xs : List ℕ = c.args.snapshot-keys.now in
+    let xs : List ℕ = c.args.snapshot_keys.now in
     kept-none (test c.args.peers.now c.args.n) 4 c.args.k (records 4 c.args.k xs) xs (omega arith) c.requires.1
     (wide-records 4 c.args.k xs c.requires.1) (length-records 4 c.args.k xs)
 
@@ -56,14 +56,14 @@ unfolding snapshot_key_of
 loop-again c =
     let l = c.loop-i in
     let s = c.args in
-    let xs : List ℕ = s.snapshot-keys.now in
+    let xs : List ℕ = s.snapshot_keys.now in
     let rs : List (List ℕ) = records 4 s.k xs in
     let p : List ℕ → Bool = test s.peers.now s.n in
-    kept-copied p 4 s.k rs xs l.snapshot-keys l.i l.auto l.invariant c.loop-i-test.true
-    c.has_snapshot-stays.result c.keep_record-kept.new.0 c.keep_record-kept.result refl
+    kept-copied p 4 s.k rs xs l.snapshot_keys l.i l.kept l.invariant c.loop-i-test.true
+    c.has_snapshot-stays.result c.keep_record-kept.new.t c.keep_record-kept.result refl
     (c.has_snapshot-stays.ensures
     ∙ taken-placed s.n s.peers.now (in-order-says 12 1 s.n s.peers.now c.requires.0) _ c.peer_place-place.result c.peer_place-place.ensures
-    ∙ ap (has_snapshot (map peer_of (records 12 s.n s.peers.now))) (kept-first p 4 s.k rs xs l.snapshot-keys l.i l.auto l.invariant c.loop-i-test.true))
+    ∙ ap (has_snapshot (map peer_of (records 12 s.n s.peers.now))) (kept-first p 4 s.k rs xs l.snapshot_keys l.i l.kept l.invariant c.loop-i-test.true))
     c.keep_record-kept.ensures.0
     c.keep_record-kept.ensures.1
 
@@ -71,13 +71,13 @@ same_length : tie.Need-shape_of-snapshot_keys invariant-loop-i decreases-loop-i
 same_length c =
     let l = c.loop-i in
     let s = c.args in
-    kept-long (test s.peers.now s.n) 4 s.k (records 4 s.k s.snapshot-keys.now) s.snapshot-keys.now l.snapshot-keys l.i l.auto l.invariant
+    kept-long (test s.peers.now s.n) 4 s.k (records 4 s.k s.snapshot_keys.now) s.snapshot_keys.now l.snapshot_keys l.i l.kept l.invariant
 
 returns : tie.Need-returns invariant-loop-i decreases-loop-i
 returns c =
     let l = c.loop-i in
     let s = c.args in
-    kept-all (test s.peers.now s.n) 4 s.k (records 4 s.k s.snapshot-keys.now) s.snapshot-keys.now l.snapshot-keys l.i l.auto l.invariant c.loop-i-test.false
+    kept-all (test s.peers.now s.n) 4 s.k (records 4 s.k s.snapshot_keys.now) s.snapshot_keys.now l.snapshot_keys l.i l.kept l.invariant c.loop-i-test.false
 
 pub retain_snapshot_keys_spec : {M : Type 1} → statement M
 retain_snapshot_keys_spec =

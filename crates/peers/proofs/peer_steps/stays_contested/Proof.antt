@@ -43,14 +43,14 @@ shared-slice-read-result c = omega (arith, inside c.before.before.before)
 returns-2 : tie.Need-returns-then-peers-at-ne0
 returns-2 c =
     let s = (start c.before.before.before).args in
-    held_stays s.reading _ _ _ c.if-peers-at-ne0.true ∙ sym (stays_here s.n s.peers.now (ordered (start c.before.before.before)) s.reading s.max_age s.heard-at s.place c.if-place-n.false)
+    held_stays s.reading _ _ _ c.if-peers-at-ne0.true ∙ sym (stays_here s.n s.peers.now (ordered (start c.before.before.before)) s.reading s.max_age s.heard_at s.place c.if-place-n.false)
 
 returns-3 : tie.Need-returns
 returns-3 c =
     let s = (start c.before.before.before).args in
     c.is_fresh.ensures
     ∙ free_stays s.reading _ _ _ c.if-peers-at-ne0.false
-    ∙ sym (stays_here s.n s.peers.now (ordered (start c.before.before.before)) s.reading s.max_age s.heard-at s.place c.if-place-n.false)
+    ∙ sym (stays_here s.n s.peers.now (ordered (start c.before.before.before)) s.reading s.max_age s.heard_at s.place c.if-place-n.false)
 
 pub stays_contested_spec : {M : Type 1} → statement M
 stays_contested_spec =

@@ -11,7 +11,7 @@ use Rattle.hot.specs.HotSet.Set.{get}
 use Rattle.hot.proofs.HotSet.Tests.{cooled-key}
 use Rattle.hot.proofs.HotSet.Acts.{ready-now, kept-room, gone-count, cooled-stays, cooled-leaves, absent-elsewhere, absent-stays, either, neither}
 use Rattle.hot.proofs.hot_set.HotSet.below_threshold.Statement.{statement}
-use Rattle.hot.proofs.hot_set.HotSet.below_threshold.Lts.{then-cooled, then-hot_elsewhere}
+use Rattle.hot.proofs.hot_set.HotSet.below_threshold.Lts.{then-cooled-via-then-cooled, then-cooled-via-else-cooled+then-hot_elsewhere}
 use Rattle.hot.proofs.hot_set.HotSet.below_threshold.Tie as tie
 
 abbrev there : tie.In-Entry → tie.Start
@@ -40,7 +40,7 @@ put-requires c κs =
 returns : tie.Need-returns-then-cooled
 returns c =
     let s = there c.before.before.before.before.before.before.before in
-    cooled-stays s.args.self s.args.hot.now s.requires s.args.margin s.args.key s.args.demand_rate s.args.now s.args.hot_elsewhere _ _ _ _ (found c.before.before.before.before.before.before.before) c.cool-cooled.ensures (either c.cool-cooled.result.primary s.args.hot_elsewhere (elim c.then-cooled.branch [ then-cooled w ↦ inl w.if-cooled.true | then-hot_elsewhere w ↦ inr w.if-hot_elsewhere.true ])) c.counted.ensures c.put.ensures
+    cooled-stays s.args.self s.args.hot.now s.requires s.args.margin s.args.key s.args.demand_rate s.args.now s.args.hot_elsewhere _ _ _ _ (found c.before.before.before.before.before.before.before) c.cool-cooled.ensures (either c.cool-cooled.result.primary s.args.hot_elsewhere (elim c.then-cooled.branch [ then-cooled-via-then-cooled w ↦ inl w.if-cooled.true | then-cooled-via-else-cooled+then-hot_elsewhere w ↦ inr w.if-hot_elsewhere.true ])) c.counted.ensures c.put.ensures
 
 remove-requires : tie.Need-remove-requires
 remove-requires c κs = ready-now _ _ c.requires

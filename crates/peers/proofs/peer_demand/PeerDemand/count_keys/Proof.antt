@@ -19,16 +19,16 @@ abbrev start : tie.After-count_unlisted-count invariant-loop-i decreases-loop-i 
 start c = c.before.before.before.before.before.before
 
 -- what a turn counts
-turn : (c : tie.After-count_unlisted-count invariant-loop-i decreases-loop-i) → let s = (start c).args in let i = c.loop-i.i in (c.count_unlisted-count.result ≤ 1) × (length (only (alone s.self.snapshot_keys s.snapshot-keys.now) (drop i (records 6 s.self.contested s.contested.now))) ≡ c.count_unlisted-count.result + length (only (alone s.self.snapshot_keys s.snapshot-keys.now) (drop (i + 1) (records 6 s.self.contested s.contested.now))))
+turn : (c : tie.After-count_unlisted-count invariant-loop-i decreases-loop-i) → let s = (start c).args in let i = c.loop-i.i in (c.count_unlisted-count.result ≤ 1) × (length (only (alone s.self.snapshot_keys s.snapshot_keys.now) (drop i (records 6 s.self.contested s.contested.now))) ≡ c.count_unlisted-count.result + length (only (alone s.self.snapshot_keys s.snapshot_keys.now) (drop (i + 1) (records 6 s.self.contested s.contested.now))))
 turn c =
     let s = (start c).args in
-    let e = len-goes s.self.snapshot_keys s.snapshot-keys.now s.self.contested s.contested.now c.loop-i.i (omega arith) in
+    let e = len-goes s.self.snapshot_keys s.snapshot_keys.now s.self.contested s.contested.now c.loop-i.i (omega arith) in
     let i : ℕ = c.loop-i.i in
-    let listed : Bool = is_listed (get_or s.contested.now (i * 6) 0) (get_or s.contested.now (i * 6 + 1) 0) (map snapshot_key_of (records 4 s.self.snapshot_keys s.snapshot-keys.now)) in
+    let listed : Bool = is_listed (get_or s.contested.now (i * 6) 0) (get_or s.contested.now (i * 6 + 1) 0) (map snapshot_key_of (records 4 s.self.snapshot_keys s.snapshot_keys.now)) in
     (omega (arith, c.count_unlisted-count.ensures, at_most_one listed), omega (arith, e, c.count_unlisted-count.ensures))
 
 -- the counts are small
-small : (c : tie.After-count_unlisted-count invariant-loop-i decreases-loop-i) → let s = (start c).args in (s.self.snapshot_keys * 4 ≤ length s.snapshot-keys.now) × (s.self.contested * 6 ≤ length s.contested.now)
+small : (c : tie.After-count_unlisted-count invariant-loop-i decreases-loop-i) → let s = (start c).args in (s.self.snapshot_keys * 4 ≤ length s.snapshot_keys.now) × (s.self.contested * 6 ≤ length s.contested.now)
 small c = ((start c).requires.snapshot_keys.ready.fit, (start c).requires.contested.ready.fit)
 
 loop-holds : tie.Need-loop-i-init invariant-loop-i decreases-loop-i
@@ -51,7 +51,7 @@ returns : tie.Need-returns invariant-loop-i decreases-loop-i
 returns c =
     let s = c.args in
     let l = c.loop-i in
-    omega (arith, len-ends s.self.snapshot_keys s.snapshot-keys.now s.self.contested s.contested.now l.i (omega arith), len-starts s.self (tables s.peers.now s.snapshot-keys.now s.contested.now), l.invariant.2)
+    omega (arith, len-ends s.self.snapshot_keys s.snapshot_keys.now s.self.contested s.contested.now l.i (omega arith), len-starts s.self (tables s.peers.now s.snapshot_keys.now s.contested.now), l.invariant.2)
 
 pub count_keys_spec : {M : Type 1} → statement M
 count_keys_spec =

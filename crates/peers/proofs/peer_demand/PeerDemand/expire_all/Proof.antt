@@ -7,7 +7,7 @@ use Rattle.peers.proofs.peer_demand.PeerDemand.expire_all.Statement.{statement}
 use Rattle.peers.proofs.peer_demand.PeerDemand.expire_all.Tie as tie
 
 abbrev lent : tie.Start → PeerTables
-lent c = tables c.args.peers.now c.args.snapshot-keys.now c.args.contested.now
+lent c = tables c.args.peers.now c.args.snapshot_keys.now c.args.contested.now
 
 sound : (c : tie.Start) → Tables c.args.self (lent c)
 sound c = tables-of c.args.self (lent c) c.requires
@@ -37,7 +37,7 @@ retain-snapshot-keys-requires c κs =
     let r = second c.before.before.before in
     let s = first r in
     let o = sound s in (
-      peers-order s.args.self (lent s) o s.args.reading s.args.max_age r.retain_contested-c.result r.retain_contested-c.last.1.1.0 r.retain_contested-c.ensures
+      peers-order s.args.self (lent s) o s.args.reading s.args.max_age r.retain_contested-c.result r.retain_contested-c.new.1.1.0 r.retain_contested-c.ensures
           c.retain_peers-n.result c.retain_peers-n.new.1.1.0 c.retain_peers-n.ensures,
       omega (arith, o.snapshot_keys.within, o.snapshot_keys.room),
     )
@@ -46,7 +46,7 @@ returns : tie.Need-returns
 returns c =
     let r = second c.before.before.before.before.before.before in
     let s = first r in
-    expired s.args.self (lent s) (sound s) s.args.reading s.args.max_age r.retain_contested-c.result r.retain_contested-c.last.1.1.0 r.retain_contested-c.ensures
+    expired s.args.self (lent s) (sound s) s.args.reading s.args.max_age r.retain_contested-c.result r.retain_contested-c.new.1.1.0 r.retain_contested-c.ensures
     c.retain_peers-n.result c.retain_peers-n.new.1.1.0 c.retain_peers-n.ensures
     c.retain_snapshot_keys-k.result c.retain_snapshot_keys-k.new.1.1.0 c.retain_snapshot_keys-k.ensures
 

@@ -6,15 +6,15 @@ use Rattle.peers.proofs.Peers.Tables.StoreLaws.{Tables, tables-of, forgotten}
 use Rattle.peers.proofs.peer_demand.PeerDemand.forget_peer.Statement.{statement}
 use Rattle.peers.proofs.peer_demand.PeerDemand.forget_peer.Tie as tie
 
-sound : (c : tie.Start) → Tables c.args.self (tables c.args.peers.now c.args.snapshot-keys.now c.args.contested.now)
-sound c = tables-of c.args.self (tables c.args.peers.now c.args.snapshot-keys.now c.args.contested.now) c.requires
+sound : (c : tie.Start) → Tables c.args.self (tables c.args.peers.now c.args.snapshot_keys.now c.args.contested.now)
+sound c = tables-of c.args.self (tables c.args.peers.now c.args.snapshot_keys.now c.args.contested.now) c.requires
 
 -- each table is in order
 peers : (s : tie.Start) → InOrder 12 1 s.args.self.peers s.args.peers.now
 peers s = in-order-says 12 1 s.args.self.peers s.args.peers.now (sound s).peers.order
 
-keys : (s : tie.Start) → InOrder 4 2 s.args.self.snapshot_keys s.args.snapshot-keys.now
-keys s = in-order-says 4 2 s.args.self.snapshot_keys s.args.snapshot-keys.now (sound s).snapshot_keys.order
+keys : (s : tie.Start) → InOrder 4 2 s.args.self.snapshot_keys s.args.snapshot_keys.now
+keys s = in-order-says 4 2 s.args.self.snapshot_keys s.args.snapshot_keys.now (sound s).snapshot_keys.order
 
 contested : (s : tie.Start) → InOrder 6 2 s.args.self.contested s.args.contested.now
 contested s = in-order-says 6 2 s.args.self.contested s.args.contested.now (sound s).contested.order
@@ -42,8 +42,8 @@ returns c =
     let w₂ = third c.before.before.before in
     let w₁ = second w₂.before in
     let s = start w₁.before in
-    forgotten s.args.self (tables s.args.peers.now s.args.snapshot-keys.now s.args.contested.now) s.args.id
-    w₁.replace_run-n.result w₂.replace_run-k.result c.replace_run-c.result w₁.replace_run-n.last.0 w₂.replace_run-k.last.0 c.replace_run-c.new.0
+    forgotten s.args.self (tables s.args.peers.now s.args.snapshot_keys.now s.args.contested.now) s.args.id
+    w₁.replace_run-n.result w₂.replace_run-k.result c.replace_run-c.result w₁.replace_run-n.new.t w₂.replace_run-k.new.t c.replace_run-c.new.t
     (sound s)
     (run_out 12 1 _ s.args.id _ (omega arith) (peers s) _ _ w₁.replace_run-n.ensures)
     (run_out 4 2 _ s.args.id _ (omega arith) (keys s) _ _ w₂.replace_run-k.ensures)

@@ -25,12 +25,12 @@ heard-from-requires c κs =
 returns : tie.Need-returns-in-At
 returns c =
     let s = (start c.before).args in
-    c.heard_from.ensures ∙ ap (λ (id : ℕ). heard id s.key (state_of s.self (tables s.peers.now s.snapshot-keys.now s.contested.now))) (place c.before).1
+    c.heard_from.ensures ∙ ap (λ (id : ℕ). heard id s.key (state_of s.self (tables s.peers.now s.snapshot_keys.now s.contested.now))) (place c.before).1
 
 returns-2 : tie.Need-returns-in-Gap
 returns-2 c =
     let s = c.args in
-    heard-missing s.self (tables s.peers.now s.snapshot-keys.now s.contested.now) c.requires s.key s.id c.in-Gap.i (find-says 12 1 s.self.peers s.id 0 s.peers.now (omega arith) (omega arith) (omega arith) c.requires.peers.fit c.find.result c.find.ensures ∙ c.in-Gap.is)
+    heard-missing s.self (tables s.peers.now s.snapshot_keys.now s.contested.now) c.requires s.key s.id c.in-Gap.i (find-says 12 1 s.self.peers s.id 0 s.peers.now (omega arith) (omega arith) (omega arith) c.requires.peers.fit c.find.result c.find.ensures ∙ c.in-Gap.is)
 
 returns-3 : tie.Need-returns-in-Unfit
 returns-3 c =

@@ -13,7 +13,7 @@ heard-taken-requires c κs =
 returns : tie.Need-returns
 returns c =
     let s = c.args in
-    c.join.ensures ∙ (λ k. join (c.heard_taken-taken.ensures k) (c.heard_contested-other.ensures k)) ∙ heard-at s.self (tables s.peers.now s.snapshot-keys.now s.contested.now) c.requires.0 s.key s.i c.requires.1
+    c.join.ensures ∙ (λ k. join (c.heard_taken-taken.ensures k) (c.heard_contested-other.ensures k)) ∙ heard-at s.self (tables s.peers.now s.snapshot_keys.now s.contested.now) c.requires.0 s.key s.i c.requires.1
 
 pub heard_from_spec : {M : Type 1} → statement M
 heard_from_spec =

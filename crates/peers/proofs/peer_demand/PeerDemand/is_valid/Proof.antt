@@ -10,21 +10,21 @@ use Rattle.records.proofs.Tables.TypedLaws.{all_words}
 use Rattle.peers.proofs.peer_demand.PeerDemand.is_valid.Statement.{statement}
 use Rattle.peers.proofs.peer_demand.PeerDemand.is_valid.Tie as tie
 
-scanned : (c : tie.After-shared_slice_known-3-1) → let s = c.args in is_scanned s.self (tables s.peers.now s.snapshot-keys.now s.contested.now) ≡ is_valid s.self (tables s.peers.now s.snapshot-keys.now s.contested.now)
+scanned : (c : tie.After-shared_slice_known-3-1) → let s = c.args in is_scanned s.self (tables s.peers.now s.snapshot_keys.now s.contested.now) ≡ is_valid s.self (tables s.peers.now s.snapshot_keys.now s.contested.now)
 scanned c =
     let s = c.args in
-    scanned-is-valid s.self (tables s.peers.now s.snapshot-keys.now s.contested.now) c.requires.0
+    scanned-is-valid s.self (tables s.peers.now s.snapshot_keys.now s.contested.now) c.requires.0
     (all_words s.peers.now (λ i. omega (arith, c.shared_slice_known-1.given i)))
-    (all_words s.snapshot-keys.now (λ i. omega (arith, c.shared_slice_known-2-1.given i)))
+    (all_words s.snapshot_keys.now (λ i. omega (arith, c.shared_slice_known-2-1.given i)))
     (all_words s.contested.now (λ i. omega (arith, c.shared_slice_known-3-1.given i)))
 
 abbrev start : tie.Else-not-are_peers → tie.Start
 start c = c.before.before.before.before.before.before.before
 
-roomy : (c : tie.Else-not-are_peers) → let s = (start c).args in Roomy (tables s.peers.now s.snapshot-keys.now s.contested.now)
+roomy : (c : tie.Else-not-are_peers) → let s = (start c).args in Roomy (tables s.peers.now s.snapshot_keys.now s.contested.now)
 roomy c =
     let s = (start c).args in
-    room_says (tables s.peers.now s.snapshot-keys.now s.contested.now) (start c).requires.0
+    room_says (tables s.peers.now s.snapshot_keys.now s.contested.now) (start c).requires.0
 
 passed : (c : tie.Else-not-are_peers) → are_peers (records 12 (start c).args.self.peers (start c).args.peers.now) ≡ true
 passed c = sym c.are_peers.ensures ∙ c.if-not-are_peers.false
@@ -35,7 +35,7 @@ ready c = peers-ready (start c).args.self.peers (start c).args.peers.now (roomy 
 are-peers-requires : tie.Need-are_peers-requires
 are-peers-requires c κs =
     let s = c.args in
-    (room_says (tables s.peers.now s.snapshot-keys.now s.contested.now) c.requires.0).peers
+    (room_says (tables s.peers.now s.snapshot_keys.now s.contested.now) c.requires.0).peers
 
 returns : tie.Need-returns-then-not-are_peers
 unfolding is_scanned

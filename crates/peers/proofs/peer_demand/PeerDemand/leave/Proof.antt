@@ -9,7 +9,7 @@ use Rattle.peers.proofs.peer_demand.PeerDemand.leave.Tie as tie
 abbrev start : tie.Else-no-ne0 → tie.Start
 start c = c.before.before.before.before.before.before
 
-sound : (c : tie.Else-no-ne0) → Tables (start c).args.self (tables (start c).args.peers.now (start c).args.snapshot-keys.now (start c).args.contested.now)
+sound : (c : tie.Else-no-ne0) → Tables (start c).args.self (tables (start c).args.peers.now (start c).args.snapshot_keys.now (start c).args.contested.now)
 sound c = tables-of _ _ (asked-all _ _ _ c.ask-no.ensures c.if-no-ne0.false)
 
 returns : tie.Need-returns-then-hold-eq0

@@ -18,7 +18,7 @@ count-keys-requires c κs =
 returns-2 : tie.Need-returns
 returns-2 c =
     let s = c.args in
-    let all-keys = c.count_keys.ensures ∙ asked-counted s.self (tables s.peers.now s.snapshot-keys.now s.contested.now) c.ask-asked.result c.ask-asked.ensures c.if-asked-ne0.false in
+    let all-keys = c.count_keys.ensures ∙ asked-counted s.self (tables s.peers.now s.snapshot_keys.now s.contested.now) c.ask-asked.result c.ask-asked.ensures c.if-asked-ne0.false in
     answer-yes _ _ c.ask-asked.result _ _ c.ask-asked.ensures c.if-asked-ne0.false all-keys
 
 pub len_spec : {M : Type 1} → statement M

@@ -16,7 +16,7 @@ abbrev start : tie.At-loop-i invariant-loop-i decreases-loop-i → tie.Start inv
 start c = c.before.before.before.before.before.before
 
 abbrev state : tie.Start invariant-loop-i decreases-loop-i → PeersState
-state s = state_of s.args.self (tables s.args.peers.now s.args.snapshot-keys.now s.args.contested.now)
+state s = state_of s.args.self (tables s.args.peers.now s.args.snapshot_keys.now s.args.contested.now)
 
 -- the key of a turn is within its table, and there is a place for what is told of it
 inside : (c : tie.In-loop-i invariant-loop-i decreases-loop-i) → c.loop-i.i * (start c.before).args.w < length (start c.before).args.keys.now

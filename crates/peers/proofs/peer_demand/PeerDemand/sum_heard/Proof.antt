@@ -19,7 +19,7 @@ decreases-loop-i self peers snapshot-keys contested key n snapshot-starts contes
 loop-holds : tie.Need-loop-i-init invariant-loop-i decreases-loop-i
 loop-holds c =
     let s = c.args in
-    (omega arith, total-starts s.self (tables s.peers.now s.snapshot-keys.now s.contested.now) s.key)
+    (omega arith, total-starts s.self (tables s.peers.now s.snapshot_keys.now s.contested.now) s.key)
 
 abbrev start : tie.In-loop-i invariant-loop-i decreases-loop-i → tie.Start invariant-loop-i decreases-loop-i
 start c = c.before.before.before.before.before.before.before
@@ -28,26 +28,26 @@ own-keys-requires : tie.Need-own_keys-own-requires invariant-loop-i decreases-lo
 own-keys-requires c κs =
     let st = start c.before.before in
     let s = st.args in
-    starts-room s.self (tables s.peers.now s.snapshot-keys.now s.contested.now) s.starts st.requires c.loop-i.i c.loop-i-test.true
+    starts-room s.self (tables s.peers.now s.snapshot_keys.now s.contested.now) s.starts st.requires c.loop-i.i c.loop-i-test.true
 
 heard-among-own-requires : tie.Need-heard_among_own-said-requires invariant-loop-i decreases-loop-i
 heard-among-own-requires c κs =
     let st = start c.before.before.before in
     let s = st.args in
-    (st.requires.ready, (own-told s.self (tables s.peers.now s.snapshot-keys.now s.contested.now) s.starts st.requires c.loop-i.i c.loop-i-test.true c.own_keys-own.result c.own_keys-own.ensures, c.loop-i-test.true))
+    (st.requires.ready, (own-told s.self (tables s.peers.now s.snapshot_keys.now s.contested.now) s.starts st.requires c.loop-i.i c.loop-i-test.true c.own_keys-own.result c.own_keys-own.ensures, c.loop-i-test.true))
 
 loop-again : tie.Need-loop-i-preserved invariant-loop-i decreases-loop-i
 loop-again c =
     let s = (start c.before.before.before.before.before).args in
     let l = c.loop-i in
-    let t = tables s.peers.now s.snapshot-keys.now s.contested.now in
+    let t = tables s.peers.now s.snapshot_keys.now s.contested.now in
     (omega (arith, c.loop-i-test.true), ap (λ (x : Float). total_from x s.key (state_of s.self t) (map peer_of (drop (l.i + 1) (records 12 s.self.peers s.peers.now)))) (c.add_heard-sum.ensures ∙ ap (add_heard l.sum) c.heard_among_own-said.ensures) ∙ sym (total-goes s.self t s.key (start c.before.before.before.before.before).requires.ready l.sum l.i c.loop-i-test.true) ∙ l.invariant.1)
 
 returns : tie.Need-returns invariant-loop-i decreases-loop-i
 returns c =
     let s = c.args in
     let l = c.loop-i in
-    sym (total-ends s.self (tables s.peers.now s.snapshot-keys.now s.contested.now) s.key l.sum l.i (omega arith)) ∙ l.invariant.1
+    sym (total-ends s.self (tables s.peers.now s.snapshot_keys.now s.contested.now) s.key l.sum l.i (omega arith)) ∙ l.invariant.1
 
 pub sum_heard_spec : {M : Type 1} → statement M
 sum_heard_spec =
