@@ -53,7 +53,7 @@ returns-2 c =
     (questions-are c.args.limiter c.args.keys.now c.requires.0 c.args.entry c.requires.1.0 c.args.attempts c.args.denials
     c.args.shadow_denials c.args.gcra))
     c.if-no-ne0.false _ _
-    (subst (λ (k : KeyRecord). Puts c.args.limiter c.args.keys.now k c.put.result c.put.new.1.0) c.raised.ensures
+    (subst (λ (k : KeyRecord). Puts c.args.limiter c.args.keys.now k c.put.result c.put.new.keys) c.raised.ensures
     c.put.ensures)
 
 pub raise_spec : {M : Type 1} → statement M

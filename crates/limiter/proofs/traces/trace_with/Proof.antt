@@ -61,7 +61,7 @@ returns c =
     with-no c.args.limiter c.args.keys.now c.args.shadows.now c.args.key c.args.limit c.args.shadow c.args.reading
     c.args.cluster_size c.entry-found.result c.entry-found.ensures
     c.ask_meter-asked.result.decision c.ask_meter-asked.result.gcra c.shadow_quota-wanted.result c.try_shadow-tried.result c.denied-denials.result
-    c.denied-tried_denials.result c.raise-raised.result c.raise-raised.new.1.0
+    c.denied-tried_denials.result c.raise-raised.result c.raise-raised.new.keys
     c.ask_meter-asked.ensures.0 c.ask_meter-asked.ensures.1 c.shadow_quota-wanted.ensures c.try_shadow-tried.ensures c.denied-denials.ensures
     c.denied-tried_denials.ensures c.raise-raised.ensures c.if-raised-ne0.true
 
@@ -77,7 +77,7 @@ put-shadow-requires c κs =
           with-room s.args.limiter s.args.keys.now s.args.shadows.now s.args.key s.args.limit s.args.shadow
               s.args.reading s.args.cluster_size c.entry-found.result c.entry-found.ensures
               c.ask_meter-asked.result.decision c.ask_meter-asked.result.gcra c.shadow_quota-wanted.result c.try_shadow-tried.result c.denied-denials.result
-              c.denied-tried_denials.result c.raise-raised.result c.raise-raised.new.1.0
+              c.denied-tried_denials.result c.raise-raised.result c.raise-raised.new.keys
               c.ask_meter-asked.ensures.0 c.ask_meter-asked.ensures.1 c.shadow_quota-wanted.ensures c.try_shadow-tried.ensures c.denied-denials.ensures
               c.denied-tried_denials.ensures c.raise-raised.ensures s.requires.1.1.1 c.if-raised-ne0.false,
         ),
@@ -90,7 +90,7 @@ returns-2 c =
     with-yes c.args.limiter c.args.keys.now c.args.shadows.now c.args.key c.args.limit c.args.shadow c.args.reading
     c.args.cluster_size c.entry-found.result c.entry-found.ensures
     c.ask_meter-asked.result.decision c.ask_meter-asked.result.gcra c.shadow_quota-wanted.result c.try_shadow-tried.result c.denied-denials.result
-    c.denied-tried_denials.result c.raise-raised.result c.raise-raised.new.1.0
+    c.denied-tried_denials.result c.raise-raised.result c.raise-raised.new.keys
     c.ask_meter-asked.ensures.0 c.ask_meter-asked.ensures.1 c.shadow_quota-wanted.ensures c.try_shadow-tried.ensures c.denied-denials.ensures
     c.denied-tried_denials.ensures c.raise-raised.ensures c.if-raised-ne0.false
     _ _ _ c.put_shadow-count.ensures c.with_shadows.ensures

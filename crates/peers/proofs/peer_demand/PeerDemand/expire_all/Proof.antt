@@ -27,7 +27,7 @@ retain-peers-requires : tie.Need-retain_peers-n-requires
 retain-peers-requires c κs =
     let s = first c.before.before.before in
     let o = sound s in (
-      contested-order s.args.self (lent s) o s.args.reading s.args.max_age c.retain_contested-c.result c.retain_contested-c.new.1.1.0 c.retain_contested-c.ensures,
+      contested-order s.args.self (lent s) o s.args.reading s.args.max_age c.retain_contested-c.result c.retain_contested-c.new.contested c.retain_contested-c.ensures,
       omega (arith, o.peers.within, o.peers.room),
       o.peers.exactly,
     )
@@ -37,8 +37,8 @@ retain-snapshot-keys-requires c κs =
     let r = second c.before.before.before in
     let s = first r in
     let o = sound s in (
-      peers-order s.args.self (lent s) o s.args.reading s.args.max_age r.retain_contested-c.result r.retain_contested-c.new.1.1.0 r.retain_contested-c.ensures
-          c.retain_peers-n.result c.retain_peers-n.new.1.1.0 c.retain_peers-n.ensures,
+      peers-order s.args.self (lent s) o s.args.reading s.args.max_age r.retain_contested-c.result r.retain_contested-c.new.contested r.retain_contested-c.ensures
+          c.retain_peers-n.result c.retain_peers-n.new.peers c.retain_peers-n.ensures,
       omega (arith, o.snapshot_keys.within, o.snapshot_keys.room),
     )
 
@@ -46,9 +46,9 @@ returns : tie.Need-returns
 returns c =
     let r = second c.before.before.before.before.before.before in
     let s = first r in
-    expired s.args.self (lent s) (sound s) s.args.reading s.args.max_age r.retain_contested-c.result r.retain_contested-c.new.1.1.0 r.retain_contested-c.ensures
-    c.retain_peers-n.result c.retain_peers-n.new.1.1.0 c.retain_peers-n.ensures
-    c.retain_snapshot_keys-k.result c.retain_snapshot_keys-k.new.1.1.0 c.retain_snapshot_keys-k.ensures
+    expired s.args.self (lent s) (sound s) s.args.reading s.args.max_age r.retain_contested-c.result r.retain_contested-c.new.contested r.retain_contested-c.ensures
+    c.retain_peers-n.result c.retain_peers-n.new.peers c.retain_peers-n.ensures
+    c.retain_snapshot_keys-k.result c.retain_snapshot_keys-k.new.snapshot_keys c.retain_snapshot_keys-k.ensures
 
 pub expire_all_spec : {M : Type 1} → statement M
 expire_all_spec =
