@@ -31,7 +31,7 @@ start e = e.before.before.before.before.before.before.before
 
 -- the list is long enough
 long : (e : tie.Else-not-fits) → let s = start e in fits (length s.args.list.now) 2 s.args.count ≡ true
-long e = told-yes e.fits-2.ensures e.if-not-fits.false
+long e = told-yes e.fits.ensures e.if-not-fits.false
 
 -- question 16 where the others pass
 rest : (e : tie.Else-no-ne0) {m : ℕ} → let s = start e.before.before in
@@ -46,7 +46,7 @@ rest e h =
     (passed_none (before s) _ (lit< tt, (lit< tt, (lit< tt, tt))) e.ask_cluster-no.ensures e.if-no-ne0.false))
 
 returns : tie.Need-returns-then-not-fits
-returns c = first-no 1 _ (told-no c.fits-2.ensures c.if-not-fits.true)
+returns c = first-no 1 _ (told-no c.fits.ensures c.if-not-fits.true)
 
 returns-2 : tie.Need-returns-then-no-ne0
 returns-2 c =
@@ -54,10 +54,10 @@ returns-2 c =
     first-yes 1 _ (long c.before.before) (first_more (before s) (last s) _ c.ask_cluster-no.ensures c.if-no-ne0.true)
 
 returns-3 : tie.Need-returns-then-not-fits-2
-returns-3 c = rest c.before.before (first-no 16 _ (sym (each-room _ _) ∙ told-no c.fits3.ensures c.if-not-fits-2.true))
+returns-3 c = rest c.before.before (first-no 16 _ (sym (each-room _ _) ∙ told-no c.fits-2.ensures c.if-not-fits-2.true))
 
 returns-4 : tie.Need-returns
-returns-4 c = rest c.before.before (first-yes 16 _ (sym (each-room _ _) ∙ told-yes c.fits3.ensures c.if-not-fits-2.false) first-none)
+returns-4 c = rest c.before.before (first-yes 16 _ (sym (each-room _ _) ∙ told-yes c.fits-2.ensures c.if-not-fits-2.false) first-none)
 
 pub ask_each_spec : {M : Type 1} → statement M
 ask_each_spec =

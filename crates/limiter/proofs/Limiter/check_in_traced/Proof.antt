@@ -51,10 +51,10 @@ trace-with-requires c κs =
     let p : PassedWith s (some tried) = subst (PassedWith s) (ap shadow_limit c.in-Of.is) (asked c.before.before.before) in
     let g : Given s.args.key s.args.limit s.args.reading =
     record {
-      key_word = word_of s.fits.key.fits;
-      rate_f64 = s.good.1.1.1.1.1.0.1.1.0.1;
+      key_word = word_of s.ranges.key.fits;
+      rate_f64 = s.well_formed.1.1.1.1.1.0.1.1.0.1;
       now_word = word_of
-          s.fits.reading.fits;
+          s.ranges.reading.fits;
     } in (
       ready s.args.self (lent s) p.room p.ok,
       (

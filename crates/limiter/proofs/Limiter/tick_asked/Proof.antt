@@ -59,7 +59,7 @@ finish-tick-requires c κs =
     (k.pass_one-passed.ensures (others s)
     (told-elsewhere s.args.peers (theirs s) p.peers (units_in l) l.keys s.args.keys.now _ _ _ b.hot_elsewhere_of_each.ensures
     (lent-keys l (lent s) p.room p.ok).fit (few_keys l (lent s) p.room p.ok).0))
-    _ (omega (arith, c.totals2.given)) p.size
+    _ (omega (arith, c.totals-2-1.given)) p.size
 
 abbrev ended : tie.After-slice_known-7-1 → tie.After-finish_tick
 ended c = c.before.before.before.before
@@ -69,10 +69,10 @@ over c = c.before.before.before.before.before.before
 
 same_length : tie.Need-shape_of-keys
 same_length c =
-    omega (arith, c.keys2.given, (over (ended c)).before.before.before.before.before.before.before.keys.given)
+    omega (arith, c.keys-2-1.given, (over (ended c)).before.before.before.before.before.before.before.keys-1.given)
 
 same-length-2 : tie.Need-shape_of-hot
-same-length-2 c = omega (arith, (over (ended c)).before.before.before.before.before.hot.given)
+same-length-2 c = omega (arith, (over (ended c)).before.before.before.before.before.hot-1.given)
 
 returns : tie.Need-returns
 unfolding state_of

@@ -82,7 +82,7 @@ abbrev turn : tie.After-put_answer-arg-1 invariant-loop-i decreases-loop-i → t
 turn c = c.before.before.before.before.before.before.before
 
 mul-put-answer : tie.Need-overflow_mul-i invariant-loop-i decreases-loop-i
-mul-put-answer c = omega (arith, room (turn c), same-output (turn c).before, (start (turn c)).good.1.1.1.1.1.0)
+mul-put-answer c = omega (arith, room (turn c), same-output (turn c).before, (start (turn c)).well_formed.1.1.1.1.1.0)
 
 put-answer-requires : tie.Need-put_answer-requires invariant-loop-i decreases-loop-i
 put-answer-requires c κs = room (turn c)
@@ -91,16 +91,16 @@ add-i : tie.Need-overflow_add-i invariant-loop-i decreases-loop-i
 add-i c = omega (arith, inside (turn c.before.before.before.before))
 
 loop-less : tie.Need-loop-i-smaller invariant-loop-i decreases-loop-i
-loop-less c = omega (arith, (turn c.before.before.before.before).loop-test.taken)
+loop-less c = omega (arith, (turn c.before.before.before.before).loop-i-test.true)
 
 loop-again : tie.Need-loop-i-preserved invariant-loop-i decreases-loop-i
 loop-again c =
     let e = turn c.before.before.before.before in
     let s = start e in
     let a = e.loop-i in (
-      omega (arith, e.loop-i-test.taken),
+      omega (arith, e.loop-i-test.true),
       reached-next s.args.limiter s.args.keys.now s.args.list.now s.args.count s.args.cluster_size s.args.out.now s.requires
-          a.i a.left a.keys a.out a.inv.1 c.check_key-checked.result _ _ c.check_key-checked.ensures c.put_answer.ensures
+          a.i a.left a.keys a.out a.invariant.1 c.check_key-checked.result _ _ c.check_key-checked.ensures c.put_answer.ensures
           (word_of (c.shared_slice_known-in-loop-i-2-1.given (a.i * 2)).fits) (word_of (c.shared_slice_known-in-loop-i-2-1.given (a.i * 2 + 1)).fits),
     )
 

@@ -4,6 +4,7 @@ use mathlib.Core.Logic.{⊎_elim}
 use native.Mathlib.Omega.{arith}
 use Rattle.limiter.proofs.PassOne.CopyLaws.{Copying, copy-none, copy-behind, copy-all, copy-skip, copy-next}
 use Rattle.limiter.proofs.pass_one.copy_flagged.Statement.{statement}
+use Rattle.limiter.proofs.pass_one.copy_flagged.Lts.{then-stays-i, else-stays-i}
 use Rattle.limiter.proofs.pass_one.copy_flagged.Tie as tie
 
 abbrev invariant-loop-i : tie.invariant-loop-i
@@ -15,8 +16,10 @@ decreases-loop-i from n stays to₀ kept₀ i₀ to kept i = n - i
 loop-again : tie.Need-loop-i-preserved invariant-loop-i decreases-loop-i
 loop-again c =
     let k = c.loop-i.invariant in
-    ⊎_elim (λ w. copy-next _ _ _ _ _ _ _ k c.loop-i-test.true w.0.true w.2 w.3)
-    (λ w. copy-skip _ _ _ _ _ _ _ k c.loop-i-test.true w.0.false w.1 w.2) c.if-stays-i.branch-raw
+    elim c.if-stays-i.branch [
+      then-stays-i w ↦ copy-next _ _ _ _ _ _ _ k c.loop-i-test.true w.if-stays-i.true w.to-is w.kept-is
+    | else-stays-i w ↦ copy-skip _ _ _ _ _ _ _ k c.loop-i-test.true w.if-stays-i.false w.to-is w.kept-is
+    ]
 
 pub copy_flagged_spec : {M : Type 1} → statement M
 copy_flagged_spec =

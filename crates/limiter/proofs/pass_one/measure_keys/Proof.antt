@@ -36,7 +36,7 @@ loop-again : tie.Need-loop-i-preserved invariant-loop-i decreases-loop-i
 loop-again c =
     let f = first c.before.before in
     let l = read f in
-    measure-more _ _ _ _ _ _ _ _ _ _ _ _ _ _ l.loop-i.inv l.loop-i-test.taken f.from_bits-rate.result c.from_bits.result
+    measure-more _ _ _ _ _ _ _ _ _ _ _ _ _ _ l.loop-i.invariant l.loop-i-test.true f.from_bits-rate.result c.from_bits.result
     f.from_bits-rate.ensures c.from_bits.ensures c.is_elsewhere.result c.is_elsewhere.ensures
 
 pub measure_keys_spec : {M : Type 1} → statement M
@@ -57,11 +57,11 @@ measure_keys_spec =
     (λ c. omega (arith, inside (read c)))
     (λ c. omega (arith, inside (read c.before)))
     (λ c κs. search rules)
-    (λ c. omega (arith, (read (first c)).before.loop.inv.cold_rates.fit))
-    (λ c. omega (arith, (read (first c)).before.loop.inv.cold_rates.fit))
-    (λ c. omega (arith, (read (first c.before)).before.loop.inv.told))
+    (λ c. omega (arith, (read (first c)).before.loop-i.invariant.cold_rates.fit))
+    (λ c. omega (arith, (read (first c)).before.loop-i.invariant.cold_rates.fit))
+    (λ c. omega (arith, (read (first c.before)).before.loop-i.invariant.told))
     (λ c κs. search rules)
-    (λ c. omega (arith, (read (first c.before.before)).before.loop.inv.elsewhere_flags.fit))
+    (λ c. omega (arith, (read (first c.before.before)).before.loop-i.invariant.elsewhere_flags.fit))
     (λ c. omega arith)
     (λ c. omega arith)
     loop-again

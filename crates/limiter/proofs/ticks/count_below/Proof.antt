@@ -7,6 +7,7 @@ use lib.ListN.{length, take, drop}
 use Rattle.limiter.specs.Steps.TickSteps.{below}
 use Rattle.limiter.proofs.Walking.CutLaws.{count-more, count_same, count-all}
 use Rattle.limiter.proofs.ticks.count_below.Statement.{statement}
+use Rattle.limiter.proofs.ticks.count_below.Lts.{then-ranks-i, else-ranks-i}
 use Rattle.limiter.proofs.ticks.count_below.Tie as tie
 
 abbrev invariant-loop-i : tie.invariant-loop-i
@@ -23,8 +24,10 @@ loop-again c =
     let l = c.loop-i in
     let t = c.loop-i-test.true in
     let k = l.invariant in
-    ⊎_elim (λ w. (k.0, omega arith, omega arith, omega (arith, count-more _ _ k.0 _ _ _ t k.3 w.0.true)))
-    (λ w. (k.0, omega arith, omega arith, omega (arith, count_same _ _ k.0 _ _ _ t k.3 w.0.false))) c.if-ranks-i.branch-raw
+    elim c.if-ranks-i.branch [
+      then-ranks-i w ↦ (k.0, omega arith, omega arith, omega (arith, count-more _ _ k.0 _ _ _ t k.3 w.if-ranks-i.true))
+    | else-ranks-i w ↦ (k.0, omega arith, omega arith, omega (arith, count_same _ _ k.0 _ _ _ t k.3 w.if-ranks-i.false))
+    ]
 
 returns : tie.Need-returns invariant-loop-i decreases-loop-i
 returns c = let k = c.loop-i.invariant in count-all _ _ k.0 _ _ _ k.1 c.loop-i-test.false k.3

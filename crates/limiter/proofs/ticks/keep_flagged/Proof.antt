@@ -7,6 +7,7 @@ use borrow.Author.Rules.{rules}
 use lib.ListN.{length}
 use Rattle.limiter.proofs.Walking.FlagLaws.{Flagging, flag-none, flag-long, flag-all, flag-inside, flag-skip, flag-copy}
 use Rattle.limiter.proofs.ticks.keep_flagged.Statement.{statement}
+use Rattle.limiter.proofs.ticks.keep_flagged.Lts.{then-stays-i, else-stays-i}
 use Rattle.limiter.proofs.ticks.keep_flagged.Tie as tie
 
 abbrev invariant-loop-i : tie.invariant-loop-i
@@ -30,8 +31,10 @@ inside c =
 
 loop-again : tie.Need-loop-i-preserved invariant-loop-i decreases-loop-i
 loop-again c =
-    ⊎_elim (λ w. flag-copy _ _ _ _ _ _ _ c.loop-i.invariant c.loop-i-test.true w.0.true (w.5 ∙ w.2.ensures.1) w.6)
-    (λ w. flag-skip _ _ _ _ _ _ _ c.loop-i.invariant c.loop-i-test.true w.0.false w.1 w.2) c.if-stays-i.branch-raw
+    elim c.if-stays-i.branch [
+      then-stays-i w ↦ flag-copy _ _ _ _ _ _ _ c.loop-i.invariant c.loop-i-test.true w.if-stays-i.true (w.t-is ∙ w.copy_words.ensures.1) w.kept-is
+    | else-stays-i w ↦ flag-skip _ _ _ _ _ _ _ c.loop-i.invariant c.loop-i-test.true w.if-stays-i.false w.t-is w.kept-is
+    ]
 
 same_length : tie.Need-shape_of-t invariant-loop-i decreases-loop-i
 same_length c = flag-long _ _ _ _ _ _ _ c.loop-i.invariant

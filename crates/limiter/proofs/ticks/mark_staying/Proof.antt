@@ -20,7 +20,7 @@ loop-holds c = let p = c.requires in (p.0, fill_none _ _ _ p.1)
 loop-again : tie.Need-loop-i-preserved invariant-loop-i decreases-loop-i
 loop-again c =
     let k = c.loop-i.invariant in
-    (k.0, mark-more _ _ k.0 _ _ _ _ _ _ _ c.goes.result k.1 c.loop-i-test.true c.goes.ensures c.Room-after.ensures)
+    (k.0, mark-more _ _ k.0 _ _ _ _ _ _ _ c.goes.result k.1 c.loop-i-test.true c.goes.ensures c.room_after-left.ensures)
 
 pub mark_staying_spec : {M : Type 1} → statement M
 mark_staying_spec =
