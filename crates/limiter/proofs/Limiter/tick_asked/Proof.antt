@@ -69,10 +69,10 @@ over c = c.before.before.before.before.before.before
 
 same_length : tie.Need-shape_of-keys
 same_length c =
-    omega (arith, c.keys-2-1.given, (over (ended c)).before.before.before.before.before.before.before.keys-1.given)
+    omega (arith, c.keys-2-1.given, (over (ended c)).keys-1.given)
 
 same-length-2 : tie.Need-shape_of-hot
-same-length-2 c = omega (arith, (over (ended c)).before.before.before.before.before.hot-1.given)
+same-length-2 c = omega (arith, (over (ended c)).hot-1.given)
 
 returns : tie.Need-returns
 unfolding state_of
