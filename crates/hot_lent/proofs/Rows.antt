@@ -5,11 +5,11 @@
 -- at-48        element i of elements of 48 bytes lies at i * 48 past the first.        product-fits     i * 48 fits a usize, where i is an index of
 -- a slice
 --     copied-long, turn-long       the words of a `Copied` and of a `Turn` are 384
-use mathlib.Core.Path.{◌≡◌, sym, ◌∙◌}
+use mathlib.Core.Path.{◌≡◌}
 use mathlib.Core.List.{List}
 use Prim.Native.Nat.{ℕ, ◌+◌, ◌*◌, ◌<◌, ◌^◌}
 use native.Mathlib.Omega.{arith}
-use lib.ListN.{length, length-map}
+use lib.ListN.{length}
 use seplogic.Ra.Ura.{Ura}
 use mir.Syntax.{Ty}
 use mir.Val.{Val}
@@ -125,7 +125,7 @@ pub at-48 : (o i : ℕ) → place 48 o i ≡ i * 48 + o
 at-48 o i = place_is 48 o i
 
 pub copied-long : (c : Copied) (vs : List Val) → Is C.the_row c vs → length c.words ≡ 384
-copied-long c vs is = sym (length-map c.words (λ v. v)) ∙ (LL.owed C.the_type C'.the_laws c vs is).0.1.0.1
+copied-long c vs is = (LL.owed C.the_type C'.the_laws c vs is).0.1.0.1
 
 pub turn-long : (t : Turn) (vs : List Val) → Is U.the_row t vs → length t.words ≡ 384
-turn-long t vs is = sym (length-map t.words (λ v. v)) ∙ (LL.owed U.the_type U'.the_laws t vs is).1.0.1.0.1
+turn-long t vs is = (LL.owed U.the_type U'.the_laws t vs is).1.0.1.0.1

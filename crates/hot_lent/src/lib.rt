@@ -1,5 +1,7 @@
 // The hot set over a lent slice of entries: they are copied to the words of their records, the
 // functions over words act on these, and the entries that an update leaves are copied back.
+#![tactic(auto)]
+
 ghost use Rattle.std.specs.Prelude.{◌≡◌, false, ◌+◌, ◌-◌, ◌*◌, ◌≤◌, ◌<◌, min, length, take};
 ghost use Rattle.hot.specs.HotSet.Set as Set;
 ghost use Rattle.hot.specs.HotSet.Calls as Calls;

@@ -11,10 +11,6 @@ use Rattle.hot_lent.proofs.CopyLaws.{appended}
 use Rattle.hot_lent.proofs.Rows.{copied-long}
 use Rattle.hot_lent.proofs.append.Statement.{statement}
 use Rattle.hot_lent.proofs.append.Tie as tie
-use Rattle.hot_lent.proofs.append.Reads as reads
-use Rattle.hot_lent.proofs.append.Lts as lts
-use Rattle.hot.proofs.hot_set.HotEntry.words.Reads as words-reads
-use Rattle.records.proofs.insert.Reads as insert-reads
 
 -- src/lib.rt:58:13
 words-requires : tie.Need-words-r-requires
@@ -39,16 +35,15 @@ add-t13 c = search rules
 -- src/lib.rt:52:1
 returns : tie.Need-returns
 returns c =
-    let b = c.before.before.before.before.before.before in
-    let t = b.args in
+    let t = c.args in
     record {
       count = refl;
       copied =
           ap (take ((t.copied.len + 1) * 6))
-          (c.before.insert.ensures.1 ∙ ap (λ (r : List ℕ). inserted 6 t.copied.len t.copied.len r t.copied.words) c.before.before.before.before.words-r.ensures)
+          (c.insert.ensures.1 ∙ ap (λ (r : List ℕ). inserted 6 t.copied.len t.copied.len r t.copied.words) c.words-r.ensures)
           ∙ appended t.copied.len (words t.entry) t.copied.words (length-words t.entry) (omega (
             arith,
-            copied-long t.copied _ b.well_formed.0,
+            copied-long t.copied _ c.well_formed.0,
           ));
     }
 

@@ -7,7 +7,7 @@ use Rattle.hot_lent.proofs.entry_left.Statement.{statement}
 use Rattle.hot_lent.proofs.entry_left.Tie as tie
 
 returns : tie.Need-returns
-returns c = c.of_record.ensures ∙ entry-of-six c.before.before.args.turn.words (c.before.before.args.i * 6)
+returns c = c.of_record.ensures ∙ entry-of-six c.args.turn.words (c.args.i * 6)
 
 pub entry_left_spec : {M : Type 1} → statement M
 entry_left_spec =

@@ -12,13 +12,11 @@ mul-n c = search rules
 
 array-share-prefix-words : tie.Need-slice_bounds-words-end
 array-share-prefix-words c =
-    let b = c.before.before in
-    omega (arith, copied-long b.args.copied _ b.well_formed.1.0)
+    omega (arith, copied-long c.args.copied _ c.well_formed.1.0)
 
 slice-aggregate-hot-since : tie.Need-slice_bounds-hot_since-end
 slice-aggregate-hot-since c =
-    let b = c.before.before.before in
-    sym (length-take-le _ b.args.copied.words (omega (arith, copied-long b.args.copied _ b.well_formed.1.0)))
+    sym (length-take-le _ c.args.copied.words (omega (arith, copied-long c.args.copied _ c.well_formed.1.0)))
 
 hot-since-requires : tie.Need-hot_since-requires
 hot-since-requires c κs = search rules

@@ -12,13 +12,11 @@ mul-n c = search rules
 
 array-share-prefix-words : tie.Need-slice_bounds-words-end
 array-share-prefix-words c =
-    let b = c.before.before in
-    omega (arith, copied-long b.args.copied _ b.well_formed.1.0)
+    omega (arith, copied-long c.args.copied _ c.well_formed.1.0)
 
 slice-aggregate-is-primary : tie.Need-slice_bounds-is_primary-end
 slice-aggregate-is-primary c =
-    let b = c.before.before.before in
-    sym (length-take-le _ b.args.copied.words (omega (arith, copied-long b.args.copied _ b.well_formed.1.0)))
+    sym (length-take-le _ c.args.copied.words (omega (arith, copied-long c.args.copied _ c.well_formed.1.0)))
 
 is-primary-requires : tie.Need-is_primary-requires
 is-primary-requires c κs = search rules

@@ -16,13 +16,11 @@ mul-n c = search rules
 
 array-borrow-prefix-words : tie.Need-slice_bounds-words-end
 array-borrow-prefix-words c =
-    let b = c.before.before in
-    omega (arith, copied-long b.args.copied _ b.well_formed.1.0)
+    omega (arith, copied-long c.args.copied _ c.well_formed.1.0)
 
 slice-aggregate-update-with : tie.Need-slice_bounds-update_with-end
 slice-aggregate-update-with c =
-    let b = c.before.before.before in
-    sym (length-take-le _ b.args.copied.words (omega (arith, copied-long b.args.copied _ b.well_formed.1.0)))
+    sym (length-take-le _ c.args.copied.words (omega (arith, copied-long c.args.copied _ c.well_formed.1.0)))
 
 update-with-requires : tie.Need-update_with-answer-requires
 update-with-requires c κs = search rules
@@ -32,13 +30,12 @@ length-left-requires c κs = search rules
 
 returns : tie.Need-returns
 returns c =
-    let b = c.before.before.before.before.before.before in
-    let t = b.args in
+    let t = c.args in
     record {
-      answered = c.before.before.update_with-answer.ensures.answered;
+      answered = c.update_with-answer.ensures.answered;
       left =
-          turn-of t.set _ t.key t.demand_rate t.threshold t.now t.hot_elsewhere (fits-true _ b.well_formed.1.1.1.0.1) _ _ _
-          (drop (t.copied.len * 6) t.copied.words) _ c.length_left-len.ensures refl c.before.before.update_with-answer.ensures;
+          turn-of t.set _ t.key t.demand_rate t.threshold t.now t.hot_elsewhere (fits-true _ c.well_formed.1.1.1.0.1) _ _ _
+          (drop (t.copied.len * 6) t.copied.words) _ c.length_left-len.ensures refl c.update_with-answer.ensures;
     }
 
 pub update_in_spec : {M : Type 1} → statement M
