@@ -240,7 +240,7 @@ first (checks {g} f) = (g, refl, f)
 -- the checks after some
 later : {m m' : Option Gcra} (us ds : List Decided) → Follows m (us ++ ds) m' → (n : Option Gcra) × Follows n ds m'
 later {m} [] ds f = (m, f)
-later (u ∷ us) ds f = later us ds (first f).2
+later {m = m} (u ∷ us) ds f = later {m = some (check (first f).0 u.at)} us ds (first f).2
 
 -- denied checks leave the meter
 denied-stay : {g : Gcra} {m : Option Gcra} (vs ds : List Decided) → all is_denied vs ≡ true → Follows (some g) (vs ++ ds) m → Follows (some g) ds m

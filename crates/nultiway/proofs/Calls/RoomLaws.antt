@@ -1,7 +1,7 @@
 -- Laws: a call by the length of the one lent buffer, by a test of the lengths, by two of them, and by those of the peers.
 use Prim.Native.Nat.{ℕ, ◌≤◌, ◌<◌}
 use mathlib.Core.Path.{◌≡◌, refl}
-use mathlib.Core.Bool.{Bool, true, false, not, ◌&&◌}
+use mathlib.Core.Bool.{Bool, true, false, ◌&&◌}
 use mathlib.Core.List.{[]}
 use borrow.Author.Tests.{leb-true, le-leb, lt-leb}
 use lib.Dec.{leb}
@@ -22,10 +22,10 @@ called-room {size} {n} {r} h a = passed-call (room_asked (leb size n)) r (room-p
 -- ---- by a test that the code worked out
 
 module _ {told room : Bool} {Unmoved Answered : Type 0} (e : told ≡ room) where
-  pub called-no : not told ≡ true → Unmoved → Called (room_asked room) 1 Unmoved Answered
+  pub called-no : told ≡ false → Unmoved → Called (room_asked room) 1 Unmoved Answered
   called-no h u = refused-call (room_asked room) 1 (first-no 1 [] (told-no e h)) one u
 
-  pub called-yes : {r : ℕ} → not told ≡ false → Answered → Called (room_asked room) r Unmoved Answered
+  pub called-yes : {r : ℕ} → told ≡ true → Answered → Called (room_asked room) r Unmoved Answered
   called-yes {r} h a = passed-call (room_asked room) r (room-passed room (told-yes e h)) a
 
 -- ---- two lengths

@@ -8,9 +8,8 @@ use Rattle.nultiway.proofs.demand_calls.put_changed.Tie as tie
 
 returns-2 : tie.Need-returns-in-Is
 returns-2 c =
-    let said2 = c.said2 in
     let put-demand = c.put_demand in
-    said_put _ _ _ _ _ (ap demand_answer said2.given.1) put-demand.ensures
+    said_put _ _ _ _ _ (ap demand_answer c.in-Is.is) put-demand.ensures
 
 pub put_changed_spec : {M : Type 1} → statement M
 put_changed_spec =

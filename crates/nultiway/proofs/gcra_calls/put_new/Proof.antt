@@ -8,9 +8,8 @@ use Rattle.nultiway.proofs.gcra_calls.put_new.Tie as tie
 
 returns-2 : tie.Need-returns-in-Is
 returns-2 c =
-    let said2 = c.said2 in
     let put-gcra = c.put_gcra in
-    said_put _ _ _ _ _ (ap gcra_answer said2.given.1) put-gcra.ensures
+    said_put _ _ _ _ _ (ap gcra_answer c.in-Is.is) put-gcra.ensures
 
 pub put_new_spec : {M : Type 1} → statement M
 put_new_spec =

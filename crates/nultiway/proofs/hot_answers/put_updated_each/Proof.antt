@@ -8,9 +8,8 @@ use Rattle.nultiway.proofs.hot_answers.put_updated_each.Tie as tie
 
 returns-2 : tie.Need-returns-in-Is
 returns-2 c =
-    let said2 = c.said2 in
     let put-hot-set = c.put_hot_set in
-    said_put _ _ _ _ _ (ap each_answer said2.given.1) put-hot-set.ensures
+    said_put _ _ _ _ _ (ap each_answer c.in-Is.is) put-hot-set.ensures
 
 pub put_updated_each_spec : {M : Type 1} → statement M
 put_updated_each_spec =

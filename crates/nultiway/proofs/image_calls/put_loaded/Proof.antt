@@ -14,10 +14,9 @@ returns c =
 returns-2 : tie.Need-returns-in-Is
 returns-2 c =
     let a = c.args in
-    let said2 = c.said2 in
     let put-limiter = c.put_limiter in
     let put-peers = c.put_peers in
-    loaded-put a.limiter.now a.peers.now (ap load_answer said2.given.1) put-limiter.ensures put-peers.ensures
+    loaded-put a.limiter.now a.peers.now (ap load_answer c.in-Is.is) put-limiter.ensures put-peers.ensures
 
 pub put_loaded_spec : {M : Type 1} → statement M
 put_loaded_spec =

@@ -30,7 +30,7 @@ abbrev called : tie.After-put_limiter-arg-1 → tie.After-check_in-checked
 called a = a.before.before.before.before
 
 limiter-of-requires : tie.Need-limiter_of-before-requires
-limiter-of-requires c κs = (passed c.before).long
+limiter-of-requires c κs = (passed c).long
 
 put-limiter-requires : tie.Need-put_limiter-requires
 put-limiter-requires c κs = (passed (entered (called c))).long

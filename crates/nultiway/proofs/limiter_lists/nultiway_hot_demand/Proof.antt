@@ -21,7 +21,7 @@ passed e = opened _ _ _ _ e.ask_limiter-no.ensures e.if-no-ne0.false
 
 returns-2 : tie.Need-returns
 returns-2 c =
-    passed-call _ _ (passed c.before).passed
+    passed-call _ _ (passed c.before.before.before.before.before.before.before.before.before).passed
     (tells c.limiter_of-limiter.ensures c.hot_demand-said.result c.hot_demand-said.ensures
     c.put_len.ensures.0 c.put_len.ensures.1)
 

@@ -12,9 +12,8 @@ use Rattle.nultiway.proofs.lone_answers.put_debt.Tie as tie
 returns-2 : tie.Need-returns-in-Is
 returns-2 c =
     let a = c.args in
-    let said2 = c.said2 in
     let flag_word = c.flag_word in
-    said_put _ _ _ _ _ (ap debt_answer said2.given.1)
+    said_put _ _ _ _ _ (ap debt_answer c.in-Is.is)
     (c.put.ensures ∙ ap (λ (x : ℕ). paste 0 (x ∷ []) a.to.now) flag_word.ensures)
 
 pub put_debt_spec : {M : Type 1} → statement M

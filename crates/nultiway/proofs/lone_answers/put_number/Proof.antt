@@ -8,8 +8,7 @@ use Rattle.nultiway.proofs.lone_answers.put_number.Tie as tie
 
 returns-2 : tie.Need-returns-in-Is
 returns-2 c =
-    let said2 = c.said2 in
-    said_put _ _ _ _ _ (ap number_answer said2.given.1) c.put.ensures
+    said_put _ _ _ _ _ (ap number_answer c.in-Is.is) c.put.ensures
 
 pub put_number_spec : {M : Type 1} → statement M
 put_number_spec =

@@ -8,13 +8,11 @@ use Rattle.nultiway.proofs.lone_answers.put_retry.Tie as tie
 
 returns-2 : tie.Need-returns-in-Now
 returns-2 c =
-    let enum_told = c.enum_told-1 in
-    said_put _ _ _ _ _ (ap retry_answer enum_told.given.1) c.put.ensures
+    said_put _ _ _ _ _ (ap retry_answer c.in-Now.is) c.put.ensures
 
 returns-3 : tie.Need-returns-in-After
 returns-3 c =
-    let said2 = c.said2 in
-    said_put _ _ _ _ _ (ap retry_answer said2.given.1) c.put-in-After.ensures
+    said_put _ _ _ _ _ (ap retry_answer c.in-After.is) c.put-in-After.ensures
 
 pub put_retry_spec : {M : Type 1} → statement M
 put_retry_spec =

@@ -11,15 +11,13 @@ use Rattle.nultiway.proofs.peer_answers.put_heard.Tie as tie
 
 returns-2 : tie.Need-returns-in-Nothing
 returns-2 c =
-    let enum_told = c.enum_told-1 in
-    said_put _ _ _ _ _ (ap heard_answer enum_told.given.1) c.put.ensures
+    said_put _ _ _ _ _ (ap heard_answer c.in-Nothing.is) c.put.ensures
 
 returns-3 : tie.Need-returns-in-Is
 returns-3 c =
     let a = c.args in
-    let said2 = c.said2 in
     let heard-words = c.heard_words-w in
-    said_put _ _ _ _ _ (ap heard_answer said2.given.1)
+    said_put _ _ _ _ _ (ap heard_answer c.in-Is.is)
     (c.put-in-Is.ensures ∙ ap (λ (ws : List ℕ). paste 0 ws a.to.now) heard-words.ensures)
 
 pub put_heard_spec : {M : Type 1} → statement M

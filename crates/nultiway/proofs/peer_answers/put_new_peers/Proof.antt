@@ -8,9 +8,8 @@ use Rattle.nultiway.proofs.peer_answers.put_new_peers.Tie as tie
 
 returns-2 : tie.Need-returns-in-Is
 returns-2 c =
-    let said2 = c.said2 in
     let put-peers = c.put_peers in
-    said_put _ _ _ _ _ (ap peers_answer said2.given.1) put-peers.ensures
+    said_put _ _ _ _ _ (ap peers_answer c.in-Is.is) put-peers.ensures
 
 pub put_new_peers_spec : {M : Type 1} → statement M
 put_new_peers_spec =

@@ -12,9 +12,8 @@ use Rattle.nultiway.proofs.peer_answers.put_total.Tie as tie
 returns-2 : tie.Need-returns-in-Is
 returns-2 c =
     let a = c.args in
-    let said2 = c.said2 in
     let to-bits = c.to_bits in
-    said_put _ _ _ _ _ (ap total_answer said2.given.1)
+    said_put _ _ _ _ _ (ap total_answer c.in-Is.is)
     (c.put.ensures ∙ ap (λ (x : ℕ). paste 0 (x ∷ []) a.to.now) to-bits.ensures)
 
 pub put_total_spec : {M : Type 1} → statement M

@@ -59,8 +59,7 @@ returns-2 c =
     let report-of = c.report_of-sent in
     let apply = c.apply-changed in
     let put-peers = c.put_peers in
-    passed-call _ _ (passed
-    c.before.before.before.before.before.before.before.before.before.before.before.before.before.before.before.before.before.before.before.before).all_passed
+    passed-call _ _ (passed c.before.before.before.before.before.before.before.before.before.before.before.before.before.before.before.before.before.before.before).all_passed
     (changes (sent peers-of.ensures new.ensures report-of.ensures) apply.result apply.ensures c.change_number.ensures
     put-peers.ensures)
 

@@ -58,10 +58,10 @@ loop-again c =
     let ws = s.args.words.now in
     let l = c.loop-i in
     let three : l.i * 3 + 3 - l.i * 3 ≡ 3 = omega arith in
-    let key : c.Listed-of.result ≡ listed_of (take 3 (drop (l.i * 3) ws)) =
-    c.Listed-of.ensures ∙ ap (λ (k : ℕ). listed_of (take k (drop (l.i * 3) ws))) three in (
+    let key : c.listed_of-key.result ≡ listed_of (take 3 (drop (l.i * 3) ws)) =
+    c.listed_of-key.ensures ∙ ap (λ (k : ℕ). listed_of (take k (drop (l.i * 3) ws))) three in (
       omega arith,
-      ap (λ (ks : List KeyDemand). set ks l.i c.Listed-of.result) l.invariant.1
+      ap (λ (ks : List KeyDemand). set ks l.i c.listed_of-key.result) l.invariant.1
           ∙ ap (λ (k : KeyDemand). set (keys_of l.i ws) l.i k) key
           ∙ keys_step ws l.i (omega (arith, s.requires.0)),
     )

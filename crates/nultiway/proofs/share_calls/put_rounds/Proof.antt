@@ -8,8 +8,7 @@ use Rattle.nultiway.proofs.share_calls.put_rounds.Tie as tie
 
 returns-2 : tie.Need-returns-in-Is
 returns-2 c =
-    let said2 = c.said2 in
-    said_put _ _ _ _ _ (ap rounds_answer said2.given.1) c.put.ensures
+    said_put _ _ _ _ _ (ap rounds_answer c.in-Is.is) c.put.ensures
 
 pub put_rounds_spec : {M : Type 1} → statement M
 put_rounds_spec =

@@ -18,7 +18,7 @@ returns-2 : tie.Need-returns-then-words-lt-PEERS_WORDS
 returns-2 c = then c.before _ false (stop _ _ (lt-leb _ _ c.if-words-lt-PEERS_WORDS.true))
 
 returns-3 : tie.Need-returns
-returns-3 c = let w = c in then w.before _ _ (goes _ _ _ (le-leb _ _ w.if-words-lt-PEERS_WORDS.false) c.peers_fit.ensures)
+returns-3 c = then c.before.before _ _ (goes _ _ _ (le-leb _ _ c.if-words-lt-PEERS_WORDS.false) c.peers_fit.ensures)
 
 pub peers_have_room_spec : {M : Type 1} → statement M
 peers_have_room_spec = tie.close (tie.spec returns returns-2 (λ c κs. search rules) returns-3)
