@@ -29,15 +29,15 @@ module _ (At : Buffers → Resume → Buffers → Type 0) (keeps : (b b' : Buffe
       → (xs ≡ shown_by s ms) × Stands last (state_after s ms)
   unfolding shown_by state_after all
   run-shows [] w st Runs.end = (refl, st)
-  run-shows {s = s} (Move.call c ∷ ms) w st (Runs.calls step rest) =
+  run-shows {b = b} {s = s} (Move.call c ∷ ms) w st (Runs.calls {b' = b'} step rest) =
       let k = both (typed_call c) (all typed_move ms) w in
       let u = steps-lead c k.0 st step in
-      let z = run-shows ms k.1 u.stands rest in
+      let z = run-shows {b = b'} ms k.1 u.stands rest in
       ((λ i. Shown.answered (u.says i) (same-image u.stands.values i) ∷ z.0 i), z.1)
   run-shows {b} {last} {s} (Move.resume w ∷ ms) t st (Runs.resumes {b' = b'} at rest) =
       let k = both true (all typed_move ms) t in
       let st' = keeps b b' s w st at in
-      let z = run-shows ms k.1 st' rest in
+      let z = run-shows {b = b'} ms k.1 st' rest in
       ((λ i. Shown.resumed (same-image st'.values i) ∷ z.0 i), z.1)
 
 -- nothing happens there in the unbroken run
