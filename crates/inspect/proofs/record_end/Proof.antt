@@ -12,7 +12,7 @@ returns c = omega (arith, c.requires)
 
 returns-2 : tie.Need-returns-in-Is
 returns-2 c =
-    record-within c.args.here c.args.image.now _ (sym (ap record_told c.«record».given.1) ∙ c.record_at.ensures)
+    record-within c.args.here c.args.image.now _ (sym (ap record_told c.in-Is.is) ∙ c.record_at.ensures)
 
 pub record_end_spec : {M : Type 1} → statement M
 record_end_spec = tie.close (tie.spec (λ c κs. search rules) (λ c. search rules) (λ c. search rules) returns returns-2)

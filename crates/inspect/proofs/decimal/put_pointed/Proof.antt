@@ -20,7 +20,6 @@ put_pointed_spec =
     (λ c. search rules)
     slice-aggregate-put
     (λ c κs. search rules)
-    (λ c. search rules)
     (λ c κs. search rules)
     (λ c. search rules)
     (λ c. search rules)
