@@ -1,4 +1,5 @@
 // Demand: the decay weight, estimators and a node's share of a limit.
+#![tactic(auto)]
 
 pub mod allocation;
 pub mod answers;

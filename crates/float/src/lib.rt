@@ -1,5 +1,7 @@
 // The float helpers of the limiter, each defined from IEEE 754 and total: the conversions between
 // u64 and f64, ceil and round, min and max, totalOrder, and bit patterns with the NaNs among them.
+#![tactic(auto)]
+
 pub mod whole;
 pub mod wide;
 

@@ -1,6 +1,8 @@
 // The meter: ITU-T I.371's virtual scheduling, known as GCRA, whose state is one number, the TAT
 // (theoretical arrival time). A check whose reading is below TAT - tau is denied; an allowed one adds
 // T, the interval, to the TAT.
+#![tactic(auto)]
+
 ghost use Rattle.std.specs.Prelude.{◌≡◌, ◌+◌, ◌-◌, ◌*◌, ◌^◌, ◌≤◌, ◌<◌, min, max};
 ghost use Rattle.gcra.specs.Packed as Packed;
 ghost use Rattle.gcra.specs.Packed.{Accepted};

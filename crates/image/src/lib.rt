@@ -1,4 +1,6 @@
 // The saved image of a limiter and its peers: `save` writes it, `load` takes nothing else.
+#![tactic(auto)]
+
 pub mod judge;
 pub mod room;
 pub mod rows;

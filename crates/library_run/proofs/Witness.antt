@@ -17,7 +17,7 @@ use Rattle.run.proofs.Standing.Shows.{shown_by}
 use Rattle.run.proofs.Count.Tight as tight
 use Rattle.run.proofs.Count.Tight.{settings, enough, changes, bound_of, reached}
 use Rattle.run.proofs.Count.Witness.{zeros, length-zeros, held, held_peers, held-long, limiter-passes, peers-pass, settings-typed, within-itself}
-use Rattle.library_run.specs.Calls.{Buffers, Lent}
+use Rattle.library_run.specs.Calls.{Buffers}
 use Rattle.library_run.specs.Runs.{Move, Shown, Unbroken, Started, lent_by}
 use Rattle.library_run.specs.Trace.{moves_in, shown_in}
 use Rattle.library_run.specs.Demand3.{typed_move, Fit, Claim}

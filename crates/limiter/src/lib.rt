@@ -1,6 +1,8 @@
 // The limiter of a node: a quota and a meter for every tracked key. A cold key gets a part of
 // the even split, a hot one the share that a tick gives it. Settings and counts are by value; the
 // records of keys, hot keys and shadows stand in lent tables.
+#![tactic(auto)]
+
 mod checks;
 mod key_record;
 mod lists;

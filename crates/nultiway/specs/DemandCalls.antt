@@ -1,6 +1,6 @@
 -- The promise of each function of the library on an estimator, a share or the rounds of reports alone. Definitions only.
 use Rattle.std.specs.Prelude.{ℕ, zero, suc, ◌≡◌, Bool, true, ◌&&◌, List, [], ◌∷◌, ◌++◌, leb, length, get_or}
-use Rattle.questions.specs.Questions.{Question, ◌asks◌, Answer, given, answer}
+use Rattle.questions.specs.Questions.{Question, ◌asks◌, given, answer}
 use Rattle.demand.specs.declared.answers.FlagAnswer.{FlagAnswer}
 use Rattle.demand.specs.declared.demand.Times.{Times}
 use Rattle.demand.specs.declared.demand.Times.TheVariants.{Unset, At}

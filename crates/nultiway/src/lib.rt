@@ -1,6 +1,8 @@
 // The library for programs in other languages: each function under a C name, its values in words
 // that the caller lends. A function answers 0, or the number of the first question that was
 // answered 'no'; then no lent word has changed.
+#![tactic(auto)]
+
 mod answers;
 pub mod demand_calls;
 pub mod gcra_calls;

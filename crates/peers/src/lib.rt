@@ -1,4 +1,5 @@
 // What the peers report, and what a node makes of it.
+#![tactic(auto)]
 
 pub mod boundary;
 mod peer_changes;

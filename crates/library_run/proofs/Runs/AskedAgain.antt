@@ -32,7 +32,7 @@ use Rattle.nultiway.specs.LimiterCalls as limiter
 use Rattle.nultiway.specs.PeerCalls as peers
 use Rattle.nultiway.proofs.Calls.CallLaws.{passed-call, room-passed, room-told, was-open, zero-passed}
 use Rattle.library_run.specs.Calls.{Buffers, Call, Said, values_of}
-use Rattle.library_run.specs.Runs.{Step, Resume, Resumes, Started, lent_by}
+use Rattle.library_run.specs.Runs.{Step, Resume, Resumes, Started}
 use Rattle.library_run.specs.Trace.{what_of}
 use Rattle.library_run.specs.Demand3.{typed_call, resume_of}
 use Rattle.library_run.proofs.Calls.Stepped.{Stands, settings, own_in, next, steps-lead}

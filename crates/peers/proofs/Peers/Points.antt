@@ -1,5 +1,5 @@
 -- Closed points of the peers' definitions: 01's, and a run of one peer as peer_demand.rs has it.
-use Rattle.std.proofs.Common.{◌≡◌, ℕ, ◌-◌, Bool, true, false, List, [], ◌∷◌, refl}
+use Rattle.std.proofs.Common.{◌≡◌, ℕ, Bool, true, false, List, [], ◌∷◌, refl}
 use mathlib.Core.Option.{Option, none, some}
 use lib.Ieee.{binary32, binary64, of_bits, to_bits, lt, add, of_fields, odd, size, span, climb, round, units, sum}
 use Rattle.records.specs.Records.{same, ascending, leads, before}

@@ -1,5 +1,5 @@
 -- Laws of steps over the contested keys: flags joined, and the key heard longest ago.
-use Rattle.std.proofs.Common.{◌≡◌, ℕ, zero, suc, ◌+◌, ◌-◌, ◌*◌, ◌<◌, ◌≤◌, Bool, true, false, cond, ◌||◌, ltb, List, length, get_or, take, drop, sym, refl, ap, ◌∙◌, arith, le-ltb, eq-eqb, ne_eqb}
+use Rattle.std.proofs.Common.{◌≡◌, ℕ, zero, suc, ◌+◌, ◌*◌, ◌<◌, ◌≤◌, Bool, true, false, cond, ◌||◌, ltb, List, length, get_or, take, drop, sym, refl, ap, ◌∙◌, arith, le-ltb, eq-eqb, ne_eqb}
 use mathlib.Core.Bool.{or-false}
 use Rattle.records.specs.Fields.{flag_word, flag_of}
 use Rattle.peers.specs.Peers.Records.{ContestedKey, contested_of}

@@ -1,6 +1,5 @@
 -- `decay::ratio_by_bits` meets its contract. The invariant: y and rest are the quotient and the rest of r * 2 ^ i by c after i turns.
 use mathlib.Core.Path.{◌≡◌, sym, subst}
-use mathlib.Core.Logic.{⊎_elim}
 use Prim.Native.Nat.{ℕ, ◌+◌, ◌-◌, ◌*◌, ◌/◌, ◌^◌, ◌≤◌, ◌<◌}
 use native.Mathlib.Nat.{two-pow-succ, le_trans}
 use native.Mathlib.Numerals.{add-one}
@@ -46,8 +45,8 @@ loop-again c =
     let l = c.before.before in
     let i = l.loop.invariant in
     elim c.if-rest-c.branch [
-      then-rest-c w ↦ rw (w.y-is, w.rest-is) (kept _ _ _ _ _ c.loop-test.true i.3 (bit-clear _ _ _ _ _ w.if-rest-c.true i.4))
-    | else-rest-c w ↦ rw (w.y-is, w.rest-is) (kept _ _ _ _ _ c.loop-test.true i.3 (bit-set _ _ _ _ _ w.if-rest-c.false i.4))
+      | then-rest-c w ↦ rw (w.y-is, w.rest-is) (kept _ _ _ _ _ c.loop-test.true i.3 (bit-clear _ _ _ _ _ w.if-rest-c.true i.4))
+      | else-rest-c w ↦ rw (w.y-is, w.rest-is) (kept _ _ _ _ _ c.loop-test.true i.3 (bit-set _ _ _ _ _ w.if-rest-c.false i.4))
     ]
 
 done : (r c y rest i : ℕ) → i ≤ 52 → 52 ≤ i → Divided r (2 ^ i) c y rest → y ≡ r * 2 ^ 52 / c

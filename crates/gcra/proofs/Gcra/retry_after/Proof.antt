@@ -5,7 +5,7 @@ use native.Mathlib.Omega.{arith}
 use borrow.Author.Rules.{rules}
 use Rattle.gcra.specs.Calls.{gcra_retry_after}
 use Rattle.questions.specs.Questions.{answer}
-use Rattle.gcra.specs.Meter.{attempt, pace_of, tat_at, retry_after, decision}
+use Rattle.gcra.specs.Meter.{pace_of, tat_at, retry_after, decision}
 use Rattle.gcra.specs.Packed.{unit_nanos, valid_quota}
 use Rattle.questions.proofs.Tests.{told-no, told-yes}
 use Rattle.questions.proofs.Answers.{alone-no}

@@ -1,5 +1,4 @@
 -- `weakest` meets its contract.
-use mathlib.Core.Logic.{⊎_elim}
 use mathlib.Core.Path.{subst, sym, ◌∙◌}
 use Prim.Native.Nat.{ℕ, ◌+◌, ◌-◌, ◌*◌, ◌≤◌}
 use native.Mathlib.Omega.{arith}
@@ -60,12 +59,12 @@ loop-again : tie.Need-loop-i-preserved invariant-loop-i decreases-loop-i
 loop-again c =
     let i = c.loop-i.i in
     elim c.if-total_less.branch [
-      then-total_less w ↦
-        subst (λ (m : ℕ). Weakest c.args.n c.args.hot.now m (i + 1)) (sym w.least-is)
-        (weakest-next c.args.n c.args.hot.now c.requires.0 _ i c.loop-i.invariant c.loop-i-test.true (sym c.total_less.ensures ∙ w.if-total_less.true))
-    | else-total_less w ↦
-        subst (λ (m : ℕ). Weakest c.args.n c.args.hot.now m (i + 1)) (sym w.least-is)
-        (weakest-same c.args.n c.args.hot.now c.requires.0 _ i c.loop-i.invariant c.loop-i-test.true (sym c.total_less.ensures ∙ w.if-total_less.false))
+      | then-total_less w ↦
+          subst (λ (m : ℕ). Weakest c.args.n c.args.hot.now m (i + 1)) (sym w.least-is)
+          (weakest-next c.args.n c.args.hot.now c.requires.0 _ i c.loop-i.invariant c.loop-i-test.true (sym c.total_less.ensures ∙ w.if-total_less.true))
+      | else-total_less w ↦
+          subst (λ (m : ℕ). Weakest c.args.n c.args.hot.now m (i + 1)) (sym w.least-is)
+          (weakest-same c.args.n c.args.hot.now c.requires.0 _ i c.loop-i.invariant c.loop-i-test.true (sym c.total_less.ensures ∙ w.if-total_less.false))
     ]
 
 mul-of-words : tie.Need-overflow_mul-least-2 invariant-loop-i decreases-loop-i

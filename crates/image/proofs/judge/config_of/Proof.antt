@@ -3,10 +3,6 @@ use Rattle.image.specs.LoadSteps.{config_from}
 use borrow.Author.Rules.{rules}
 use Rattle.image.proofs.judge.config_of.Statement.{statement}
 use Rattle.image.proofs.judge.config_of.Tie as tie
-use Rattle.image.proofs.judge.config_of.Reads as reads
-use Rattle.image.proofs.judge.config_of.Lts as lts
-use Rattle.float.proofs.from_bits.Reads as from-bits-reads
-use Rattle.image.proofs.judge.burst_of.Reads as burst-of-reads
 
 -- src/judge.rt:93:32
 array-read-from-bits : tie.Need-bounds-w-0

@@ -1,6 +1,5 @@
 -- `copy_flagged` meets its contract: the invariant is `Copying`.
 use Prim.Native.Nat.{◌-◌}
-use mathlib.Core.Logic.{⊎_elim}
 use native.Mathlib.Omega.{arith}
 use Rattle.limiter.proofs.PassOne.CopyLaws.{Copying, copy-none, copy-behind, copy-all, copy-skip, copy-next}
 use Rattle.limiter.proofs.pass_one.copy_flagged.Statement.{statement}
@@ -17,8 +16,8 @@ loop-again : tie.Need-loop-i-preserved invariant-loop-i decreases-loop-i
 loop-again c =
     let k = c.loop-i.invariant in
     elim c.if-stays-i.branch [
-      then-stays-i w ↦ copy-next _ _ _ _ _ _ _ k c.loop-i-test.true w.if-stays-i.true w.to-is w.kept-is
-    | else-stays-i w ↦ copy-skip _ _ _ _ _ _ _ k c.loop-i-test.true w.if-stays-i.false w.to-is w.kept-is
+      | then-stays-i w ↦ copy-next _ _ _ _ _ _ _ k c.loop-i-test.true w.if-stays-i.true w.to-is w.kept-is
+      | else-stays-i w ↦ copy-skip _ _ _ _ _ _ _ k c.loop-i-test.true w.if-stays-i.false w.to-is w.kept-is
     ]
 
 pub copy_flagged_spec : {M : Type 1} → statement M

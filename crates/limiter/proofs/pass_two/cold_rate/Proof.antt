@@ -1,6 +1,5 @@
 -- `cold_rate` meets its contract.
 use borrow.Author.Rules.{rules}
-use borrow.Author.Tests.{not-true, not-false}
 use Rattle.limiter.proofs.PassTwo.RateLaws.{cold_is, least-is}
 use Rattle.limiter.proofs.pass_two.cold_rate.Statement.{statement}
 use Rattle.limiter.proofs.pass_two.cold_rate.Tie as tie

@@ -1,7 +1,6 @@
 -- `count_below` meets its contract: what is counted and what is to come make up the whole.
 use Prim.Native.Nat.{◌+◌, ◌-◌, ◌≤◌}
 use mathlib.Core.Path.{◌≡◌}
-use mathlib.Core.Logic.{⊎_elim}
 use native.Mathlib.Omega.{arith}
 use lib.ListN.{length, take, drop}
 use Rattle.limiter.specs.Steps.TickSteps.{below}
@@ -25,8 +24,8 @@ loop-again c =
     let t = c.loop-i-test.true in
     let k = l.invariant in
     elim c.if-ranks-i.branch [
-      then-ranks-i w ↦ (k.0, omega arith, omega arith, omega (arith, count-more _ _ k.0 _ _ _ t k.3 w.if-ranks-i.true))
-    | else-ranks-i w ↦ (k.0, omega arith, omega arith, omega (arith, count_same _ _ k.0 _ _ _ t k.3 w.if-ranks-i.false))
+      | then-ranks-i w ↦ (k.0, omega arith, omega arith, omega (arith, count-more _ _ k.0 _ _ _ t k.3 w.if-ranks-i.true))
+      | else-ranks-i w ↦ (k.0, omega arith, omega arith, omega (arith, count_same _ _ k.0 _ _ _ t k.3 w.if-ranks-i.false))
     ]
 
 returns : tie.Need-returns invariant-loop-i decreases-loop-i

@@ -1,6 +1,5 @@
 -- `keep_flagged` meets its contract: the invariant is `Flagging`.
 use Prim.Native.Nat.{◌+◌, ◌-◌, ◌*◌, ◌≤◌}
-use mathlib.Core.Logic.{⊎_elim}
 use mathlib.Core.Path.{◌≡◌, ◌∙◌}
 use native.Mathlib.Omega.{arith}
 use borrow.Author.Rules.{rules}
@@ -32,8 +31,8 @@ inside c =
 loop-again : tie.Need-loop-i-preserved invariant-loop-i decreases-loop-i
 loop-again c =
     elim c.if-stays-i.branch [
-      then-stays-i w ↦ flag-copy _ _ _ _ _ _ _ c.loop-i.invariant c.loop-i-test.true w.if-stays-i.true (w.t-is ∙ w.copy_words.ensures.1) w.kept-is
-    | else-stays-i w ↦ flag-skip _ _ _ _ _ _ _ c.loop-i.invariant c.loop-i-test.true w.if-stays-i.false w.t-is w.kept-is
+      | then-stays-i w ↦ flag-copy _ _ _ _ _ _ _ c.loop-i.invariant c.loop-i-test.true w.if-stays-i.true (w.t-is ∙ w.copy_words.ensures.1) w.kept-is
+      | else-stays-i w ↦ flag-skip _ _ _ _ _ _ _ c.loop-i.invariant c.loop-i-test.true w.if-stays-i.false w.t-is w.kept-is
     ]
 
 same_length : tie.Need-shape_of-t invariant-loop-i decreases-loop-i

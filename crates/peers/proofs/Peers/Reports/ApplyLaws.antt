@@ -1,5 +1,5 @@
 -- Laws: what a report that passed its questions finds in the tables, and what they hold after it.
-use Rattle.std.proofs.Common.{◌≡◌, ℕ, ◌-◌, ◌*◌, ◌<◌, ◌≤◌, Bool, true, false, ◌||◌, leb, List, [], ◌∷◌, map, length, sym, refl, ap, ◌∙◌, arith, le-ltb, lt-ltb, le-leb, leb-true}
+use Rattle.std.proofs.Common.{◌≡◌, ℕ, ◌*◌, ◌<◌, ◌≤◌, Bool, true, false, ◌||◌, leb, List, [], ◌∷◌, map, length, sym, refl, ap, ◌∙◌, arith, le-ltb, lt-ltb, le-leb, leb-true}
 use mathlib.Core.Bool.{or-false}
 use borrow.Author.Tests.{lt-leb}
 use lib.ListN.{length-map}

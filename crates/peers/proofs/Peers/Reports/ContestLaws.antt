@@ -2,7 +2,7 @@
 use Rattle.std.proofs.Common.{◌≡◌, ℕ, zero, suc, ◌+◌, ◌-◌, ◌*◌, ◌^◌, ◌<◌, ◌≤◌, max, Bool, true, false, cond, ◌||◌, eqb, ltb, List, [], ◌∷◌, map, length, get_or, take, drop, sym, refl, ap, ◌∙◌, subst, not-suc-le-zero, arith, length-drop, length-take-le, ltb-true, le-ltb, lt-ltb, eqb-true}
 use lib.ListN.{length-map}
 use Rattle.records.specs.declared.Found.TheVariants.{At, Gap}
-use Rattle.records.specs.Records.{records, key, find, find_in, splice, remove_at, removable, removed}
+use Rattle.records.specs.Records.{records, find, find_in, splice, remove_at, removable, removed}
 use Rattle.questions.proofs.Tests.{both, and_intro}
 use Rattle.records.proofs.Words.FieldLaws.{flag-fits}
 use Rattle.records.proofs.Words.RecordLaws.{fits_intro, length-records, record-at, record-length}

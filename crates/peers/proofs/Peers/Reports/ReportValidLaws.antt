@@ -1,12 +1,11 @@
 -- A report that passes its questions leaves the peers' state valid.
-use Rattle.std.proofs.Common.{◌≡◌, ℕ, suc, ◌+◌, ◌-◌, ◌^◌, ◌<◌, ◌≤◌, Bool, true, false, cond, ◌&&◌, eqb, ltb, List, [], ◌∷◌, ◌++◌, length, take, sym, refl, ap, ◌∙◌, subst, suc-le-suc, zero-le, arith, length-take, ltb-true, lt-ltb}
+use Rattle.std.proofs.Common.{◌≡◌, ℕ, suc, ◌+◌, ◌^◌, ◌<◌, ◌≤◌, Bool, true, false, cond, ◌&&◌, eqb, ltb, List, [], ◌∷◌, ◌++◌, length, take, sym, refl, ap, ◌∙◌, subst, suc-le-suc, zero-le, arith, length-take, ltb-true, lt-ltb}
 use mathlib.Core.Option.{Option, none, some}
 use lib.Ieee.{binary32, fits}
 use Rattle.float.specs.Magnitude.{magnitude}
 use Rattle.questions.proofs.Tests.{split, both, and_intro}
 use Rattle.peers.specs.declared.peer_demand.KeyDemand.{KeyDemand}
 use Rattle.peers.specs.declared.peer_demand.DemandReport.{DemandReport}
-use Rattle.peers.specs.declared.peer_report.Verdict.{Verdict}
 use Rattle.questions.specs.Lists.{all, first, those}
 use Rattle.records.specs.Fields.{time_flag, time_word, time_words}
 use Rattle.peers.specs.Peers.Records.{Snapshot, PeerRecord, SnapshotKey, ContestedKey, snapshot_words, past_words, peer_words}

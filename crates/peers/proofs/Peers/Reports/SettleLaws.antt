@@ -1,5 +1,5 @@
 -- Laws: which verdict a report meets, and what the state is after it.
-use Rattle.std.proofs.Common.{◌≡◌, ℕ, suc, ◌-◌, ◌*◌, ◌/◌, ◌%◌, ◌<◌, ◌≤◌, Bool, true, cond, ◌&&◌, eqb, ltb, List, [], ◌∷◌, map, length, take, sym, refl, ap, ◌∙◌, subst, suc-le-suc, zero-le, arith, length-take-le, take_all, lt-ltb, eq-eqb, ne_eqb}
+use Rattle.std.proofs.Common.{◌≡◌, ℕ, suc, ◌*◌, ◌/◌, ◌%◌, ◌<◌, ◌≤◌, Bool, true, cond, ◌&&◌, eqb, ltb, List, [], ◌∷◌, map, length, take, sym, refl, ap, ◌∙◌, subst, suc-le-suc, zero-le, arith, length-take-le, take_all, lt-ltb, eq-eqb, ne_eqb}
 use native.Mathlib.Nat.{mul-div_left, mul-mod_left}
 use lib.ListN.{length-map}
 use Rattle.records.specs.Records.{records, flat, same}
@@ -11,7 +11,7 @@ use Rattle.peers.specs.declared.peer_report.Verdict.{Verdict}
 use Rattle.questions.specs.Lists.{first, only, those}
 use Rattle.peers.specs.Peers.Records.{PeerRecord, SnapshotKey, peer_words, snapshot_key_words, peer_of}
 use Rattle.peers.specs.Peers.State.{PeersState, PeerTables, peer_with, is_known, has_snapshot, snapshot_keys_of, state_of}
-use Rattle.records.specs.Typed.{exact, word, Replaceable, Front}
+use Rattle.records.specs.Typed.{word, Replaceable, Front}
 use Rattle.peers.specs.Peers.Changes as changes
 use Rattle.peers.specs.Peers.Steps.Runs.{keys_in, all_keys_in, KeyRun, or_new, verdict_with, past_after, Reported, Read, Stores}
 use Rattle.questions.proofs.OnlyLaws.{all-imply, length-replaced, any-counted}

@@ -10,8 +10,8 @@ use Rattle.peers.specs.declared.peer_demand.PeerDemand.{PeerDemand}
 use Rattle.questions.specs.Lists.{all, any, first, only, those, replaced}
 use Rattle.records.specs.Fields.{time_words}
 use Rattle.peers.specs.Peers.Records.{Snapshot, PeerRecord, SnapshotKey, ContestedKey, snapshot_words, past_words, peer_words, snapshot_key_words, contested_words, peer_of, snapshot_key_of}
-use Rattle.peers.specs.Peers.State.{PeersState, PeerTables, peer_with, is_known, snapshot_keys_of, contested_keys_of, state_of, valid, valid_snapshot, valid_past, valid_peer, valid_snapshot_key}
-use Rattle.records.specs.Typed.{is_word, exact, word, replaced_run, Replaceable, Tabled}
+use Rattle.peers.specs.Peers.State.{PeersState, PeerTables, peer_with, is_known, snapshot_keys_of, contested_keys_of, state_of, valid_snapshot, valid_past, valid_peer, valid_snapshot_key}
+use Rattle.records.specs.Typed.{is_word, word, replaced_run, Replaceable, Tabled}
 use Rattle.peers.specs.Peers.Changes as changes
 use Rattle.peers.specs.Peers.Calls.{has_place}
 use Rattle.peers.specs.Peers.Steps.Runs.{keys_in, all_keys_in, peers_in, KeyRun, contested_after, kept_after, Contestable, or_new, next_past, past_after, Reported, Read, Stores}

@@ -1,5 +1,5 @@
 -- Laws of the peers' tables: a state in its three tables, and the place of a peer.
-use Rattle.std.proofs.Common.{◌≡◌, ℕ, ◌-◌, ◌*◌, ◌<◌, ◌≤◌, Bool, false, ◌&&◌, ltb, List, map, get_or, sym, refl, ap, ◌∙◌, arith, le-ltb, lt-ltb}
+use Rattle.std.proofs.Common.{◌≡◌, ℕ, ◌*◌, ◌<◌, ◌≤◌, Bool, false, ◌&&◌, ltb, List, map, get_or, sym, refl, ap, ◌∙◌, arith, le-ltb, lt-ltb}
 use lib.ListN.{length-map}
 use Rattle.records.specs.declared.Found.{Found}
 use Rattle.records.specs.declared.Found.TheVariants.{At, Gap, Unfit}

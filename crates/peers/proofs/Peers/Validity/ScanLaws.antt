@@ -1,5 +1,5 @@
 -- Question 2 of a peer's records, asked word by word, is question 2 of what they stand for.
-use Rattle.std.proofs.Common.{◌≡◌, ℕ, zero, suc, ◌+◌, ◌-◌, ◌*◌, ◌^◌, ◌<◌, ◌≤◌, Bool, true, false, cond, ◌&&◌, ◌||◌, eqb, ltb, leb, List, [], ◌∷◌, ◌++◌, length, get_or, take, drop, sym, refl, ap, ◌∙◌, arith, get_or-drop, get_or-take, le-ltb, lt-ltb, eq-eqb, ne_eqb, leb-false}
+use Rattle.std.proofs.Common.{◌≡◌, ℕ, zero, suc, ◌+◌, ◌*◌, ◌^◌, ◌<◌, ◌≤◌, Bool, true, false, cond, ◌&&◌, ◌||◌, eqb, ltb, leb, List, [], ◌∷◌, ◌++◌, length, get_or, take, drop, sym, refl, ap, ◌∙◌, arith, get_or-drop, get_or-take, le-ltb, lt-ltb, eq-eqb, ne_eqb, leb-false}
 use mathlib.Core.Bool.{and-true, and-false, and_assoc, and_comm}
 use borrow.Author.Tests.{lt-leb}
 use lib.Dec.{eqb-suc-zero}

@@ -1,5 +1,5 @@
 -- Question 2 of the whole tables is their scan, where they have room.
-use Rattle.std.proofs.Common.{◌≡◌, ℕ, zero, suc, ◌-◌, ◌*◌, ◌≤◌, Bool, true, ◌&&◌, eqb, leb, List, map, length, get_or, sym, refl, ap, ◌∙◌, mul-le-mul_right, arith, lt-ltb, leb-true}
+use Rattle.std.proofs.Common.{◌≡◌, ℕ, zero, suc, ◌*◌, ◌≤◌, Bool, true, ◌&&◌, eqb, leb, List, map, length, get_or, sym, refl, ap, ◌∙◌, mul-le-mul_right, arith, lt-ltb, leb-true}
 use mathlib.Core.Bool.{and-true, and_assoc}
 use lib.Dec.{leb-zero}
 use Rattle.records.specs.Records.{records, ascending}

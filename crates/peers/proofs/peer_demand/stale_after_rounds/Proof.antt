@@ -1,6 +1,5 @@
 -- `stale_after_rounds` meets its contract: question 7, then the greater of 10 and three times the cluster size.
 use Rattle.std.proofs.Common.{◌≡◌, true, sym, ap, ◌∙◌, arith, rules}
-use borrow.Author.Tests.{not-true, not-false}
 use Rattle.questions.specs.Questions.{given}
 use Rattle.questions.proofs.Answers.{alone-no, alone-yes}
 use Rattle.demand.specs.Allocation.{is_cluster_size}

@@ -1,6 +1,5 @@
 -- `are_all_peer_words` meets its contract.
 use Rattle.std.proofs.Common.{◌≡◌, ◌+◌, ◌-◌, ◌*◌, ◌≤◌, [], length, get_or, drop, sym, refl, ap, ◌∙◌, arith, rules}
-use borrow.Author.Tests.{not-true, not-false}
 use Rattle.records.specs.Records.{records}
 use Rattle.records.proofs.Words.RecordLaws.{row, record-length, lent-record}
 use Rattle.questions.specs.Lists.{all}

@@ -1,6 +1,6 @@
 -- `are_peers` meets its contract.
 use Rattle.std.proofs.Common.{◌≡◌, ℕ, true, false, leb, length, sym, ap, ◌∙◌, arith, rules, le-leb}
-use borrow.Author.Tests.{lt-leb, not-true, not-false}
+use borrow.Author.Tests.{lt-leb}
 use Rattle.records.specs.Records.{records, keyed, ascending}
 use Rattle.questions.proofs.Tests.{and-skip, stop, goes}
 use Rattle.records.proofs.Words.RecordLaws.{length-records}

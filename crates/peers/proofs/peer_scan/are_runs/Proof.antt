@@ -1,6 +1,5 @@
 -- `are_runs` meets its contract.
 use Rattle.std.proofs.Common.{◌≡◌, ◌+◌, ◌-◌, ◌*◌, ◌<◌, ◌≤◌, length, sym, refl, ◌∙◌, zero-le, arith, length-set, rules, eqb-true}
-use borrow.Author.Tests.{not-true, not-false}
 use Rattle.questions.proofs.Tests.{contradiction}
 use Rattle.peers.specs.Peers.Steps.Scan.{Starts}
 use Rattle.peers.proofs.Peers.Validity.StartLaws.{starts_none, starts-next, starts-all}

@@ -1,6 +1,6 @@
 -- `is_past` meets its contract.
 use Rattle.std.proofs.Common.{◌≡◌, true, false, sym, ◌∙◌, rules, le-leb}
-use borrow.Author.Tests.{lt-leb, not-true, not-false}
+use borrow.Author.Tests.{lt-leb}
 use Rattle.peers.specs.Peers.Steps.Scan.{is_past_epoch, is_past}
 use Rattle.questions.proofs.Tests.{stop, goes}
 use Rattle.peers.proofs.peer_scan.is_past.Statement.{statement}

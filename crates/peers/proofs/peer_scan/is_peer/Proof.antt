@@ -1,6 +1,5 @@
 -- `is_peer` meets its contract.
 use Rattle.std.proofs.Common.{◌≡◌, Bool, true, false, ◌||◌, eqb, sym, ap, ◌∙◌, rules, le-ltb, lt-ltb}
-use borrow.Author.Tests.{not-true, not-false}
 use Rattle.records.specs.Fields.{is_time}
 use Rattle.peers.specs.Peers.Steps.Scan.{is_snapshot, is_past, is_peer}
 use Rattle.questions.proofs.Tests.{stop, goes}

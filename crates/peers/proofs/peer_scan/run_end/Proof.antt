@@ -1,6 +1,5 @@
 -- `run_end` meets its contract.
 use Rattle.std.proofs.Common.{◌+◌, ◌-◌, ◌*◌, ◌≤◌, length, sym, ◌∙◌, arith}
-use borrow.Author.Tests.{not-true, not-false}
 use Rattle.records.proofs.Words.RecordLaws.{row}
 use Rattle.peers.proofs.Peers.Validity.ScanRunLaws.{Ran, run_out, run_none, run-begins, run-next, run-ended, run-full}
 use Rattle.peers.proofs.peer_scan.run_end.Statement.{statement}

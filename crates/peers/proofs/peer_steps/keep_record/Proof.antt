@@ -1,6 +1,5 @@
 -- `keep_record` meets its contract.
 use Rattle.std.proofs.Common.{◌≡◌, ℕ, ◌+◌, ◌*◌, ◌≤◌, sym, ap, ◌∙◌, mul-le-mul_right, arith, rules}
-use borrow.Author.Tests.{not-true, not-false}
 use Rattle.records.specs.Words.{copy_within}
 use Rattle.records.proofs.Words.RecordLaws.{count-le}
 use Rattle.records.proofs.Words.WordLaws.{copied_is, copy-here}

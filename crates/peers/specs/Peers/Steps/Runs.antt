@@ -11,7 +11,7 @@ use Rattle.peers.specs.Peers.State.{PeersState, PeerTables, state_of, with_count
 use Rattle.peers.specs.Peers.Calls.{has_place, report_questions}
 use Rattle.peers.specs.declared.peer_demand.PeerDemand.{PeerDemand}
 use Rattle.peers.specs.Peers.Steps.Stays.{Valid}
-use Rattle.records.specs.Typed.{Run, exact}
+use Rattle.records.specs.Typed.{Run}
 use Rattle.peers.specs.declared.peer_report.Verdict.TheVariants as verdict
 use Rattle.peers.specs.Peers.Changes as changes
 

@@ -1,6 +1,5 @@
 -- `HotSet::is_valid` meets its contract.
 use mathlib.Core.Path.{sym, ◌∙◌}
-use borrow.Author.Tests.{not-true, not-false}
 use borrow.Author.Rules.{rules}
 use Rattle.hot.proofs.HotSet.Answers.{bad-size, bad-count, by_entries}
 use Rattle.hot.proofs.hot_set.HotSet.is_valid.Statement.{statement}

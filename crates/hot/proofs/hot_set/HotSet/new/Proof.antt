@@ -1,6 +1,5 @@
 -- `HotSet::new` meets its contract.
 use mathlib.Core.Path.{sym, ◌∙◌}
-use borrow.Author.Tests.{not-true, not-false}
 use borrow.Author.Rules.{rules}
 use Rattle.questions.specs.Questions.{answer}
 use Rattle.hot.proofs.hot_set.HotSet.new.Statement.{statement}

@@ -1,6 +1,5 @@
 -- `ask_for_starts` meets its contract.
 use Rattle.std.proofs.Common.{refl, arith, rules}
-use borrow.Author.Tests.{not-false}
 use Rattle.peers.proofs.Peers.Readers.ReaderLaws.{asked-no, asked-ready}
 use Rattle.questions.proofs.Tests.{told-no, told-yes}
 use Rattle.questions.proofs.Answers.{first-no, first-yes, first-none}

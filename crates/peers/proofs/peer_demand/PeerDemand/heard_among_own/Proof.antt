@@ -1,5 +1,5 @@
 -- `heard_among_own` meets its contract.
-use Rattle.std.proofs.Common.{◌*◌, ◌≤◌, length, ◌∙◌, arith, rules}
+use Rattle.std.proofs.Common.{◌*◌, ◌≤◌, length, ◌∙◌, arith}
 use Rattle.peers.specs.Peers.State.{tables}
 use Rattle.peers.proofs.Peers.Validity.StartLaws.{own-fits, own-ready, own-heard}
 use Rattle.peers.proofs.peer_demand.PeerDemand.heard_among_own.Statement.{statement}

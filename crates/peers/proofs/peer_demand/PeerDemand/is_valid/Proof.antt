@@ -1,6 +1,5 @@
 -- `is_valid` meets its contract.
 use Rattle.std.proofs.Common.{◌≡◌, true, false, sym, ◌∙◌, arith, rules}
-use borrow.Author.Tests.{not-true, not-false}
 use Rattle.records.specs.Records.{records}
 use Rattle.questions.proofs.Tests.{contradiction, stop, goes}
 use Rattle.peers.specs.Peers.State.{tables, is_valid}

@@ -1,7 +1,6 @@
 -- `PeerDemand::new` meets its contract: question 1 alone.
 use Rattle.std.proofs.Common.{sym, ◌∙◌, rules}
 use Rattle.peers.proofs.Peers.Validity.RoomLaws.{no_room, some-room}
-use borrow.Author.Tests.{not-true, not-false}
 use Rattle.peers.proofs.peer_demand.PeerDemand.new.Statement.{statement}
 use Rattle.peers.proofs.peer_demand.PeerDemand.new.Tie as tie
 
