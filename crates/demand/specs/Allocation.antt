@@ -4,9 +4,7 @@ use Rattle.std.specs.Float.{binary64}
 use Rattle.std.specs.Float.Ieee.{add, sub, mul, div, lt, le}
 use Rattle.std.specs.Float.Ieee.Scale.{finite}
 use Rattle.demand.specs.declared.allocation.View.{View}
-use Rattle.demand.specs.declared.allocation.ShareAnswer.{ShareAnswer}
-use Rattle.demand.specs.declared.allocation.ShareAnswer.TheVariants as share-answer
-use Rattle.questions.specs.Questions.{◌asks◌, Answer, refused, given, answer}
+use Rattle.questions.specs.Questions.{◌asks◌, Answer, answer}
 use Rattle.demand.specs.Estimators.Estimator.{whole}
 
 -- question 3: 'finite and above 0'
@@ -31,11 +29,6 @@ shared v =
     (div binary64 (mul binary64 v.limit v.floor_factor) n)
     (mul binary64 (mul binary64 v.limit (sub binary64 (whole 1) v.floor_factor)) (div binary64 v.own total)))
     (div binary64 v.limit n)
-
--- 01's number and values for each case of the answer
-abbrev pub share_answer : ShareAnswer → Answer Float
-share_answer (share-answer.No n) = refused n
-share_answer (share-answer.Is x) = given x
 
 abbrev pub share : View → Answer Float
 share v =

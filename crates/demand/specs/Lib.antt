@@ -1,4 +1,3 @@
-pub mod Answers
 pub mod Decay
 pub mod Estimators
 pub mod Allocation

@@ -2,6 +2,9 @@
 
 ghost use Rattle.std.specs.Prelude.{◌≡◌};
 ghost use Rattle.demand.specs.Allocation as Allocation;
+ghost use Rattle.questions.specs.Refusals.{answer_of};
+
+use questions::Refusal;
 
 // What a share depends on: the limit of the whole cluster, its size, the part of the limit that goes
 // to all nodes alike, and the demand of this node and of all others.
@@ -14,48 +17,42 @@ pub struct View {
     pub others: f64,
 }
 
-// The number of the question that was answered 'no', or the share.
-#[derive(Clone, Copy)]
-pub enum ShareAnswer {
-    No(u8),
-    Is(f64),
-}
-
 // Question 3: finite and above 0.
 pub fn is_rate(x: f64) -> bool
     ensures { result ≡ Allocation.is_rate x }
 {
-    if 0.0 < x { float::is_finite(x) } else { false }
+    0.0 < x && float::is_finite(x)
 }
 
 // Question 5: from 0 to 1.
 pub fn is_floor_factor(x: f64) -> bool
     ensures { result ≡ Allocation.is_floor_factor x }
 {
-    if 0.0 <= x { x <= 1.0 } else { false }
+    0.0 <= x && x <= 1.0
 }
 
 // Question 7: 1 to 65,535.
+#[tactic(auto, unfolding(crate::specs::Allocation::is_cluster_size))]
 pub fn is_cluster_size(n: usize) -> bool
     ensures { result ≡ Allocation.is_cluster_size n }
 {
-    if 1 <= n { n <= 65_535 } else { false }
+    1 <= n && n <= 65_535
 }
 
 // The part of the limit, a rate a second, that falls to this node.
-pub fn share(view: View) -> ShareAnswer
-    ensures { Allocation.share_answer result ≡ Allocation.share view }
+pub fn share(view: View) -> Result<f64, Refusal>
+    ensures { answer_of result ≡ Allocation.share view }
 {
     if !is_rate(view.limit) {
-        return ShareAnswer::No(3);
+        return Err(Refusal::Rate);
     }
     if !is_floor_factor(view.floor_factor) {
-        return ShareAnswer::No(5);
+        return Err(Refusal::Factor);
     }
     if !is_cluster_size(view.cluster_size) {
-        return ShareAnswer::No(7);
+        return Err(Refusal::ClusterSize);
     }
-    ShareAnswer::Is(shared(view))
+    Ok(shared(view))
 }
 
 // An even part of the floor, and of the rest as much as this node's demand is of all demand; where

@@ -2,40 +2,27 @@
 // towards what was counted, by the decay weight of the time since the tick before.
 
 ghost use Rattle.std.specs.Prelude.{◌≡◌};
-ghost use Rattle.demand.specs.Answers.{flag_answer};
 ghost use Rattle.demand.specs.Estimators.Estimator as Estimator;
 ghost use Rattle.demand.specs.Estimators.Calls as Calls;
+ghost use Rattle.questions.specs.Refusals.{answer_of};
 
-use crate::answers::FlagAnswer;
-use float::whole;
+use questions::Refusal;
 
-// The times of an estimator, which it has both or neither: of its last tick, and of its start.
+// The times of an estimator: of its last tick, and of its start.
 #[derive(Clone, Copy)]
-pub enum Times {
-    Unset,
-    At { last_tick: u64, since: u64 },
+pub struct Times {
+    pub last_tick: u64,
+    pub since: u64,
 }
 
-// An estimator: its rate, the attempts that no tick has folded yet, its time constant and its times.
+// An estimator: its rate, the attempts that no tick has folded yet, its time constant, and its times, which it
+// has both or neither.
 #[derive(Clone, Copy)]
 pub struct Demand {
     pub current_rate: f64,
     pub attempts_since_tick: u64,
-    pub times: Times,
+    pub times: Option<Times>,
     pub time_constant: u64,
-}
-
-// Answers: the number of the question that was answered 'no', or the value.
-#[derive(Clone, Copy)]
-pub enum DemandAnswer {
-    No(u8),
-    Is(Demand),
-}
-
-#[derive(Clone, Copy)]
-pub enum RateAnswer {
-    No(u8),
-    Is(f64),
 }
 
 // How far a tick moves the rate towards what was counted: (2^52 - weight) / 2^52, exactly.
@@ -83,7 +70,7 @@ impl Demand {
         Self {
             current_rate: 0.0,
             attempts_since_tick: 0,
-            times: Times::Unset,
+            times: None,
             time_constant,
         }
     }
@@ -95,10 +82,10 @@ impl Demand {
         Self {
             current_rate: 0.0,
             attempts_since_tick: 0,
-            times: Times::At {
+            times: Some(Times {
                 last_tick: now,
                 since: now,
-            },
+            }),
             time_constant,
         }
     }
@@ -111,57 +98,51 @@ impl Demand {
     }
 
     // One attempt more.
-    pub fn record_attempt(self) -> DemandAnswer
-        ensures { Calls.demand_answer result ≡ Calls.record_attempts self 1 }
+    pub fn record_attempt(self) -> Result<Demand, Refusal>
+        ensures { answer_of result ≡ Calls.record_attempts self 1 }
     {
         self.record_attempts(1)
     }
 
     // So many attempts more.
-    pub fn record_attempts(self, n: u64) -> DemandAnswer
-        ensures { Calls.demand_answer result ≡ Calls.record_attempts self n }
+    pub fn record_attempts(self, n: u64) -> Result<Demand, Refusal>
+        ensures { answer_of result ≡ Calls.record_attempts self n }
     {
         if !self.is_valid() {
-            return DemandAnswer::No(2);
+            return Err(Refusal::Invalid);
         }
         if n > u64::MAX - self.attempts_since_tick {
-            return DemandAnswer::No(9);
+            return Err(Refusal::Counter);
         }
-        let times = self.times;
-        DemandAnswer::Is(Self {
-            current_rate: self.current_rate,
+        Ok(Self {
             attempts_since_tick: self.attempts_since_tick + n,
-            times,
-            time_constant: self.time_constant,
+            ..self
         })
     }
 
     // Moves the rate by the attempts counted, and starts counting again.
-    pub fn tick(self, now: u64) -> DemandAnswer
-        ensures { Calls.demand_answer result ≡ Calls.tick self now }
+    pub fn tick(self, now: u64) -> Result<Demand, Refusal>
+        ensures { answer_of result ≡ Calls.tick self now }
     {
         if !self.is_valid() {
-            return DemandAnswer::No(2);
+            return Err(Refusal::Invalid);
         }
-        DemandAnswer::Is(self.ticked(now))
+        Ok(self.ticked(now))
     }
 
     fn ticked(self, now: u64) -> Self
         ensures { result ≡ Estimator.ticked self now }
     {
-        let times = self.times;
-        match times {
-            Times::Unset => Self {
-                current_rate: self.current_rate,
-                attempts_since_tick: self.attempts_since_tick,
-                times: Times::At {
+        match self.times {
+            None => Self {
+                times: Some(Times {
                     last_tick: now,
                     since: now,
-                },
-                time_constant: self.time_constant,
+                }),
+                ..self
             },
-            Times::At { last_tick, since } => {
-                let elapsed = whole::saturating_sub(now, last_tick);
+            Some(t) => {
+                let elapsed = now.saturating_sub(t.last_tick);
                 if elapsed == 0 {
                     return self;
                 }
@@ -173,55 +154,54 @@ impl Demand {
                         self.time_constant,
                     ),
                     attempts_since_tick: 0,
-                    times: Times::At {
+                    times: Some(Times {
                         last_tick: now,
-                        since,
-                    },
-                    time_constant: self.time_constant,
+                        ..t
+                    }),
+                    ..self
                 }
             }
         }
     }
 
     // Whether there are attempts that no tick has folded.
-    pub fn has_pending(self) -> FlagAnswer
-        ensures { flag_answer result ≡ Calls.has_pending self }
+    pub fn has_pending(self) -> Result<bool, Refusal>
+        ensures { answer_of result ≡ Calls.has_pending self }
     {
         if !self.is_valid() {
-            return FlagAnswer::No(2);
+            return Err(Refusal::Invalid);
         }
-        FlagAnswer::Is(0 < self.attempts_since_tick)
+        Ok(0 < self.attempts_since_tick)
     }
 
     // The rate that the last tick left.
-    pub fn rate(self) -> RateAnswer
-        ensures { Calls.rate_answer result ≡ Calls.rate self }
+    pub fn rate(self) -> Result<f64, Refusal>
+        ensures { answer_of result ≡ Calls.rate self }
     {
         if !self.is_valid() {
-            return RateAnswer::No(2);
+            return Err(Refusal::Invalid);
         }
-        RateAnswer::Is(self.current_rate)
+        Ok(self.current_rate)
     }
 
     // The rate over the weight that all ticks since the start have together: the start at 0 is taken
     // out.
-    pub fn unbiased_rate(self) -> RateAnswer
-        ensures { Calls.rate_answer result ≡ Calls.unbiased_rate self }
+    pub fn unbiased_rate(self) -> Result<f64, Refusal>
+        ensures { answer_of result ≡ Calls.unbiased_rate self }
     {
         if !self.is_valid() {
-            return RateAnswer::No(2);
+            return Err(Refusal::Invalid);
         }
-        RateAnswer::Is(self.unbiased())
+        Ok(self.unbiased())
     }
 
     fn unbiased(self) -> f64
         ensures { result ≡ Estimator.unbiased self }
     {
-        let times = self.times;
-        match times {
-            Times::Unset => 0.0,
-            Times::At { last_tick, since } => {
-                let measured = whole::saturating_sub(last_tick, since);
+        match self.times {
+            None => 0.0,
+            Some(t) => {
+                let measured = t.last_tick.saturating_sub(t.since);
                 unbiased_by(
                     alpha(measured, self.time_constant),
                     self.current_rate,

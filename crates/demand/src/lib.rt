@@ -2,6 +2,5 @@
 #![tactic(auto)]
 
 pub mod allocation;
-pub mod answers;
 pub mod decay;
 pub mod demand;

@@ -1,4 +1,2 @@
 -- Integers and floats.
-pub mod FromInteger
-pub mod ToInteger
 pub mod Integral

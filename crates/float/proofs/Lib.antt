@@ -3,4 +3,5 @@ pub mod Formats
 pub mod Tests
 pub mod Integers
 pub mod Orders
+pub mod Stds
 pub mod Vectors

@@ -1,5 +1,5 @@
 -- IEEE 754's roundToIntegral operations on binary64, over the values of `lib.Ieee`: `fin s m e` is m * 2 ^ e, that is m * up e / down e, with the sign s.
-use Rattle.std.specs.Prelude.{◌≡◌, ◌+◌, ◌-◌, ◌*◌, ◌/◌, ◌<◌, Bool, cond, Float}
+use Rattle.std.specs.Prelude.{◌+◌, ◌-◌, ◌*◌, ◌/◌, cond, Float}
 use Rattle.std.specs.Float.{nan, inf, fin, binary64}
 use Rattle.std.specs.Float.Ieee.{up, down, round}
 
@@ -17,9 +17,3 @@ unfolding round
 round_away nan = nan
 round_away (inf s) = inf s
 round_away (fin s m e) = round binary64 s ((2 * (m * up e) + down e) / (2 * down e)) 1
-
--- x has the sign s and is below 2^52 in size, from where on every float is whole: what a private function of `round` asks
-abbrev pub Middle : Float → Bool → Type 0
-Middle nan s = ⊥
-Middle (inf t) s = ⊥
-Middle (fin t m e) s = (t ≡ s) × (m * up e < 4503599627370496 * down e)

@@ -1,66 +1,16 @@
 -- What each public function answers: 01's questions of it in their order, and then its value. Definitions only.
 use Rattle.std.specs.Prelude.{ℕ, ◌^◌, ◌≡◌, Bool, ◌&&◌, List, [], ◌∷◌, leb, ltb, Float}
-use Rattle.std.proofs.Math.Option.{Option, none, some}
 use Rattle.gcra.specs.declared.Quota.{Quota}
-use Rattle.gcra.specs.declared.Tat.TheVariants.{Unset}
 use Rattle.gcra.specs.declared.Gcra.{Gcra}
-use Rattle.gcra.specs.declared.Decision.{Decision}
-use Rattle.gcra.specs.declared.QuotaAnswer.{QuotaAnswer}
-use Rattle.gcra.specs.declared.QuotaAnswer.TheVariants as quota-answer
-use Rattle.gcra.specs.declared.NumberAnswer.{NumberAnswer}
-use Rattle.gcra.specs.declared.NumberAnswer.TheVariants as number-answer
-use Rattle.gcra.specs.declared.GcraAnswer.{GcraAnswer}
-use Rattle.gcra.specs.declared.GcraAnswer.TheVariants as gcra-answer
-use Rattle.gcra.specs.declared.CheckAnswer.{CheckAnswer}
-use Rattle.gcra.specs.declared.CheckAnswer.TheVariants as check-answer
-use Rattle.gcra.specs.declared.DebtAnswer.{DebtAnswer}
-use Rattle.gcra.specs.declared.DebtAnswer.TheVariants as debt-answer
-use Rattle.gcra.specs.declared.RetryAnswer.{RetryAnswer}
-use Rattle.gcra.specs.declared.RetryAnswer.TheVariants as retry-answer
-use Rattle.gcra.specs.declared.RateAnswer.{RateAnswer}
-use Rattle.gcra.specs.declared.RateAnswer.TheVariants as rate-answer
-use Rattle.gcra.specs.declared.SetAnswer.{SetAnswer}
-use Rattle.gcra.specs.declared.SetAnswer.TheVariants as set-answer
 use Rattle.gcra.specs.declared.Checked.{Checked}
 use Rattle.gcra.specs.declared.QuotaSet.{QuotaSet}
-use Rattle.questions.specs.Questions.{Question, ◌asks◌, Answer, refused, given, answer, changed}
+use Rattle.questions.specs.Questions.{Question, ◌asks◌, Answer, answer, changed}
 use Rattle.gcra.specs.Packed.{unit_nanos, round_up, with_interval, valid_burst, valid_quota, pack, unpacks, unpack, ceiling}
 use Rattle.gcra.specs.Rate.{per_second, rate_per_sec, set_quota}
 use Rattle.gcra.specs.Meter.{decision, check, has_debt, retry_after}
-
--- 01's number and values for each case of the answers
-abbrev pub quota_answer : QuotaAnswer → Answer Quota
-quota_answer (quota-answer.No n) = refused n
-quota_answer (quota-answer.Is q) = given q
-
-abbrev pub number_answer : NumberAnswer → Answer ℕ
-number_answer (number-answer.No n) = refused n
-number_answer (number-answer.Is n) = given n
-
-abbrev pub gcra_answer : GcraAnswer → Answer Gcra
-gcra_answer (gcra-answer.No n) = refused n
-gcra_answer (gcra-answer.Is g) = given g
-
-abbrev pub check_answer : CheckAnswer → Answer Decision
-check_answer (check-answer.No n) = refused n
-check_answer (check-answer.Is d) = given d
-
-abbrev pub debt_answer : DebtAnswer → Answer Bool
-debt_answer (debt-answer.No n) = refused n
-debt_answer (debt-answer.Is b) = given b
-
-abbrev pub retry_answer : RetryAnswer → Answer (Option ℕ)
-retry_answer (retry-answer.No n) = refused n
-retry_answer retry-answer.Now = given none
-retry_answer (retry-answer.After n) = given (some n)
-
-abbrev pub rate_answer : RateAnswer → Answer Float
-rate_answer (rate-answer.No n) = refused n
-rate_answer (rate-answer.Is x) = given x
-
-abbrev pub set_answer : SetAnswer → Answer Unit
-set_answer (set-answer.No n) = refused n
-set_answer set-answer.Done = given tt
+use Rattle.std.specs.declared.option.Option.{Option}
+use Rattle.std.specs.declared.option.Option.TheVariants.{None}
+use Rattle.questions.specs.Refusals.{answer_of}
 
 -- question 2: could this quota stand in a valid image?
 abbrev pub ask_quota : Quota → List Question
@@ -94,7 +44,7 @@ quota_ceiling q window =
     answer ((2 asks valid_quota unit_nanos q) ∷ (15 asks leb window (2 ^ 62)) ∷ []) (ceiling q window)
 
 unfoldable pub gcra_new : Quota → Answer Gcra
-gcra_new q = answer (ask_quota q) (record { quota = q; tat = Unset })
+gcra_new q = answer (ask_quota q) (record { quota = q; tat = None })
 
 unfoldable pub gcra_quota : Gcra → Answer Quota
 gcra_quota g = answer (ask_quota g.quota) g.quota
@@ -107,7 +57,7 @@ gcra_retry_after g now = answer (ask_quota g.quota) (retry_after g now)
 
 -- a check's answer, and the Gcra afterwards: as it was after a 'no'
 pub record GcraChecks (g : Gcra) (now : ℕ) (r : Checked) : Type 0 where
-  pub decided : check_answer r.answer ≡ answer (ask_quota g.quota) (decision g now)
+  pub decided : answer_of r.answer ≡ answer (ask_quota g.quota) (decision g now)
   pub left : r.gcra ≡ changed (ask_quota g.quota) g (check g now)
 
 -- question 2 of the Gcra and of the new quota
@@ -116,5 +66,5 @@ ask_quotas g q = (2 asks (valid_quota unit_nanos g.quota && valid_quota unit_nan
 
 -- a change of quota: whether it was made, and the Gcra afterwards: as it was after a 'no'
 pub record GcraSets (g : Gcra) (q : Quota) (now : ℕ) (r : QuotaSet) : Type 0 where
-  pub set : set_answer r.answer ≡ answer (ask_quotas g q) tt
+  pub set : answer_of r.answer ≡ answer (ask_quotas g q) tt
   pub left : r.gcra ≡ changed (ask_quotas g q) g (set_quota g q now)

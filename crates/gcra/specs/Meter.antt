@@ -1,18 +1,18 @@
 -- The meter (01, 'The meter (001)'). Definitions only.
 use Rattle.std.specs.Prelude.{ℕ, ◌+◌, ◌-◌, ◌^◌, min, max, Bool, true, false, cond, ltb}
-use Rattle.std.proofs.Math.Option.{Option, none, some}
 use Rattle.gcra.specs.declared.Quota.{Quota}
-use Rattle.gcra.specs.declared.Tat.{Tat}
-use Rattle.gcra.specs.declared.Tat.TheVariants.{Unset, At}
 use Rattle.gcra.specs.declared.Gcra.{Gcra}
 use Rattle.gcra.specs.declared.Decision.{Decision}
 use Rattle.gcra.specs.declared.Decision.TheVariants.{Allow, Deny}
-use Rattle.gcra.specs.declared.CheckAnswer.TheVariants.{Is}
 use Rattle.gcra.specs.declared.Checked.{Checked}
 use Rattle.gcra.specs.declared.Pace.{Pace}
 use Rattle.gcra.specs.declared.Stepped.{Stepped}
 use Rattle.gcra.specs.Packed.{tau, decode}
 use Rattle.gcra.specs.declared.Units.{Units}
+use Rattle.std.specs.declared.option.Option.{Option}
+use Rattle.std.specs.declared.option.Option.TheVariants.{None, Some}
+use Rattle.std.specs.Option.{unwrap_or}
+use Rattle.std.specs.declared.result.Result.TheVariants.{Ok}
 
 abbrev pub is_allow : Decision → Bool
 is_allow Allow = true
@@ -40,18 +40,17 @@ abbrev pub step : Units → ℕ → ℕ → ℕ → Stepped
 step u tat w now = attempt (decode u w) tat now
 
 -- a TAT as `step` takes it: 0 for none
-abbrev pub tat_word : Tat → ℕ
-tat_word Unset = 0
-tat_word (At tat) = tat
+abbrev pub tat_word : Option ℕ → ℕ
+tat_word None = 0
+tat_word (Some tat) = tat
 
 -- the pace of a quota: T and tau
 abbrev pub pace_of : Quota → Pace
 pace_of q = record { t = q.interval; tau = tau q.interval q.burst }
 
 -- a missing TAT counts as the reading
-abbrev pub tat_at : Tat → ℕ → ℕ
-tat_at Unset now = now
-tat_at (At tat) now = tat
+abbrev pub tat_at : Option ℕ → ℕ → ℕ
+tat_at t now = unwrap_or t now
 
 unfoldable pub decision : Gcra → ℕ → Decision
 decision g now = decide (pace_of g.quota) (tat_at g.tat now) now
@@ -60,7 +59,7 @@ decision g now = decide (pace_of g.quota) (tat_at g.tat now) now
 unfoldable pub check : Gcra → ℕ → Gcra
 check g now =
     cond (is_allow (decision g now))
-    (record { quota = g.quota; tat = At (moved (pace_of g.quota) (tat_at g.tat now) now) })
+    (record { quota = g.quota; tat = Some (moved (pace_of g.quota) (tat_at g.tat now) now) })
     g
 
 -- a check as `step` answers it: the decision and the TAT that it leaves, 0 for none
@@ -69,7 +68,7 @@ outcome g now = record { decision = decision g now; tat = tat_word (check g now)
 
 -- a check as the code answers it
 unfoldable pub checked : Gcra → ℕ → Checked
-checked g now = record { answer = Is (decision g now); gcra = check g now }
+checked g now = record { answer = Ok (decision g now); gcra = check g now }
 
 -- whether a TAT is ahead of the reading
 unfoldable pub has_debt : Gcra → ℕ → Bool
@@ -77,8 +76,8 @@ has_debt g now = ltb now (tat_at g.tat now)
 
 -- how long until a check would be allowed; none where it would be now
 abbrev pub retry_from : Decision → ℕ → Option ℕ
-retry_from Allow now = none
-retry_from (Deny retry-at) now = some (retry-at - now)
+retry_from Allow now = None
+retry_from (Deny retry-at) now = Some (retry-at - now)
 
 unfoldable pub retry_after : Gcra → ℕ → Option ℕ
 retry_after g now = retry_from (decision g now) now

@@ -7,10 +7,10 @@ use Rattle.float.specs.Integral.{ceil, round_away}
 use Rattle.float.specs.Order.{maximum_number}
 use Rattle.gcra.specs.declared.Units.{Units}
 use Rattle.gcra.specs.declared.Quota.{Quota}
-use Rattle.gcra.specs.declared.Tat.{Tat}
-use Rattle.gcra.specs.declared.Tat.TheVariants.{Unset, At}
 use Rattle.gcra.specs.declared.Gcra.{Gcra}
 use Rattle.gcra.specs.Packed.{max_interval, with_interval}
+use Rattle.std.specs.declared.option.Option.{Option}
+use Rattle.std.specs.declared.option.Option.TheVariants.{None, Some}
 
 -- a whole number as an f64
 abbrev pub float : ℕ → Float
@@ -48,9 +48,9 @@ slot_nanos n new = to_unsigned 64 (round_away (mul binary64 n (float new.interva
 unfoldable pub carry_tat : ℕ → Quota → Quota → ℕ → ℕ
 carry_tat tat old new now = min (now + slot_nanos (debt_slots tat old new now) new) (2 ^ 64 - 1)
 
-abbrev pub carried : Tat → Quota → Quota → ℕ → Tat
-carried Unset old new now = Unset
-carried (At tat) old new now = At (carry_tat tat old new now)
+abbrev pub carried : Option ℕ → Quota → Quota → ℕ → Option ℕ
+carried None old new now = None
+carried (Some tat) old new now = Some (carry_tat tat old new now)
 
 abbrev pub same_quota : Quota → Quota → Bool
 same_quota p q = eqb p.interval q.interval && eqb p.burst q.burst

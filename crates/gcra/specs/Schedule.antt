@@ -1,6 +1,7 @@
 -- I.371's virtual scheduling algorithm, as the Recommendation has it: a cell arrives at `ta`; `I` is the increment, `L` the limit. Definitions only.
 use Rattle.std.specs.Prelude.{ℕ, ◌+◌, Bool, true, false, cond, ltb}
-use Rattle.std.proofs.Math.Option.{Option, none, some}
+use Rattle.std.specs.declared.option.Option.{Option}
+use Rattle.std.specs.declared.option.Option.TheVariants.{None, Some}
 
 -- whether the cell conforms, and the theoretical arrival time afterwards
 pub record Cell : Type 0 where
@@ -19,5 +20,5 @@ arrives I L tat ta = cond (ltb tat ta) (conforming (ta + I)) (cond (ltb (ta + L)
 
 -- at the first cell TAT is its arrival time
 unfoldable pub virtual_scheduling : (I L : ℕ) → Option ℕ → ℕ → Cell
-virtual_scheduling I L none ta = arrives I L ta ta
-virtual_scheduling I L (some tat) ta = arrives I L tat ta
+virtual_scheduling I L None ta = arrives I L ta ta
+virtual_scheduling I L (Some tat) ta = arrives I L tat ta

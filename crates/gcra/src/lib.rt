@@ -9,8 +9,9 @@ ghost use Rattle.gcra.specs.Packed.{Accepted};
 ghost use Rattle.gcra.specs.Meter as Meter;
 ghost use Rattle.gcra.specs.Rate as Rate;
 ghost use Rattle.gcra.specs.Calls as Calls;
+ghost use Rattle.questions.specs.Refusals.{answer_of};
 
-use float::whole;
+use questions::Refusal;
 
 const ONE_SEC: u64 = 1_000_000_000;
 
@@ -62,28 +63,21 @@ pub struct Pace {
 }
 
 // T in nanoseconds, rounded up to its unit, and the burst that one reading may be allowed at once.
-#[derive(Clone, Copy)]
+#[derive(Clone, Copy, Debug, PartialEq, Eq)]
 pub struct Quota {
     pub interval: u64,
     pub burst: u32,
-}
-
-// A TAT, or that nothing was allowed yet.
-#[derive(Clone, Copy)]
-pub enum Tat {
-    Unset,
-    At(u64),
 }
 
 // The meter of a key: its quota and its TAT.
 #[derive(Clone, Copy)]
 pub struct Gcra {
     pub quota: Quota,
-    pub tat: Tat,
+    pub tat: Option<u64>,
 }
 
 // What a check answers; `retry_at` is 01's retry time.
-#[derive(Clone, Copy)]
+#[derive(Clone, Copy, Debug, PartialEq, Eq)]
 pub enum Decision {
     Allow,
     Deny { retry_at: u64 },
@@ -96,68 +90,17 @@ pub struct Stepped {
     pub tat: u64,
 }
 
-// Answers: the number of the question that was answered 'no', or the value.
-#[derive(Clone, Copy)]
-pub enum QuotaAnswer {
-    No(u8),
-    Is(Quota),
-}
-
-#[derive(Clone, Copy)]
-pub enum NumberAnswer {
-    No(u8),
-    Is(u64),
-}
-
-#[derive(Clone, Copy)]
-pub enum GcraAnswer {
-    No(u8),
-    Is(Gcra),
-}
-
-#[derive(Clone, Copy)]
-pub enum DebtAnswer {
-    No(u8),
-    Is(bool),
-}
-
-// `Now` where a request would be allowed now, else after how many nanoseconds.
-#[derive(Clone, Copy)]
-pub enum RetryAnswer {
-    No(u8),
-    Now,
-    After(u64),
-}
-
-#[derive(Clone, Copy)]
-pub enum RateAnswer {
-    No(u8),
-    Is(f64),
-}
-
-#[derive(Clone, Copy)]
-pub enum SetAnswer {
-    No(u8),
-    Done,
-}
-
-#[derive(Clone, Copy)]
-pub enum CheckAnswer {
-    No(u8),
-    Is(Decision),
-}
-
 // The answer of a check, and the Gcra after it.
 #[derive(Clone, Copy)]
 pub struct Checked {
-    pub answer: CheckAnswer,
+    pub answer: Result<Decision, Refusal>,
     pub gcra: Gcra,
 }
 
 // The answer of a change of quota, and the Gcra after it.
 #[derive(Clone, Copy)]
 pub struct QuotaSet {
-    pub answer: SetAnswer,
+    pub answer: Result<(), Refusal>,
     pub gcra: Gcra,
 }
 
@@ -172,28 +115,21 @@ fn div_ceil(n: u64, d: u64) -> u64
 fn unit_nanos(units: Units, unit: u64) -> u64
     ensures { result ≡ Packed.width units unit }
 {
-    if unit == 0 {
-        return units.first;
+    match unit {
+        0 => units.first,
+        1 => units.second,
+        _ => units.third,
     }
-    if unit == 1 {
-        return units.second;
-    }
-    units.third
 }
 
 // T * (burst - 1), at most `MAX_TAU`.
+#[tactic(auto, unfolding(crate::specs::Packed::tau))]
 fn tau(interval: u64, burst: u64) -> u64
     ensures { result ≡ Packed.tau interval burst }
 {
-    if burst <= 1 {
-        return 0;
-    }
-    let slots = burst - 1;
-    if interval <= MAX_TAU / slots {
-        interval * slots
-    } else {
-        MAX_TAU
-    }
+    interval
+        .saturating_mul(burst.saturating_sub(1))
+        .min(MAX_TAU)
 }
 
 impl Quota {
@@ -208,29 +144,29 @@ impl Quota {
     pub const MAX_BURST: u32 = (1 << Self::BURST_BITS) - 1;
 
     // The quota of a whole rate a second.
-    pub fn new(rate_per_sec: u32, burst: u32) -> QuotaAnswer
-        ensures { Calls.quota_answer result ≡ Calls.quota_new rate_per_sec burst }
+    pub fn new(rate_per_sec: u32, burst: u32) -> Result<Quota, Refusal>
+        ensures { answer_of result ≡ Calls.quota_new rate_per_sec burst }
     {
         if rate_per_sec == 0 {
-            return QuotaAnswer::No(3);
+            return Err(Refusal::Rate);
         }
         if !Self::burst_fits(burst) {
-            return QuotaAnswer::No(4);
+            return Err(Refusal::Burst);
         }
         let interval = div_ceil(ONE_SEC, rate_per_sec as u64);
-        QuotaAnswer::Is(Self::with_interval(UNIT_NANOS, interval, burst))
+        Ok(Self::with_interval(UNIT_NANOS, interval, burst))
     }
 
     // The quota of any rate a second. Where 1e9 / rate is not finite or not above 0, and where it is
     // too long, the interval is the longest.
-    pub fn per_second(rate: f64, burst: u32) -> QuotaAnswer
-        ensures { Calls.quota_answer result ≡ Calls.quota_per_second rate burst }
+    pub fn per_second(rate: f64, burst: u32) -> Result<Quota, Refusal>
+        ensures { answer_of result ≡ Calls.quota_per_second rate burst }
     {
         if !Self::burst_fits(burst) {
-            return QuotaAnswer::No(4);
+            return Err(Refusal::Burst);
         }
         let interval = Self::quotient_nanos(float::ceil(1_000_000_000.0 / rate));
-        QuotaAnswer::Is(Self::with_interval(UNIT_NANOS, interval, burst))
+        Ok(Self::with_interval(UNIT_NANOS, interval, burst))
     }
 
     // The interval of a quotient 1e9 / rate, rounded up.
@@ -241,7 +177,7 @@ impl Quota {
             return MAX_INTERVAL;
         }
         if quotient >= 1.0 {
-            return whole::min(float::f64_to_u64(quotient), MAX_INTERVAL);
+            return float::f64_to_u64(quotient).min(MAX_INTERVAL);
         }
         if quotient > 0.0 { 1 } else { MAX_INTERVAL }
     }
@@ -250,11 +186,7 @@ impl Quota {
     pub fn burst_fits(burst: u32) -> bool
         ensures { result ≡ Packed.valid_burst burst }
     {
-        if 1 <= burst {
-            burst <= Self::MAX_BURST
-        } else {
-            false
-        }
+        1 <= burst && burst <= Self::MAX_BURST
     }
 
     // A quota of any interval: it is held between 1 and the longest, and rounded up to its unit.
@@ -282,7 +214,7 @@ impl Quota {
         requires { Accepted units }
         ensures { result ≡ min (max interval 1) (Packed.max_interval units) }
     {
-        whole::min(whole::max(interval, 1), Self::max_interval(units))
+        interval.max(1).min(Self::max_interval(units))
     }
 
     // The first unit whose rounded-up value is below 2^40, and that value.
@@ -324,47 +256,40 @@ impl Quota {
         requires { Accepted units }
         ensures { result ≡ Packed.valid_quota units self }
     {
-        let interval = self.interval;
-        if interval < 1 {
+        if self.interval < 1 || Self::max_interval(units) < self.interval {
             return false;
         }
-        if Self::max_interval(units) < interval {
-            return false;
-        }
-        if !Self::burst_fits(self.burst) {
-            return false;
-        }
-        Self::rounded(units, interval) == interval
+        Self::burst_fits(self.burst) && Self::rounded(units, self.interval) == self.interval
     }
 
     // 1e9 / T, the rate a second that the rounded interval stands for.
-    pub fn rate_per_sec(self) -> RateAnswer
-        ensures { Calls.rate_answer result ≡ Calls.quota_rate self }
+    pub fn rate_per_sec(self) -> Result<f64, Refusal>
+        ensures { answer_of result ≡ Calls.quota_rate self }
     {
         if !self.is_valid(UNIT_NANOS) {
-            return RateAnswer::No(2);
+            return Err(Refusal::Invalid);
         }
-        RateAnswer::Is(1_000_000_000.0 / float::u64_to_f64(self.interval))
+        Ok(1_000_000_000.0 / float::u64_to_f64(self.interval))
     }
 
     // The quota's burst.
-    pub fn burst(self) -> NumberAnswer
-        ensures { Calls.number_answer result ≡ Calls.quota_burst self }
+    pub fn burst(self) -> Result<u64, Refusal>
+        ensures { answer_of result ≡ Calls.quota_burst self }
     {
         if !self.is_valid(UNIT_NANOS) {
-            return NumberAnswer::No(2);
+            return Err(Refusal::Invalid);
         }
-        NumberAnswer::Is(self.burst as u64)
+        Ok(self.burst as u64)
     }
 
     // The packed word: value, unit code and burst, top down.
-    pub fn pack(self) -> NumberAnswer
-        ensures { Calls.number_answer result ≡ Calls.quota_pack self }
+    pub fn pack(self) -> Result<u64, Refusal>
+        ensures { answer_of result ≡ Calls.quota_pack self }
     {
         if !self.is_valid(UNIT_NANOS) {
-            return NumberAnswer::No(2);
+            return Err(Refusal::Invalid);
         }
-        NumberAnswer::Is(self.pack_in(UNIT_NANOS))
+        Ok(self.pack_in(UNIT_NANOS))
     }
 
     // The word at any table of units.
@@ -377,24 +302,20 @@ impl Quota {
     }
 
     // The quota of a word.
-    pub fn unpack(packed: u64) -> QuotaAnswer
-        ensures { Calls.quota_answer result ≡ Calls.quota_unpack packed }
+    pub fn unpack(packed: u64) -> Result<Quota, Refusal>
+        ensures { answer_of result ≡ Calls.quota_unpack packed }
     {
         if !Self::unpacks(packed) {
-            return QuotaAnswer::No(14);
+            return Err(Refusal::Word);
         }
-        QuotaAnswer::Is(Self::unpack_in(UNIT_NANOS, packed))
+        Ok(Self::unpack_in(UNIT_NANOS, packed))
     }
 
     // Whether a word has a unit code of 0 to 2 and a burst above 0.
     fn unpacks(packed: u64) -> bool
         ensures { result ≡ Packed.unpacks packed }
     {
-        if packed / UNIT_SCALE % UNIT_CODES < 3 {
-            0 < packed % UNIT_SCALE
-        } else {
-            false
-        }
+        packed / UNIT_SCALE % UNIT_CODES < 3 && 0 < packed % UNIT_SCALE
     }
 
     // The quota of a word at any table of units.
@@ -424,22 +345,10 @@ impl Quota {
         if packed % UNIT_SCALE == 0 {
             return false;
         }
-        if unit == 0 {
-            return 1 <= value;
-        }
-        if 2 < unit {
-            return false;
-        }
-        COARSER_LEAST <= value
-    }
-
-    fn same(self, other: Self) -> bool
-        ensures { result ≡ Rate.same_quota self other }
-    {
-        if self.interval == other.interval {
-            self.burst == other.burst
-        } else {
-            false
+        match unit {
+            0 => 1 <= value,
+            1 | 2 => COARSER_LEAST <= value,
+            _ => false,
         }
     }
 
@@ -466,28 +375,16 @@ impl Quota {
     }
 
     // The quoted ceiling of a window, both of whose ends count: burst + window / T.
-    pub fn ceiling(self, window: u64) -> NumberAnswer
-        ensures { Calls.number_answer result ≡ Calls.quota_ceiling self window }
+    pub fn ceiling(self, window: u64) -> Result<u64, Refusal>
+        ensures { answer_of result ≡ Calls.quota_ceiling self window }
     {
         if !self.is_valid(UNIT_NANOS) {
-            return NumberAnswer::No(2);
+            return Err(Refusal::Invalid);
         }
         if window > 1 << 62 {
-            return NumberAnswer::No(15);
+            return Err(Refusal::Window);
         }
-        NumberAnswer::Is(self.burst as u64 + window / self.interval)
-    }
-}
-
-impl Tat {
-    // A missing TAT counts as the reading.
-    fn or_reading(self, now: u64) -> u64
-        ensures { result ≡ Meter.tat_at self now }
-    {
-        match self {
-            Tat::Unset => now,
-            Tat::At(tat) => tat,
-        }
+        Ok(self.burst as u64 + window / self.interval)
     }
 }
 
@@ -495,10 +392,7 @@ impl Decision {
     pub fn is_allow(self) -> bool
         ensures { result ≡ Meter.is_allow self }
     {
-        match self {
-            Decision::Allow => true,
-            Decision::Deny { retry_at: _ } => false,
-        }
+        matches!(self, Decision::Allow)
     }
 }
 
@@ -506,7 +400,7 @@ impl Decision {
 fn attempt(pace: Pace, tat: u64, now: u64) -> Stepped
     ensures { result ≡ Meter.attempt pace tat now }
 {
-    let earliest = whole::saturating_sub(tat, pace.tau);
+    let earliest = tat.saturating_sub(pace.tau);
     if now < earliest {
         return Stepped {
             decision: Decision::Deny { retry_at: earliest },
@@ -515,7 +409,7 @@ fn attempt(pace: Pace, tat: u64, now: u64) -> Stepped
     }
     Stepped {
         decision: Decision::Allow,
-        tat: whole::saturating_add(whole::max(tat, now), pace.t),
+        tat: tat.max(now).saturating_add(pace.t),
     }
 }
 
@@ -531,7 +425,7 @@ pub fn step(tat: u64, packed: u64, now: u64) -> Stepped
 fn debt_slots(tat: u64, old: Quota, new: Quota, now: u64) -> f64
     ensures { result ≡ Rate.debt_slots tat old new now }
 {
-    let debt = float::u64_to_f64(whole::saturating_sub(tat, now));
+    let debt = float::u64_to_f64(tat.saturating_sub(now));
     let computed = debt / float::u64_to_f64(old.interval);
     if tat != u64::MAX {
         return computed;
@@ -546,42 +440,37 @@ fn carry_tat(tat: u64, old: Quota, new: Quota, now: u64) -> u64
     ensures { result ≡ Rate.carry_tat tat old new now }
 {
     let nanos = debt_slots(tat, old, new, now) * float::u64_to_f64(new.interval);
-    whole::saturating_add(now, float::f64_to_u64(float::round(nanos)))
+    now.saturating_add(float::f64_to_u64(float::round(nanos)))
 }
 
 impl Gcra {
     // A meter with no TAT.
-    pub fn new(quota: Quota) -> GcraAnswer
-        ensures { Calls.gcra_answer result ≡ Calls.gcra_new quota }
+    pub fn new(quota: Quota) -> Result<Gcra, Refusal>
+        ensures { answer_of result ≡ Calls.gcra_new quota }
     {
         if !quota.is_valid(UNIT_NANOS) {
-            return GcraAnswer::No(2);
+            return Err(Refusal::Invalid);
         }
-        GcraAnswer::Is(Self {
-            quota,
-            tat: Tat::Unset,
-        })
+        Ok(Self { quota, tat: None })
     }
 
     // Its quota.
-    pub fn quota(self) -> QuotaAnswer
-        ensures { Calls.quota_answer result ≡ Calls.gcra_quota self }
+    pub fn quota(self) -> Result<Quota, Refusal>
+        ensures { answer_of result ≡ Calls.gcra_quota self }
     {
-        let quota = self.quota;
-        if !quota.is_valid(UNIT_NANOS) {
-            return QuotaAnswer::No(2);
+        if !self.quota.is_valid(UNIT_NANOS) {
+            return Err(Refusal::Invalid);
         }
-        QuotaAnswer::Is(quota)
+        Ok(self.quota)
     }
 
     // Decides on a check with the reading `now`.
     pub fn check(self, now: u64) -> Checked
         ensures { Calls.GcraChecks self now result }
     {
-        let quota = self.quota;
-        if !quota.is_valid(UNIT_NANOS) {
+        if !self.quota.is_valid(UNIT_NANOS) {
             return Checked {
-                answer: CheckAnswer::No(2),
+                answer: Err(Refusal::Invalid),
                 gcra: self,
             };
         }
@@ -592,50 +481,39 @@ impl Gcra {
     fn checked(self, now: u64) -> Checked
         ensures { result ≡ Meter.checked self now }
     {
-        let quota = self.quota;
-        let tat = self.tat;
-        let s = attempt(quota.t_and_tau(), tat.or_reading(now), now);
-        let decision = s.decision;
-        let answer = CheckAnswer::Is(decision);
-        if decision.is_allow() {
-            Checked {
-                answer,
-                gcra: Gcra {
-                    quota,
-                    tat: Tat::At(s.tat),
-                },
-            }
+        let s = attempt(self.quota.t_and_tau(), self.tat.unwrap_or(now), now);
+        let tat = if s.decision.is_allow() {
+            Some(s.tat)
         } else {
-            Checked { answer, gcra: self }
+            self.tat
+        };
+        Checked {
+            answer: Ok(s.decision),
+            gcra: Gcra { tat, ..self },
         }
     }
 
     // Whether the TAT is ahead of the reading.
-    pub fn has_debt(self, now: u64) -> DebtAnswer
-        ensures { Calls.debt_answer result ≡ Calls.gcra_has_debt self now }
+    pub fn has_debt(self, now: u64) -> Result<bool, Refusal>
+        ensures { answer_of result ≡ Calls.gcra_has_debt self now }
     {
-        let quota = self.quota;
-        if !quota.is_valid(UNIT_NANOS) {
-            return DebtAnswer::No(2);
+        if !self.quota.is_valid(UNIT_NANOS) {
+            return Err(Refusal::Invalid);
         }
-        let tat = self.tat;
-        DebtAnswer::Is(now < tat.or_reading(now))
+        Ok(now < self.tat.unwrap_or(now))
     }
 
     // How far the retry time is ahead of the reading, where a check would be denied.
-    pub fn retry_after(self, now: u64) -> RetryAnswer
-        ensures { Calls.retry_answer result ≡ Calls.gcra_retry_after self now }
+    pub fn retry_after(self, now: u64) -> Result<Option<u64>, Refusal>
+        ensures { answer_of result ≡ Calls.gcra_retry_after self now }
     {
-        let quota = self.quota;
-        if !quota.is_valid(UNIT_NANOS) {
-            return RetryAnswer::No(2);
+        if !self.quota.is_valid(UNIT_NANOS) {
+            return Err(Refusal::Invalid);
         }
-        let tat = self.tat;
-        let s = attempt(quota.t_and_tau(), tat.or_reading(now), now);
-        let decision = s.decision;
-        match decision {
-            Decision::Allow => RetryAnswer::Now,
-            Decision::Deny { retry_at } => RetryAnswer::After(retry_at - now),
+        let s = attempt(self.quota.t_and_tau(), self.tat.unwrap_or(now), now);
+        match s.decision {
+            Decision::Allow => Ok(None),
+            Decision::Deny { retry_at } => Ok(Some(retry_at - now)),
         }
     }
 
@@ -644,21 +522,14 @@ impl Gcra {
     pub fn set_quota(self, quota: Quota, now: u64) -> QuotaSet
         ensures { Calls.GcraSets self quota now result }
     {
-        let old = self.quota;
-        if !old.is_valid(UNIT_NANOS) {
+        if !self.quota.is_valid(UNIT_NANOS) || !quota.is_valid(UNIT_NANOS) {
             return QuotaSet {
-                answer: SetAnswer::No(2),
-                gcra: self,
-            };
-        }
-        if !quota.is_valid(UNIT_NANOS) {
-            return QuotaSet {
-                answer: SetAnswer::No(2),
+                answer: Err(Refusal::Invalid),
                 gcra: self,
             };
         }
         QuotaSet {
-            answer: SetAnswer::Done,
+            answer: Ok(()),
             gcra: self.changed(quota, now),
         }
     }
@@ -667,16 +538,14 @@ impl Gcra {
     fn changed(self, quota: Quota, now: u64) -> Self
         ensures { result ≡ Rate.set_quota self quota now }
     {
-        let old = self.quota;
-        let tat = self.tat;
-        if quota.same(old) {
+        if quota == self.quota {
             return self;
         }
-        match tat {
-            Tat::Unset => Gcra { quota, tat },
-            Tat::At(at) => Gcra {
+        match self.tat {
+            None => Gcra { quota, ..self },
+            Some(at) => Gcra {
                 quota,
-                tat: Tat::At(carry_tat(at, old, quota, now)),
+                tat: Some(carry_tat(at, self.quota, quota, now)),
             },
         }
     }

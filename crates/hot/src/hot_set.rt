@@ -3,29 +3,19 @@
 // cooldown; a full set takes a key in only by evicting its weakest.
 // The entries stand in lent words; the crate `hot_lent` has the same calls over a lent slice of them.
 ghost use Rattle.std.specs.Prelude.{◌≡◌, true, map, ◌+◌, ◌-◌, ◌*◌, ◌≤◌, ◌<◌, leb, length, drop};
-ghost use Rattle.std.proofs.Math.Option.{none, some};
-ghost use Rattle.records.specs.Records.{table};
-ghost use Rattle.questions.specs.Questions.{passes, first_no};
-ghost use Rattle.records.specs.Fields.{time_flag, time_word, time_of};
+ghost use Rattle.records.specs.Records.{table, find_in};
+ghost use Rattle.questions.specs.Questions.{passes, first_no, answer};
+ghost use Rattle.questions.specs.Refusals.{asked, answer_of};
 ghost use Rattle.hot.specs.HotSet.Set as Set;
-ghost use Rattle.records.specs.Typed.{follows};
-ghost use Rattle.hot.specs.HotSet.Steps.{are_words, are_entry_words, slot, EntriesReady};
+ghost use Rattle.hot.specs.HotSet.Steps.{are_words, are_entry_words, EntriesReady};
 ghost use Rattle.hot.specs.HotSet.Steps.{Evicts, Promotes, Cools, Updates};
 ghost use Rattle.hot.specs.HotSet.Calls as Calls;
 
-use demand::answers::{FlagAnswer, LenAnswer};
-use float::whole;
-use records::fields;
+use questions::Refusal;
+use records::{Found, fields};
 
 // To evict the weakest key a demand must be above this many times its own.
 pub(crate) const EVICTION_MARGIN: f64 = 1.1;
-
-// Whether a primary key's demand is below the threshold, and since when.
-#[derive(Clone, Copy)]
-pub enum Cooling {
-    Unset,
-    Since(u64),
-}
 
 // An entry of the set.
 #[derive(Clone, Copy)]
@@ -33,7 +23,7 @@ pub struct HotEntry {
     pub key: u64,
     pub demand: f64,
     pub primary: bool,
-    pub cooling_since: Cooling,
+    pub cooling_since: Option<u64>,
     pub since: u64,
 }
 
@@ -52,69 +42,6 @@ pub struct Updated {
     pub set: HotSet,
 }
 
-// Answers: the number of the question that was answered 'no', or the value.
-#[derive(Clone, Copy)]
-pub enum NewAnswer {
-    No(u8),
-    Is(HotSet),
-}
-
-#[derive(Clone, Copy)]
-pub enum UpdateAnswer {
-    No(u8),
-    Is(Updated),
-}
-
-#[derive(Clone, Copy)]
-pub enum EachAnswer {
-    No(u8),
-    Is(HotSet),
-}
-
-#[derive(Clone, Copy)]
-pub enum SinceAnswer {
-    No(u8),
-    NotHot,
-    Since(u64),
-}
-
-// The entry of a key, or that there is none.
-#[derive(Clone, Copy)]
-enum Slot {
-    Free,
-    Entry(HotEntry),
-}
-
-impl Cooling {
-    // The two words of a time that may be missing, and back.
-    fn flag(self) -> u64
-        ensures { result ≡ time_flag (Set.cooling_time self) }
-    {
-        match self {
-            Cooling::Unset => 0,
-            Cooling::Since(_) => 1,
-        }
-    }
-
-    fn time(self) -> u64
-        ensures { result ≡ time_word (Set.cooling_time self) }
-    {
-        match self {
-            Cooling::Unset => 0,
-            Cooling::Since(t) => t,
-        }
-    }
-
-    fn of_words(flag: u64, time: u64) -> Self
-        ensures { result ≡ Set.cooling (time_of flag time) }
-    {
-        if flag == 0 {
-            return Cooling::Unset;
-        }
-        Cooling::Since(time)
-    }
-}
-
 impl HotEntry {
     // The words of an entry: key, demand, primary, whether it is cooling, since when, and hot since
     // when.
@@ -128,24 +55,21 @@ impl HotEntry {
             key,
             demand,
             primary,
-            cooling_since: Cooling::Unset,
+            cooling_since: None,
             since: now,
         }
     }
 
     // The words of its record.
-    pub fn words(self) -> [u64; 6]
+    #[tactic(auto, unfolding(crate::specs::HotSet::Set::words))]
+    pub fn words(self) -> [u64; Self::WORDS]
         ensures { result ≡ Set.words self }
     {
-        let cooling = self.cooling_since;
-        let demand = float::to_bits(self.demand);
-        let primary = fields::flag_word(self.primary);
-        let is_cooling = cooling.flag();
-        let cooling_since = cooling.time();
+        let [is_cooling, cooling_since] = fields::time_words(self.cooling_since);
         [
             self.key,
-            demand,
-            primary,
+            float::to_bits(self.demand),
+            fields::flag_word(self.primary),
             is_cooling,
             cooling_since,
             self.since,
@@ -154,16 +78,11 @@ impl HotEntry {
 
     // Whether words, whatever the key and since when it is hot, could be those of an entry in a valid
     // image.
+    #[tactic(auto, using(std::proofs::lemmas::Bool::Decides::nat_tests))]
     pub fn are_words(demand: u64, primary: u64, cooling: u64, cooling_since: u64) -> bool
         ensures { result ≡ are_words demand primary cooling cooling_since }
     {
-        if !float::is_magnitude_bits(demand) {
-            return false;
-        }
-        if primary > 1 {
-            return false;
-        }
-        fields::is_time(cooling, cooling_since)
+        float::is_magnitude_bits(demand) && primary <= 1 && fields::is_time(cooling, cooling_since)
     }
 
     // The entry whose words begin at `at`.
@@ -171,19 +90,17 @@ impl HotEntry {
         requires { at + 6 ≤ length hot.now }
         ensures { result ≡ Set.entry (drop at hot.now) }
     {
-        let demand = float::from_bits(hot[at + 1]);
-        let cooling_since = Cooling::of_words(hot[at + 3], hot[at + 4]);
         HotEntry {
             key: hot[at],
-            demand,
+            demand: float::from_bits(hot[at + 1]),
             primary: hot[at + 2] != 0,
-            cooling_since,
+            cooling_since: fields::time_of(hot[at + 3], hot[at + 4]),
             since: hot[at + 5],
         }
     }
 
     // The entry of a record's words.
-    pub fn of_record(r: [u64; 6]) -> Self
+    pub fn of_record(r: [u64; Self::WORDS]) -> Self
         ensures { result ≡ Set.entry r }
     {
         HotEntry::of_words(&r, 0)
@@ -194,42 +111,29 @@ impl HotEntry {
         ensures { result ≡ Set.renewed demand primary self }
     {
         HotEntry {
-            key: self.key,
             demand,
             primary,
-            cooling_since: Cooling::Unset,
-            since: self.since,
+            cooling_since: None,
+            ..self
         }
     }
 
     // With a demand that is not above the threshold: a primary entry begins to cool, and is primary no
     // more once it has cooled for the cooldown.
+    #[tactic(auto, unfolding(crate::specs::HotSet::Set::cooled))]
     fn cool(self, demand: f64, now: u64, cooldown: u64) -> Self
         ensures { result ≡ Set.cooled cooldown demand now self }
     {
-        let cooling = self.cooling_since;
         if !self.primary {
-            return HotEntry {
-                key: self.key,
+            return HotEntry { demand, ..self };
+        }
+        match self.cooling_since {
+            Some(since) if cooldown <= now.saturating_sub(since) => self.renewed(demand, false),
+            since => HotEntry {
                 demand,
-                primary: false,
-                cooling_since: cooling,
-                since: self.since,
-            };
-        }
-        let mut left = Cooling::Since(now);
-        if let Cooling::Since(t) = cooling {
-            if cooldown <= whole::saturating_sub(now, t) {
-                return self.renewed(demand, false);
-            }
-            left = cooling;
-        }
-        HotEntry {
-            key: self.key,
-            demand,
-            primary: true,
-            cooling_since: left,
-            since: self.since,
+                cooling_since: since.or(Some(now)),
+                ..self
+            },
         }
     }
 }
@@ -237,26 +141,22 @@ impl HotEntry {
 // ---- questions
 
 // Whether the size is one that a hot set may have.
+#[tactic(auto, using(std::proofs::lemmas::Bool::Decides::nat_tests), unfolding(crate::specs::HotSet::Set::valid_size))]
 fn is_valid_size(max_size: usize) -> bool
     ensures { result ≡ Set.valid_size max_size }
 {
-    if max_size < 1 {
-        return false;
-    }
-    max_size <= HotSet::MAX_SIZE
+    1 <= max_size && max_size <= HotSet::MAX_SIZE
 }
 
 // Whether `len` words are enough for a set of that size; a size above 64 counts as 64.
 fn has_room(max_size: usize, len: usize) -> bool
     ensures { result ≡ leb (Calls.room max_size) len }
 {
-    if max_size > HotSet::MAX_SIZE {
-        return HotEntry::WORDS * HotSet::MAX_SIZE <= len;
-    }
-    HotEntry::WORDS * max_size <= len
+    HotEntry::WORDS * max_size.min(HotSet::MAX_SIZE) <= len
 }
 
-// ---- the entries in lent words: the map of keys
+// ---- the entries in lent words: the map of keys. The words are the caller's, and the set has their
+// count, as C callers keep them: so the two go side by side.
 
 // Whether the words at `at`, but for the key, could be those of an entry in a valid image.
 fn is_entry(hot: &[u64], at: usize) -> bool
@@ -266,17 +166,6 @@ fn is_entry(hot: &[u64], at: usize) -> bool
     HotEntry::are_words(hot[at + 1], hot[at + 2], hot[at + 3], hot[at + 4])
 }
 
-// Whether the key at `at` is above the one before it, if there is one.
-fn follows(hot: &[u64], at: usize) -> bool
-    requires { at < length hot.now }
-    ensures { result ≡ follows 6 at hot.now }
-{
-    if at < HotEntry::WORDS {
-        return true;
-    }
-    hot[at - HotEntry::WORDS] < hot[at]
-}
-
 // Whether the first n records are within the words, and could stand in a valid image.
 pub fn are_valid(hot: &[u64], n: usize) -> bool
     ensures { Calls.SaidValid hot.now n result }
@@ -284,29 +173,30 @@ pub fn are_valid(hot: &[u64], n: usize) -> bool
     if !records::fits(hot.len(), HotEntry::WORDS, n) {
         return false;
     }
-    let mut i = 0;
-    while i < n {
+    for i in 0..n {
         let at = i * HotEntry::WORDS;
-        if !follows(hot, at) {
+        if !(records::follows(hot, HotEntry::WORDS, at) && is_entry(hot, at)) {
             return false;
         }
-        if !is_entry(hot, at) {
-            return false;
-        }
-        i += 1;
     }
     true
 }
 
-// The entry of a key.
-fn get(hot: &[u64], n: usize, key: u64) -> Slot
-    requires { EntriesReady n hot.now }
-    ensures { slot result ≡ Set.get key (Set.entries n hot.now) }
+// Where the entry of a key is, or would go.
+fn find(hot: &[u64], n: usize, key: u64) -> Found
+    ensures { result ≡ find_in 6 1 n key 0 hot.now }
 {
-    match records::find(hot, HotEntry::WORDS, 1, n, key, 0) {
-        records::Found::At(i) => Slot::Entry(HotEntry::of_words(hot, i * HotEntry::WORDS)),
-        records::Found::Gap(_) => Slot::Free,
-        records::Found::Unfit => Slot::Free,
+    records::find(hot, HotEntry::WORDS, 1, n, key, 0)
+}
+
+// The entry of a key.
+fn get(hot: &[u64], n: usize, key: u64) -> Option<HotEntry>
+    requires { EntriesReady n hot.now }
+    ensures { result ≡ Set.get key (Set.entries n hot.now) }
+{
+    match find(hot, n, key) {
+        Found::At(i) => Some(HotEntry::of_words(hot, i * HotEntry::WORDS)),
+        _ => None,
     }
 }
 
@@ -317,15 +207,15 @@ fn put(hot: &mut [u64], n: usize, entry: HotEntry)
     ensures { hot.new ≡ table (map Set.words (Set.put entry (Set.entries n hot.old)))
         hot.old }
 {
-    let r = entry.words();
-    match records::find(hot, HotEntry::WORDS, 1, n, entry.key, 0) {
-        records::Found::At(i) => {
-            records::overwrite(hot, HotEntry::WORDS, n, i, &r);
+    let words = entry.words();
+    match find(hot, n, entry.key) {
+        Found::At(i) => {
+            records::overwrite(hot, HotEntry::WORDS, n, i, &words);
         }
-        records::Found::Gap(i) => {
-            records::insert(hot, HotEntry::WORDS, n, i, &r);
+        Found::Gap(i) => {
+            records::insert(hot, HotEntry::WORDS, n, i, &words);
         }
-        records::Found::Unfit => {}
+        Found::Unfit => {}
     }
 }
 
@@ -335,12 +225,8 @@ fn remove(hot: &mut [u64], n: usize, key: u64)
     ensures { hot.new ≡ table (map Set.words (Set.remove key (Set.entries n hot.old)))
         hot.old }
 {
-    match records::find(hot, HotEntry::WORDS, 1, n, key, 0) {
-        records::Found::At(i) => {
-            records::remove(hot, HotEntry::WORDS, n, i);
-        }
-        records::Found::Gap(_) => {}
-        records::Found::Unfit => {}
+    if let Found::At(i) = find(hot, n, key) {
+        records::remove(hot, HotEntry::WORDS, n, i);
     }
 }
 
@@ -348,18 +234,16 @@ fn remove(hot: &mut [u64], n: usize, key: u64)
 fn weakest(hot: &[u64], n: usize) -> HotEntry
     requires entries_ready { EntriesReady n hot.now }
     requires n_nonzero { 0 < n }
-    ensures { some result ≡ Set.weakest (Set.entries n hot.now) }
+    ensures { Some result ≡ Set.weakest (Set.entries n hot.now) }
 {
     let mut least = 0;
-    let mut i = 1;
-    while i < n {
+    for i in 1..n {
         if float::total_less(
             hot[i * HotEntry::WORDS + 1],
             hot[least * HotEntry::WORDS + 1],
         ) {
             least = i;
         }
-        i += 1;
     }
     HotEntry::of_words(hot, least * HotEntry::WORDS)
 }
@@ -368,46 +252,38 @@ impl HotSet {
     // The most keys that a hot set may hold.
     pub const MAX_SIZE: usize = 64;
 
-    // The first question that is answered 'no', or 0: is there room, and could the set stand in a
-    // valid image?
-    pub(crate) fn ask(self, hot: &[u64]) -> u8
-        ensures { result ≡ first_no (Calls.ask_set self hot.now) }
+    // Asks whether there is room, and whether the set could stand in a valid image.
+    #[tactic(auto, unfolding(questions::specs::Questions::first_no))]
+    pub(crate) fn ask(self, hot: &[u64]) -> Result<(), Refusal>
+        ensures { asked result ≡ first_no (Calls.ask_set self hot.now) }
     {
         if !has_room(self.max_size, hot.len()) {
-            return 1;
+            return Err(Refusal::ShortBuffer);
         }
         if !self.is_valid(hot) {
-            return 2;
+            return Err(Refusal::Invalid);
         }
-        0
+        Ok(())
     }
 
-    // The same, and whether the demand is finite with a clear sign bit.
-    fn ask_update(self, hot: &[u64], demand_rate: f64) -> u8
-        ensures { result ≡ first_no (Calls.ask_update self hot.now demand_rate) }
+    // Asks the same, and whether the demand is finite with a clear sign bit.
+    fn ask_update(self, hot: &[u64], demand_rate: f64) -> Result<(), Refusal>
+        ensures { asked result ≡ first_no (Calls.ask_update self hot.now demand_rate) }
     {
-        let no = self.ask(hot);
-        if no != 0 {
-            return no;
-        }
+        self.ask(hot)?;
         if !float::is_magnitude(demand_rate) {
-            return 11;
+            return Err(Refusal::Demand);
         }
-        0
+        Ok(())
     }
 
     // Whether the set could stand in a valid image, with its entries in these words.
+    #[tactic(auto, using(std::proofs::lemmas::Bool::Decides::nat_tests, crate::proofs::HotSet::Answers::by_tests))]
     fn is_valid(self, hot: &[u64]) -> bool
         requires { Calls.room self.max_size ≤ length hot.now }
         ensures { result ≡ Set.is_valid self hot.now }
     {
-        if !is_valid_size(self.max_size) {
-            return false;
-        }
-        if self.max_size < self.len {
-            return false;
-        }
-        are_valid(hot, self.len)
+        is_valid_size(self.max_size) && self.len <= self.max_size && are_valid(hot, self.len)
     }
 
     // An answer, with the number of entries that the set holds now.
@@ -416,19 +292,15 @@ impl HotSet {
     {
         Updated {
             is_hot,
-            set: HotSet {
-                cooldown: self.cooldown,
-                max_size: self.max_size,
-                len,
-            },
+            set: HotSet { len, ..self },
         }
     }
 
     // Puts the entry of an absent key in the place of the weakest one, if its demand is high enough.
     fn evict(self, hot: &mut [u64], entry: HotEntry, margin: f64) -> Updated
-        requires hot_value { passes (Calls.ask_set self hot.old) ≡ true }
-        requires len_value { self.len ≡ self.max_size }
-        requires hot_value_2 { Set.get entry.key (Calls.entries_of self hot.old) ≡ none }
+        requires passed { passes (Calls.ask_set self hot.old) ≡ true }
+        requires full { self.len ≡ self.max_size }
+        requires absent { Set.get entry.key (Calls.entries_of self hot.old) ≡ None }
         ensures { Evicts margin self entry hot.old result hot.new }
     {
         let n = self.len;
@@ -441,34 +313,23 @@ impl HotSet {
         self.counted(false, n)
     }
 
-    // Makes the key hot, if it is or there is a place for it.
-    fn promote(
-        self,
-        hot: &mut [u64],
-        key: u64,
-        demand_rate: f64,
-        primary: bool,
-        now: u64,
-        margin: f64,
-    ) -> Updated
-        requires { passes (Calls.ask_set self hot.old) ≡ true }
-        ensures { Promotes margin self key demand_rate primary now hot.old result hot.new }
+    // Takes in a new entry: its key is hot, if it is already or there is a place for it.
+    fn promote(self, hot: &mut [u64], entry: HotEntry, margin: f64) -> Updated
+        requires passed { passes (Calls.ask_set self hot.old) ≡ true }
+        requires warm { entry.cooling_since ≡ None }
+        ensures { Promotes margin self entry.key entry.demand entry.primary entry.since hot.old
+            result hot.new }
     {
         let n = self.len;
-        match get(hot, n, key) {
-            Slot::Entry(entry) => {
-                put(hot, n, entry.renewed(demand_rate, primary));
-                self.counted(true, n)
-            }
-            Slot::Free => {
-                let entry = HotEntry::new(key, demand_rate, primary, now);
-                if n < self.max_size {
-                    put(hot, n, entry);
-                    return self.counted(true, n + 1);
-                }
-                self.evict(hot, entry, margin)
-            }
+        if let Some(known) = get(hot, n, entry.key) {
+            put(hot, n, known.renewed(entry.demand, entry.primary));
+            return self.counted(true, n);
         }
+        if n < self.max_size {
+            put(hot, n, entry);
+            return self.counted(true, n + 1);
+        }
+        self.evict(hot, entry, margin)
     }
 
     // The demand is not above the threshold: the key cools, and leaves where neither it nor a peer
@@ -487,7 +348,7 @@ impl HotSet {
     {
         let n = self.len;
         match get(hot, n, key) {
-            Slot::Entry(entry) => {
+            Some(entry) => {
                 let cooled = entry.cool(demand_rate, now, self.cooldown);
                 if cooled.primary || hot_elsewhere {
                     put(hot, n, cooled);
@@ -496,17 +357,15 @@ impl HotSet {
                 remove(hot, n, key);
                 self.counted(false, n - 1)
             }
-            Slot::Free => {
-                if hot_elsewhere {
-                    return self.promote(hot, key, demand_rate, false, now, margin);
-                }
-                self.counted(false, n)
+            None if hot_elsewhere => {
+                self.promote(hot, HotEntry::new(key, demand_rate, false, now), margin)
             }
+            None => self.counted(false, n),
         }
     }
 
     // What `update_with` does once its questions are passed.
-    pub(crate) fn update_with_margin(
+    pub(crate) fn take_in(
         self,
         hot: &mut [u64],
         key: u64,
@@ -521,22 +380,23 @@ impl HotSet {
             hot.new }
     {
         if demand_rate > threshold {
-            return self.promote(hot, key, demand_rate, true, now, margin);
+            return self.promote(hot, HotEntry::new(key, demand_rate, true, now), margin);
         }
         self.below_threshold(hot, key, demand_rate, now, hot_elsewhere, margin)
     }
 
     // A set with no entry yet.
-    pub fn new(hot: &[u64], cooldown: u64, max_size: usize) -> NewAnswer
+    #[tactic(auto, unfolding(questions::specs::Questions::answer))]
+    pub fn new(hot: &[u64], cooldown: u64, max_size: usize) -> Result<HotSet, Refusal>
         ensures { Calls.MadeNew hot.now cooldown max_size result }
     {
         if !has_room(max_size, hot.len()) {
-            return NewAnswer::No(1);
+            return Err(Refusal::ShortBuffer);
         }
         if !is_valid_size(max_size) {
-            return NewAnswer::No(6);
+            return Err(Refusal::Sizes);
         }
-        NewAnswer::Is(HotSet {
+        Ok(HotSet {
             cooldown,
             max_size,
             len: 0,
@@ -551,7 +411,7 @@ impl HotSet {
         demand_rate: f64,
         threshold: f64,
         now: u64,
-    ) -> UpdateAnswer
+    ) -> Result<Updated, Refusal>
         ensures { Calls.UpdatedAlone self hot.old key demand_rate threshold now result hot.new }
     {
         self.update_with(hot, key, demand_rate, threshold, now, false)
@@ -566,15 +426,12 @@ impl HotSet {
         threshold: f64,
         now: u64,
         hot_elsewhere: bool,
-    ) -> UpdateAnswer
+    ) -> Result<Updated, Refusal>
         ensures { Calls.UpdatedWith self hot.old key demand_rate threshold now hot_elsewhere result
             hot.new }
     {
-        let no = self.ask_update(hot, demand_rate);
-        if no != 0 {
-            return UpdateAnswer::No(no);
-        }
-        UpdateAnswer::Is(self.update_with_margin(
+        self.ask_update(hot, demand_rate)?;
+        Ok(self.take_in(
             hot,
             key,
             demand_rate,
@@ -585,67 +442,49 @@ impl HotSet {
         ))
     }
 
+    // The entry of a key, if the set has it.
+    fn entry_of(self, hot: &[u64], key: u64) -> Result<Option<HotEntry>, Refusal>
+        ensures { answer_of result ≡ answer (Calls.ask_set self hot.now)
+            (Set.get key (Calls.entries_of self hot.now)) }
+    {
+        self.ask(hot)?;
+        Ok(get(hot, self.len, key))
+    }
+
     // Whether the set has the key.
-    pub fn is_hot(self, hot: &[u64], key: u64) -> FlagAnswer
+    pub fn is_hot(self, hot: &[u64], key: u64) -> Result<bool, Refusal>
         ensures { Calls.SaidHot self hot.now key result }
     {
-        let no = self.ask(hot);
-        if no != 0 {
-            return FlagAnswer::No(no);
-        }
-        match get(hot, self.len, key) {
-            Slot::Entry(_) => FlagAnswer::Is(true),
-            Slot::Free => FlagAnswer::Is(false),
-        }
+        Ok(self.entry_of(hot, key)?.is_some())
     }
 
     // When the key came in, if the set has it.
-    pub fn hot_since(self, hot: &[u64], key: u64) -> SinceAnswer
+    pub fn hot_since(self, hot: &[u64], key: u64) -> Result<Option<u64>, Refusal>
         ensures { Calls.SaidSince self hot.now key result }
     {
-        let no = self.ask(hot);
-        if no != 0 {
-            return SinceAnswer::No(no);
-        }
-        match get(hot, self.len, key) {
-            Slot::Entry(entry) => SinceAnswer::Since(entry.since),
-            Slot::Free => SinceAnswer::NotHot,
-        }
+        Ok(self.entry_of(hot, key)?.map(|entry| entry.since))
     }
 
     // Whether the set has the key as primary.
-    pub fn is_primary(self, hot: &[u64], key: u64) -> FlagAnswer
+    pub fn is_primary(self, hot: &[u64], key: u64) -> Result<bool, Refusal>
         ensures { Calls.SaidPrimary self hot.now key result }
     {
-        let no = self.ask(hot);
-        if no != 0 {
-            return FlagAnswer::No(no);
-        }
-        match get(hot, self.len, key) {
-            Slot::Entry(entry) => FlagAnswer::Is(entry.primary),
-            Slot::Free => FlagAnswer::Is(false),
-        }
+        Ok(self.entry_of(hot, key)?.is_some_and(|entry| entry.primary))
     }
 
     // How many entries there are.
-    pub fn len(self, hot: &[u64]) -> LenAnswer
+    pub fn len(self, hot: &[u64]) -> Result<usize, Refusal>
         ensures { Calls.SaidLen self hot.now result }
     {
-        let no = self.ask(hot);
-        if no != 0 {
-            return LenAnswer::No(no);
-        }
-        LenAnswer::Is(self.len)
+        self.ask(hot)?;
+        Ok(self.len)
     }
 
     // Whether there are none.
-    pub fn is_empty(self, hot: &[u64]) -> FlagAnswer
+    pub fn is_empty(self, hot: &[u64]) -> Result<bool, Refusal>
         ensures { Calls.SaidEmpty self hot.now result }
     {
-        let no = self.ask(hot);
-        if no != 0 {
-            return FlagAnswer::No(no);
-        }
-        FlagAnswer::Is(self.len == 0)
+        self.ask(hot)?;
+        Ok(self.len == 0)
     }
 }

@@ -1,15 +1,19 @@
-// The hot set's update of many keys, one after the other, for one test of the set.
+// The hot set's update of many keys, one after the other, for one test of the set. C callers lend
+// the keys, demands, thresholds and flags as lists of their own, and so they stay here.
 ghost use Rattle.std.specs.Prelude.{◌≡◌, true, ◌≤◌, length, take};
 ghost use Rattle.float.specs.Magnitude.{magnitude};
 ghost use Rattle.questions.specs.Questions.{passes, first_no};
+ghost use Rattle.questions.specs.Refusals.{asked};
 ghost use Rattle.questions.specs.Lists.{all};
 ghost use Rattle.hot.specs.HotSet.Calls as Calls;
 ghost use Rattle.hot.specs.HotSet.Steps.{UpdatesEach};
 
-use crate::hot_set::{EVICTION_MARGIN, EachAnswer, HotSet};
+use crate::hot_set::{EVICTION_MARGIN, HotSet};
+use questions::Refusal;
 
 // Whether the keys of n records of w words, and a demand, a threshold and a flag for each, are
 // within lent slices of these lengths.
+#[tactic(auto, using(std::proofs::lemmas::Bool::Decides::nat_tests), unfolding(crate::specs::HotSet::Calls::updates_fit))]
 fn updates_fit(
     keys: usize,
     w: usize,
@@ -20,51 +24,30 @@ fn updates_fit(
 ) -> bool
     ensures { result ≡ Calls.updates_fit keys w n demands thresholds elsewhere }
 {
-    if !records::fits(keys, w, n) {
-        return false;
-    }
-    if demands < n {
-        return false;
-    }
-    if thresholds < n {
-        return false;
-    }
-    n <= elsewhere
+    records::fits(keys, w, n) && n <= demands && n <= thresholds && n <= elsewhere
 }
 
-// Whether each of the first n demands is finite with a clear sign bit.
-fn are_magnitudes(demands: &[f64], n: usize) -> bool
-    requires { n ≤ length demands.now }
-    ensures { result ≡ all magnitude (take n demands.now) }
+// Whether each demand is finite with a clear sign bit.
+fn are_magnitudes(demands: &[f64]) -> bool
+    ensures { result ≡ all magnitude demands.now }
 {
-    let mut i = 0;
-    while i < n {
-        if !float::is_magnitude(demands[i]) {
-            return false;
-        }
-        i += 1;
-    }
-    true
+    demands.iter().all(|demand| float::is_magnitude(*demand))
 }
 
 impl HotSet {
-    // The first question about n updates that is answered 'no', or 0. That the keys are lent is asked
-    // before.
-    fn ask_each(self, hot: &[u64], demands: &[f64], n: usize, room: usize) -> u8
+    // Asks about n updates. That the keys are lent is asked before.
+    fn ask_each(self, hot: &[u64], demands: &[f64], n: usize, room: usize) -> Result<(), Refusal>
         requires { n ≤ length demands.now }
-        ensures { result ≡ first_no (Calls.ask_set_each self hot.now n demands.now room) }
+        ensures { asked result ≡ first_no (Calls.ask_set_each self hot.now n demands.now room) }
     {
-        let no = self.ask(hot);
-        if no != 0 {
-            return no;
-        }
-        if !are_magnitudes(demands, n) {
-            return 11;
+        self.ask(hot)?;
+        if !are_magnitudes(&demands[..n]) {
+            return Err(Refusal::Demand);
         }
         if room < n {
-            return 16;
+            return Err(Refusal::ShortOutput);
         }
-        0
+        Ok(())
     }
 
     // What `update_each` does once its questions are passed.
@@ -89,9 +72,8 @@ impl HotSet {
             out.old result hot.new out.new }
     {
         let mut set = self;
-        let mut i = 0;
-        while i < n {
-            let updated = set.update_with_margin(
+        for i in 0..n {
+            let updated = set.take_in(
                 hot,
                 keys[i * w],
                 demands[i],
@@ -102,7 +84,6 @@ impl HotSet {
             );
             out[i] = updated.is_hot;
             set = updated.set;
-            i += 1;
         }
         set
     }
@@ -120,7 +101,7 @@ impl HotSet {
         elsewhere: &[bool],
         now: u64,
         out: &mut [bool],
-    ) -> EachAnswer
+    ) -> Result<HotSet, Refusal>
         ensures { Calls.UpdatedEach self hot.old keys.now w n demands.now thresholds.now
             elsewhere.now now out.old result hot.new out.new }
     {
@@ -132,12 +113,9 @@ impl HotSet {
             thresholds.len(),
             elsewhere.len(),
         ) {
-            return EachAnswer::No(1);
+            return Err(Refusal::ShortBuffer);
         }
-        let no = self.ask_each(hot, demands, n, out.len());
-        if no != 0 {
-            return EachAnswer::No(no);
-        }
-        EachAnswer::Is(self.update_all(hot, keys, w, n, demands, thresholds, elsewhere, now, out))
+        self.ask_each(hot, demands, n, out.len())?;
+        Ok(self.update_all(hot, keys, w, n, demands, thresholds, elsewhere, now, out))
     }
 }

@@ -10,12 +10,15 @@ use Rattle.records.specs.Typed.{exact}
 use Rattle.limiter.specs.declared.Config.{Config}
 use Rattle.limiter.specs.declared.Limiter.{Limiter}
 use Rattle.limiter.specs.State as limiter-state
-use Rattle.limiter.specs.State.{Settings, LimiterState, units_of, float_of, cap_of, last_tick_of, settings_of, key_words, key_of, shadow_words, shadow_of}
+use Rattle.limiter.specs.State.{Settings, LimiterState, units_of, float_of, settings_of, key_words, key_of, shadow_words, shadow_of}
 use Rattle.image.specs.declared.scan.Sections.{Sections}
-use Rattle.image.specs.declared.LoadAnswer.{LoadAnswer}
 use Rattle.image.specs.Image.{Section}
 use Rattle.image.specs.Reader.{word_at, begins, cap_from, settings_from, rows_of, state_from, state_read, is_image}
-use Rattle.image.specs.Calls.{load_answer, values_of}
+use Rattle.image.specs.Calls.{values_of}
+use Rattle.std.specs.declared.result.Result.{Result}
+use Rattle.questions.specs.declared.Refusal.{Refusal}
+use Rattle.image.specs.declared.Loaded.{Loaded}
+use Rattle.questions.specs.Refusals.{answer_of}
 
 -- ---- question 1
 
@@ -78,8 +81,8 @@ pub record Counted (s : Sections) (l : Limiter) : Type 0 where
 -- and with the settings of the words
 pub record Reads (ws : List ℕ) (s : Sections) (l : Limiter) : Type 0 where
   pub config : l.config ≡ config_from ws
-  pub cap : cap_of l.cap ≡ cap_from (get_or ws 9 0) (get_or ws 10 0)
-  pub last-tick : last_tick_of l.last_tick ≡ time_of (get_or ws 11 0) (get_or ws 12 0)
+  pub cap : l.cap ≡ cap_from (get_or ws 9 0) (get_or ws 10 0)
+  pub last-tick : l.last_tick ≡ time_of (get_or ws 11 0) (get_or ws 12 0)
   pub counts : Counted s l
 
 abbrev pub peers_found : Sections → PeerDemand
@@ -117,5 +120,5 @@ peers_judged xs =
 abbrev pub image_questions : List ℕ → List Question
 image_questions bs = (13 asks is_image bs) ∷ []
 
-abbrev pub Judges : List ℕ → LoadAnswer → Type 0
-Judges bs r = load_answer r ≡ answer (image_questions bs) (values_of (state_read bs))
+abbrev pub Judges : List ℕ → Result Loaded Refusal → Type 0
+Judges bs r = answer_of r ≡ answer (image_questions bs) (values_of (state_read bs))

@@ -13,11 +13,11 @@ ghost use Rattle.peers.specs.Peers.State as peer-state;
 ghost use Rattle.limiter.specs.State.{tables};
 ghost use Rattle.image.specs.Calls as Calls;
 
-use demand::answers::LenAnswer;
 use hot::hot_set::HotSet;
 use limiter::Limiter;
 use peers::peer_demand;
 use peers::peer_demand::PeerDemand;
+use questions::Refusal;
 
 // The most records that an image has, the settings and the end among them.
 const MOST_RECORDS: usize = 2
@@ -48,13 +48,6 @@ pub struct Loaded {
     pub peers: PeerDemand,
 }
 
-// The number of the question that was answered 'no', or what the image makes.
-#[derive(Clone, Copy)]
-pub enum LoadAnswer {
-    No(u8),
-    Is(Loaded),
-}
-
 // Writes the image of the lent state: how many bytes.
 pub fn save(
     limiter: Limiter,
@@ -66,15 +59,14 @@ pub fn save(
     snapshot_keys: &[u64],
     contested: &[u64],
     out: &mut [u8],
-) -> LenAnswer
+) -> Result<usize, Refusal>
     ensures { Calls.Saves limiter (tables keys.now hot.now shadows.now) peers (peer-state.tables peer_table.now snapshot_keys.now contested.now)
         out.old result out.new }
 {
     let here = limiter.ask(keys, hot, shadows);
     let there = peers.ask(peer_table, snapshot_keys, contested);
-    let no = writer::first_of(here, there);
     writer::save_asked(
-        no,
+        Refusal::first(here, there),
         limiter,
         keys,
         hot,
@@ -97,7 +89,7 @@ pub fn load(
     peer_table: &mut [u64],
     snapshot_keys: &mut [u64],
     contested: &mut [u64],
-) -> LoadAnswer
+) -> Result<Loaded, Refusal>
     ensures { Calls.Loads image.now (tables keys.old hot.old shadows.old)
         (peer-state.tables peer_table.old snapshot_keys.old contested.old) result (tables keys.new hot.new shadows.new)
         (peer-state.tables peer_table.new snapshot_keys.new contested.new) }
@@ -111,23 +103,19 @@ pub fn load(
         snapshot_keys.len(),
         contested.len(),
     ) {
-        return LoadAnswer::No(1);
+        return Err(Refusal::ShortBuffer);
     }
     let found = scan::scan(image);
-    match judge::judge(image, found) {
-        LoadAnswer::No(no) => LoadAnswer::No(no),
-        LoadAnswer::Is(loaded) => {
-            store::store(
-                image,
-                found,
-                keys,
-                hot,
-                shadows,
-                peer_table,
-                snapshot_keys,
-                contested,
-            );
-            LoadAnswer::Is(loaded)
-        }
-    }
+    let loaded = judge::judge(image, found)?;
+    store::store(
+        image,
+        found,
+        keys,
+        hot,
+        shadows,
+        peer_table,
+        snapshot_keys,
+        contested,
+    );
+    Ok(loaded)
 }

@@ -2,7 +2,7 @@
 ghost use Rattle.std.specs.Prelude.{◌≡◌};
 ghost use Rattle.image.specs.LoadSteps.{peers_fit, room_for};
 
-use crate::rows::{begins, record_word};
+use crate::rows::{Kind, begins, record_word};
 use peers::peer_demand;
 
 // Where the hot set size stands among the words of kind 1.
@@ -12,16 +12,13 @@ const HOT_SET_SIZE: usize = 5;
 const TABLE_SIZE: usize = 8;
 
 // Whether tables of the peers with so many words are long enough.
+#[tactic(auto, unfolding(peers::specs::Peers::State::have_room))]
 pub fn peers_fit(peers: usize, snapshot_keys: usize, contested: usize) -> bool
     ensures { result ≡ peers_fit peers snapshot_keys contested }
 {
-    if peers < peer_demand::PEERS_SIZE {
-        return false;
-    }
-    if snapshot_keys < peer_demand::SNAPSHOT_KEYS_SIZE {
-        return false;
-    }
-    peer_demand::CONTESTED_SIZE <= contested
+    peer_demand::PEERS_SIZE <= peers
+        && peer_demand::SNAPSHOT_KEYS_SIZE <= snapshot_keys
+        && peer_demand::CONTESTED_SIZE <= contested
 }
 
 // Whether tables with so many words are long enough for the image; where its sizes can't be read,
@@ -37,19 +34,16 @@ pub(crate) fn has_room(
 ) -> bool
     ensures { result ≡ room_for image.now keys hot shadows peers snapshot_keys contested }
 {
-    if !begins(image, 0, 1) {
+    if !begins(image, 0, Kind::Settings) {
         return true;
     }
     let table_size = record_word(image, 0, TABLE_SIZE);
     let hot_set_size = record_word(image, 0, HOT_SET_SIZE);
-    if !limiter::have_room(
+    limiter::have_room(
         table_size as usize,
         hot_set_size as usize,
         keys,
         hot,
         shadows,
-    ) {
-        return false;
-    }
-    peers_fit(peers, snapshot_keys, contested)
+    ) && peers_fit(peers, snapshot_keys, contested)
 }

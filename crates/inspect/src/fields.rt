@@ -1,83 +1,65 @@
-// A field of a record: its name, which ends with the sign before the value, and its value.
-use crate::decimal;
-use gcra::{Quota, QuotaAnswer};
+// The values of a record's fields, as they are written.
+use crate::decimal::{Float32, Float64};
+use gcra::Quota;
+use std::fmt;
 
-// A whole number.
-pub(crate) fn put_whole(out: &mut [u8], at: usize, name: &[u8], n: u64) -> usize {
-    let value = text::put(out, at, name);
-    text::put_decimal(out, value, n)
+// A float of 64 bits by its word.
+pub(crate) fn float64(word: u64) -> Float64 {
+    Float64(float::from_bits(word))
 }
 
-// A float of 64 bits.
-pub(crate) fn put_f64(out: &mut [u8], at: usize, name: &[u8], bits: u64) -> usize {
-    let value = text::put(out, at, name);
-    decimal::put_f64(out, value, bits)
+// A float of 32 bits in the low half of a word.
+pub(crate) fn float32(word: u64) -> Float32 {
+    Float32(float::f32_from_bits((word & 0xffff_ffff) as u32))
 }
 
-// A float of 32 bits, in the low half of a word.
-pub(crate) fn put_f32(out: &mut [u8], at: usize, name: &[u8], word: u64) -> usize {
-    let value = text::put(out, at, name);
-    decimal::put_f32(out, value, word)
-}
+// A value, `none` where it is missing.
+#[derive(Clone, Copy)]
+pub(crate) struct Optional<T>(Option<T>);
 
-// `none` in the place of a value.
-fn put_none(out: &mut [u8], at: usize, name: &[u8]) -> usize {
-    let value = text::put(out, at, name);
-    text::put(out, value, b"none")
-}
-
-// A number that may be missing.
-pub(crate) fn put_optional(out: &mut [u8], at: usize, name: &[u8], flag: u64, n: u64) -> usize {
-    if flag == 0 {
-        return put_none(out, at, name);
+impl<T: Drop> Optional<T> {
+    // The value that stands behind a flag, missing where that is 0.
+    pub(crate) fn of(flag: u64, value: T) -> Optional<T> {
+        Optional((flag != 0).then_some(value))
     }
-    put_whole(out, at, name, n)
 }
 
-// A float that may be missing.
-pub(crate) fn put_optional_f64(
-    out: &mut [u8],
-    at: usize,
-    name: &[u8],
-    flag: u64,
-    bits: u64,
-) -> usize {
-    if flag == 0 {
-        return put_none(out, at, name);
+impl<T: fmt::Display> fmt::Display for Optional<T> {
+    fn fmt<W: fmt::Write>(&self, f: &mut fmt::Formatter<W>) -> fmt::Result {
+        match &self.0 {
+            Some(value) => value.fmt(f),
+            None => f.write_str("none"),
+        }
     }
-    put_f64(out, at, name, bits)
 }
 
 // The four words of an estimator.
-pub(crate) fn put_estimator(
-    out: &mut [u8],
-    at: usize,
-    name: &[u8],
-    rate: u64,
-    attempts: u64,
-    last: u64,
-    since: u64,
-) -> usize {
-    let value = text::put(out, at, name);
-    let a = put_f64(out, value, b"(rate=", rate);
-    let b = put_whole(out, a, b" attempts=", attempts);
-    let c = put_whole(out, b, b" last=", last);
-    let d = put_whole(out, c, b" since=", since);
-    text::put(out, d, b")")
-}
+#[derive(Clone, Copy)]
+pub(crate) struct Estimator(pub(crate) [u64; 4]);
 
-// What a packed word holds.
-fn put_unpacked(out: &mut [u8], at: usize, quota: Quota) -> usize {
-    let a = put_whole(out, at, b" interval=", quota.interval);
-    let b = put_whole(out, a, b" burst=", quota.burst as u64);
-    text::put(out, b, b")")
+impl fmt::Display for Estimator {
+    fn fmt<W: fmt::Write>(&self, f: &mut fmt::Formatter<W>) -> fmt::Result {
+        let [rate, attempts, last, since] = self.0;
+        let rate = float64(rate);
+        write!(
+            f,
+            "(rate={rate} attempts={attempts} last={last} since={since})"
+        )
+    }
 }
 
 // A packed quota: the word, and its interval and burst.
-pub(crate) fn put_quota(out: &mut [u8], at: usize, packed: u64) -> usize {
-    let word = put_whole(out, at, b" quota=(packed=", packed);
-    match Quota::unpack(packed) {
-        QuotaAnswer::Is(quota) => put_unpacked(out, word, quota),
-        QuotaAnswer::No(_) => text::put(out, word, b")"),
+#[derive(Clone, Copy)]
+pub(crate) struct Packed(pub(crate) u64);
+
+impl fmt::Display for Packed {
+    fn fmt<W: fmt::Write>(&self, f: &mut fmt::Formatter<W>) -> fmt::Result {
+        let packed = self.0;
+        match Quota::unpack(packed) {
+            Ok(Quota { interval, burst }) => {
+                write!(f, "(packed={packed} interval={interval} burst={burst})")
+            }
+            Err(_) => write!(f, "(packed={packed})"),
+        }
     }
 }

@@ -1,158 +1,155 @@
 // A record of an image as a line: its kind, and each field by its name.
 ghost use Rattle.std.specs.Prelude.{◌≤◌};
 
-use crate::fields::{
-    put_estimator, put_f32, put_f64, put_optional, put_optional_f64, put_quota, put_whole,
-};
-use image::rows::{HEAD, LONGEST_RECORD};
-
-// The kind of a record; 255, which is none, where there are too few bytes.
-fn kind_of(record: &[u8]) -> u8 {
-    if record.len() < HEAD {
-        return 255;
-    }
-    record[2]
-}
-
-// The word of the eight bytes from an index on, the lowest byte first; 0 where there are fewer.
-fn word_at(record: &[u8], at: usize) -> u64
-    requires { at ≤ 179 }
-{
-    if record.len() < at + 8 {
-        return 0;
-    }
-    let mut w: u64 = 0;
-    let mut k = 8;
-    while 0 < k {
-        k -= 1;
-        w = (w << 8) | wide(record[at + k]);
-    }
-    w
-}
-
-// A byte as a number of 64 bits.
-fn wide(b: u8) -> u64 {
-    b as u64
-}
+use crate::fields::{Estimator, Optional, Packed, float32, float64};
+use image::rows::LONGEST_RECORD;
+use std::fmt;
+use std::fmt::Write;
+use text::Output;
 
 // The words of a record, and zeros behind them.
-fn words_of(record: &[u8]) -> [u64; LONGEST_RECORD] {
-    let mut w = [0u64; LONGEST_RECORD];
-    let mut j = 0;
-    while j < LONGEST_RECORD {
-        w[j] = word_at(record, HEAD + 8 * j);
-        j += 1;
+type Words = [u64; LONGEST_RECORD];
+
+fn words_of(bytes: &[u8]) -> Words {
+    let mut words = [0; LONGEST_RECORD];
+    let (chunks, _) = bytes.as_chunks::<8>();
+    for (word, chunk) in words.iter_mut().zip(chunks) {
+        *word = u64::from_le_bytes(*chunk);
     }
-    w
+    words
 }
 
 // Kind 1, up to the floor factor.
-fn put_limits(out: &mut [u8], at: usize, w: [u64; LONGEST_RECORD]) -> usize {
-    let rate = put_f64(out, at, b"settings rate=", w[0]);
-    let burst = put_whole(out, rate, b" burst=", w[1]);
-    let alpha = put_f64(out, burst, b" alpha=", w[2]);
-    put_f64(out, alpha, b" floor_factor=", w[3])
+fn put_limits(out: &mut Output, words: &Words) -> fmt::Result {
+    let [rate, burst, alpha, floor_factor, ..] = *words;
+    let rate = float64(rate);
+    let alpha = float64(alpha);
+    let floor_factor = float64(floor_factor);
+    write!(
+        out,
+        "settings rate={rate} burst={burst} alpha={alpha} floor_factor={floor_factor}"
+    )
 }
 
 // Kind 1, the sizes and times.
-fn put_sizes(out: &mut [u8], at: usize, w: [u64; LONGEST_RECORD]) -> usize {
-    let cooldown = put_whole(out, at, b" cooldown=", w[4]);
-    let hot = put_whole(out, cooldown, b" hot_set_size=", w[5]);
-    let tracked = put_whole(out, hot, b" max_tracked_keys=", w[6]);
-    let constant = put_whole(out, tracked, b" demand_time_constant=", w[7]);
-    put_whole(out, constant, b" table_size=", w[8])
+fn put_sizes(out: &mut Output, words: &Words) -> fmt::Result {
+    let [_, _, _, _, cooldown, hot, tracked, constant, table, ..] = *words;
+    write!(
+        out,
+        " cooldown={cooldown} hot_set_size={hot} max_tracked_keys={tracked}"
+    )?;
+    write!(out, " demand_time_constant={constant} table_size={table}")
 }
 
 // Kind 1.
-fn put_settings(out: &mut [u8], at: usize, w: [u64; LONGEST_RECORD]) -> usize {
-    let limits = put_limits(out, at, w);
-    let sizes = put_sizes(out, limits, w);
-    let cap = put_optional_f64(out, sizes, b" cap=", w[9], w[10]);
-    put_optional(out, cap, b" last_tick=", w[11], w[12])
+fn put_settings(out: &mut Output, words: &Words) -> fmt::Result {
+    put_limits(out, words)?;
+    put_sizes(out, words)?;
+    let cap = Optional::of(words[9], float64(words[10]));
+    let last_tick = Optional::of(words[11], words[12]);
+    write!(out, " cap={cap} last_tick={last_tick}")
 }
 
-// The four estimators of kind 2.
-fn put_estimators(out: &mut [u8], at: usize, w: [u64; LONGEST_RECORD]) -> usize {
-    let a = put_estimator(out, at, b" demand=", w[3], w[4], w[5], w[6]);
-    let b = put_estimator(out, a, b" requests=", w[7], w[8], w[9], w[10]);
-    let c = put_estimator(out, b, b" denials=", w[11], w[12], w[13], w[14]);
-    put_estimator(out, c, b" shadow_denials=", w[15], w[16], w[17], w[18])
+// The estimator whose words begin at an index.
+fn estimator(words: &Words, at: usize) -> Estimator
+    requires { at ≤ 18 }
+{
+    Estimator([words[at], words[at + 1], words[at + 2], words[at + 3]])
 }
 
 // Kind 2.
-fn put_key(out: &mut [u8], at: usize, w: [u64; LONGEST_RECORD]) -> usize {
-    let key = put_whole(out, at, b"key ", w[0]);
-    let rate = put_f64(out, key, b" limit_rate=", w[1]);
-    let burst = put_whole(out, rate, b" limit_burst=", w[2]);
-    let estimators = put_estimators(out, burst, w);
-    let quota = put_quota(out, estimators, w[19]);
-    put_optional(out, quota, b" tat=", w[20], w[21])
+fn put_key(out: &mut Output, words: &Words) -> fmt::Result {
+    let [key, rate, burst, ..] = *words;
+    let rate = float64(rate);
+    write!(out, "key {key} limit_rate={rate} limit_burst={burst}")?;
+    let demand = estimator(words, 3);
+    let requests = estimator(words, 7);
+    write!(out, " demand={demand} requests={requests}")?;
+    let denials = estimator(words, 11);
+    let shadow_denials = estimator(words, 15);
+    write!(out, " denials={denials} shadow_denials={shadow_denials}")?;
+    let quota = Packed(words[19]);
+    let tat = Optional::of(words[20], words[21]);
+    write!(out, " quota={quota} tat={tat}")
 }
 
 // Kind 3.
-fn put_hot(out: &mut [u8], at: usize, w: [u64; LONGEST_RECORD]) -> usize {
-    let key = put_whole(out, at, b"hot ", w[0]);
-    let demand = put_f64(out, key, b" demand=", w[1]);
-    let primary = put_whole(out, demand, b" primary=", w[2]);
-    let cooling = put_optional(out, primary, b" cooling_since=", w[3], w[4]);
-    put_whole(out, cooling, b" since=", w[5])
+fn put_hot(out: &mut Output, words: &Words) -> fmt::Result {
+    let [key, demand, primary, flag, value, since, ..] = *words;
+    let demand = float64(demand);
+    let cooling_since = Optional::of(flag, value);
+    write!(
+        out,
+        "hot {key} demand={demand} primary={primary} cooling_since={cooling_since} since={since}"
+    )
 }
 
 // Kind 4.
-fn put_shadow(out: &mut [u8], at: usize, w: [u64; LONGEST_RECORD]) -> usize {
-    let key = put_whole(out, at, b"shadow ", w[0]);
-    let quota = put_quota(out, key, w[1]);
-    put_optional(out, quota, b" tat=", w[2], w[3])
-}
-
-// The past epochs of kind 5.
-fn put_past_epochs(out: &mut [u8], at: usize, w: [u64; LONGEST_RECORD]) -> usize {
-    let count = put_whole(out, at, b" count_of_past_epochs=", w[7]);
-    let a = put_whole(out, count, b" past_epochs=(", w[8]);
-    let b = put_whole(out, a, b" ", w[9]);
-    let c = put_whole(out, b, b" ", w[10]);
-    let d = put_whole(out, c, b" ", w[11]);
-    text::put(out, d, b")")
+fn put_shadow(out: &mut Output, words: &Words) -> fmt::Result {
+    let [key, quota, flag, value, ..] = *words;
+    let quota = Packed(quota);
+    let tat = Optional::of(flag, value);
+    write!(out, "shadow {key} quota={quota} tat={tat}")
 }
 
 // Kind 5.
-fn put_peer(out: &mut [u8], at: usize, w: [u64; LONGEST_RECORD]) -> usize {
-    let id = put_whole(out, at, b"peer ", w[0]);
-    let held = put_optional(out, id, b" held_until=", w[1], w[2]);
-    let snapshot = put_whole(out, held, b" snapshot=", w[3]);
-    let epoch = put_whole(out, snapshot, b" epoch=", w[4]);
-    let round = put_whole(out, epoch, b" round=", w[5]);
-    let heard = put_whole(out, round, b" heard_at=", w[6]);
-    put_past_epochs(out, heard, w)
+fn put_peer(out: &mut Output, words: &Words) -> fmt::Result {
+    let [
+        id,
+        flag,
+        value,
+        snapshot,
+        epoch,
+        round,
+        heard_at,
+        count,
+        a,
+        b,
+        c,
+        d,
+        ..
+    ] = *words;
+    let held_until = Optional::of(flag, value);
+    write!(out, "peer {id} held_until={held_until} snapshot={snapshot}")?;
+    write!(out, " epoch={epoch} round={round} heard_at={heard_at}")?;
+    write!(
+        out,
+        " count_of_past_epochs={count} past_epochs=({a} {b} {c} {d})"
+    )
 }
 
 // Kind 6, and the first four words of kind 7.
-fn put_peer_key(out: &mut [u8], at: usize, kind: &[u8], w: [u64; LONGEST_RECORD]) -> usize {
-    let peer = put_whole(out, at, kind, w[0]);
-    let key = put_whole(out, peer, b" key=", w[1]);
-    let demand = put_f32(out, key, b" demand=", w[2]);
-    put_whole(out, demand, b" primary=", w[3])
+fn put_peer_key(out: &mut Output, kind: &str, words: &Words) -> fmt::Result {
+    let [peer, key, demand, primary, ..] = *words;
+    let demand = float32(demand);
+    write!(
+        out,
+        "{kind} peer={peer} key={key} demand={demand} primary={primary}"
+    )
 }
 
 // Kind 7.
-fn put_contested(out: &mut [u8], at: usize, w: [u64; LONGEST_RECORD]) -> usize {
-    let four = put_peer_key(out, at, b"contested peer=", w);
-    let round = put_whole(out, four, b" round=", w[4]);
-    put_whole(out, round, b" heard_at=", w[5])
+fn put_contested(out: &mut Output, words: &Words) -> fmt::Result {
+    put_peer_key(out, "contested", words)?;
+    let [_, _, _, _, round, heard_at, ..] = *words;
+    write!(out, " round={round} heard_at={heard_at}")
 }
 
 // Writes a record without its line feed.
-pub(crate) fn put_record(out: &mut [u8], at: usize, record: &[u8]) -> usize {
-    let w = words_of(record);
-    match kind_of(record) {
-        0 => put_whole(out, at, b"end records=", w[0]),
-        1 => put_settings(out, at, w),
-        2 => put_key(out, at, w),
-        3 => put_hot(out, at, w),
-        4 => put_shadow(out, at, w),
-        5 => put_peer(out, at, w),
-        6 => put_peer_key(out, at, b"snapshot_key peer=", w),
-        7 => put_contested(out, at, w),
-        8..=255 => at,
+pub(crate) fn put_record(out: &mut Output, record: &[u8]) -> fmt::Result {
+    let [_, _, kind, bytes @ ..] = record else {
+        return Ok(());
+    };
+    let words = words_of(bytes);
+    match *kind {
+        0 => write!(out, "end records={}", words[0]),
+        1 => put_settings(out, &words),
+        2 => put_key(out, &words),
+        3 => put_hot(out, &words),
+        4 => put_shadow(out, &words),
+        5 => put_peer(out, &words),
+        6 => put_peer_key(out, "snapshot_key", &words),
+        7 => put_contested(out, &words),
+        _ => Ok(()),
     }
 }

@@ -1,6 +1,5 @@
 -- The calls of the library on the words of a limiter and of its peers, each by the promise of its function. Definitions only.
 use Rattle.std.specs.Prelude.{ℕ, Bool, List, Float}
-use Rattle.std.proofs.Math.Option.{Option}
 use Rattle.peers.specs.declared.peer_demand.DemandReport.{DemandReport}
 use Rattle.peers.specs.Peers.State.{PeerTables}
 use Rattle.limiter.specs.declared.Limit.{Limit}
@@ -12,6 +11,7 @@ use Rattle.nultiway.specs.Values.{limiter_of, peers_of}
 use Rattle.nultiway.specs.LimiterCalls as limiter
 use Rattle.nultiway.specs.PeerCalls as peers
 use Rattle.nultiway.specs.ImageCalls as image
+use Rattle.std.specs.declared.option.Option.{Option}
 
 -- ---- what a server keeps between calls: the words of a limiter and of its peers, and their tables
 

@@ -1,98 +1,32 @@
 -- The promise of each public function of the limiter: 01's questions in their order, its answer, and what the value and every lent buffer hold afterwards.
 -- Definitions only.
-use Rattle.std.specs.Prelude.{ℕ, ◌*◌, ◌≡◌, true, false, ◌&&◌, List, [], ◌∷◌, ◌++◌, map, leb, Float, length, drop}
-use Rattle.std.proofs.Math.Option.{Option, none, some}
+use Rattle.std.specs.Prelude.{ℕ, ◌*◌, ◌≡◌, Bool, true, false, ◌&&◌, List, [], ◌∷◌, ◌++◌, map, leb, Float, length, drop}
 use Rattle.records.specs.Records.{records, flat, table, fits}
 use Rattle.gcra.specs.declared.Quota.{Quota}
 use Rattle.gcra.specs.declared.Decision.{Decision}
 use Rattle.gcra.specs.declared.Decision.TheVariants.{Allow, Deny}
-use Rattle.gcra.specs.declared.QuotaAnswer.{QuotaAnswer}
-use Rattle.gcra.specs.declared.RateAnswer.{RateAnswer}
 use Rattle.questions.specs.Questions.{Question, ◌asks◌, Answer, refused, given, answer, passes, first_no, changed}
 use Rattle.gcra.specs.Packed.{valid_burst}
-use Rattle.gcra.specs.Calls.{check_answer, quota_answer, rate_answer}
-use Rattle.hot.specs.declared.hot_set.SinceAnswer.{SinceAnswer}
 use Rattle.peers.specs.declared.peer_demand.PeerDemand.{PeerDemand}
-use Rattle.demand.specs.declared.answers.FlagAnswer.{FlagAnswer}
-use Rattle.demand.specs.declared.answers.LenAnswer.{LenAnswer}
 use Rattle.demand.specs.Allocation.{is_rate, is_floor_factor}
 use Rattle.hot.specs.HotSet.Set.{get, is_hot, since_of}
-use Rattle.hot.specs.HotSet.Calls.{since_answer}
 use Rattle.peers.specs.Peers.State as peer-state
 use Rattle.peers.specs.Peers.State.{PeerTables}
-use Rattle.peers.specs.Peers.Calls.{change_answer}
-use Rattle.demand.specs.Answers.{flag_answer, len_answer}
 use Rattle.limiter.specs.declared.Limit.{Limit}
 use Rattle.limiter.specs.declared.Config.{Config}
 use Rattle.limiter.specs.declared.Limiter.{Limiter}
 use Rattle.limiter.specs.declared.Tally.{Tally}
 use Rattle.limiter.specs.declared.KeyRates.{KeyRates}
-use Rattle.limiter.specs.declared.Shadow.{Shadow}
-use Rattle.limiter.specs.declared.Shadow.TheVariants as shadow
-use Rattle.limiter.specs.declared.ShadowDecision.{ShadowDecision}
-use Rattle.limiter.specs.declared.ShadowDecision.TheVariants as shadow-decision
-use Rattle.limiter.specs.declared.LimiterAnswer.{LimiterAnswer}
-use Rattle.limiter.specs.declared.LimiterAnswer.TheVariants as limiter-answer
-use Rattle.limiter.specs.declared.TracedAnswer.{TracedAnswer}
-use Rattle.limiter.specs.declared.TracedAnswer.TheVariants as traced-answer
-use Rattle.limiter.specs.declared.RatesAnswer.{RatesAnswer}
-use Rattle.limiter.specs.declared.RatesAnswer.TheVariants as rates-answer
-use Rattle.limiter.specs.declared.KeyQuotaAnswer.{KeyQuotaAnswer}
-use Rattle.limiter.specs.declared.KeyQuotaAnswer.TheVariants as key-quota-answer
-use Rattle.limiter.specs.declared.LimitAnswer.{LimitAnswer}
-use Rattle.limiter.specs.declared.LimitAnswer.TheVariants as limit-answer
-use Rattle.limiter.specs.declared.ConfigAnswer.{ConfigAnswer}
-use Rattle.limiter.specs.declared.ConfigAnswer.TheVariants as config-answer
-use Rattle.limiter.specs.declared.Checked.{Checked}
-use Rattle.limiter.specs.declared.TracedCheck.{TracedCheck}
-use Rattle.limiter.specs.declared.Changed.{Changed}
+use Rattle.limiter.specs.Answered.{Checked, TracedCheck, Changed}
 use Rattle.limiter.specs.State.{KeyRecord, LimiterState, parameters_of, units_of, settings_of, LimiterTables, lengths, sizes, have_room, state_of, is_valid, value_of, written, is_alpha, are_sizes, is_tracked}
 use Rattle.limiter.specs.Checks.{new_key_factor, cold_quota, own_limit, key_decision, shadow_decision, check_in, check_traced, record_tally, set_cap, limit_questions, cluster_questions, check_questions, check_in_questions, traced_questions, record_questions, check_each}
 use Rattle.limiter.specs.Ticks.{tick, tick_with_shares}
 use Rattle.limiter.specs.Readers.{told, rates_of, hot_demand, most_denied, denied_rate, shadow_denied_rate}
-
--- ---- 01's number and values for each case of the answers
-
-abbrev pub limiter_answer : LimiterAnswer → Answer Limiter
-limiter_answer (limiter-answer.No n) = refused n
-limiter_answer (limiter-answer.Is l) = given l
-
--- the decision, and the shadow's
-pub record Decisions : Type 0 where
-  pub decision : Decision
-  pub shadow : Option Decision
-
-abbrev pub shadows_decision : ShadowDecision → Option Decision
-shadows_decision shadow-decision.Unset = none
-shadows_decision (shadow-decision.Is d) = some d
-
-abbrev pub traced_answer : TracedAnswer → Answer Decisions
-traced_answer (traced-answer.No n) = refused n
-traced_answer (traced-answer.Is x) = given (record { decision = x.decision; shadow = shadows_decision x.shadow })
-
-abbrev pub rates_answer : RatesAnswer → Answer (Option KeyRates)
-rates_answer (rates-answer.No n) = refused n
-rates_answer rates-answer.Untracked = given none
-rates_answer (rates-answer.Is x) = given (some x)
-
-abbrev pub key_quota_answer : KeyQuotaAnswer → Answer (Option Quota)
-key_quota_answer (key-quota-answer.No n) = refused n
-key_quota_answer key-quota-answer.Untracked = given none
-key_quota_answer (key-quota-answer.Is q) = given (some q)
-
-abbrev pub limit_answer : LimitAnswer → Answer (Option Limit)
-limit_answer (limit-answer.No n) = refused n
-limit_answer limit-answer.Untracked = given none
-limit_answer (limit-answer.Is l) = given (some l)
-
-abbrev pub config_answer : ConfigAnswer → Answer Config
-config_answer (config-answer.No n) = refused n
-config_answer (config-answer.Is c) = given c
-
--- a shadow limit, if one is given
-abbrev pub shadow_limit : Shadow → Option Limit
-shadow_limit shadow.Unset = none
-shadow_limit (shadow.Of l) = some l
+use Rattle.std.specs.declared.option.Option.{Option}
+use Rattle.std.specs.declared.option.Option.TheVariants.{None}
+use Rattle.std.specs.declared.result.Result.{Result}
+use Rattle.questions.specs.declared.Refusal.{Refusal}
+use Rattle.questions.specs.Refusals.{answer_of}
 
 -- an answer of many as three words: the number of a 'no', whether it is denied, the retry time; 0 where there is none
 abbrev pub answer_words : Answer Decision → List ℕ
@@ -128,7 +62,7 @@ output_questions entries out = (16 asks leb (length (flat entries)) (length out)
 -- ---- `Limiter::new`: a limiter with no key yet
 
 abbrev pub new_state : Config → LimiterState
-new_state c = record { settings = record { config = c; cap = none; last_tick = none }; keys = []; hot = []; shadows = [] }
+new_state c = record { settings = record { config = c; cap = None; last_tick = None }; keys = []; hot = []; shadows = [] }
 
 abbrev pub new_questions : Config → LimiterTables → List Question
 new_questions c t =
@@ -139,8 +73,8 @@ new_questions c t =
     ∷ (6 asks are_sizes c)
     ∷ []
 
-abbrev pub IsNew : Config → LimiterTables → LimiterAnswer → Type 0
-IsNew c t r = limiter_answer r ≡ answer (new_questions c t) (value_of (new_state c))
+abbrev pub IsNew : Config → LimiterTables → Result Limiter Refusal → Type 0
+IsNew c t r = answer_of r ≡ answer (new_questions c t) (value_of (new_state c))
 
 -- ---- calls that change the state
 
@@ -155,7 +89,7 @@ abbrev pub Checks : Limiter → LimiterTables → (key now n : ℕ) → Checked 
 Checks l t key now n r t' =
     let u = units_of (settings_of l) in
     let s = here l t in
-    Acts (check_answer r.answer) (state_questions l t ++ check_questions u s key now n) (key_decision u s key (own_limit s) now n)
+    Acts (answer_of r.answer) (state_questions l t ++ check_questions u s key now n) (key_decision u s key (own_limit s) now n)
     (check_in u s key (own_limit s) now n) l t r.limiter t'
 
 -- `check_in`
@@ -163,7 +97,7 @@ abbrev pub ChecksIn : Limiter → LimiterTables → (key : ℕ) → Limit → (n
 ChecksIn l t key limit now n r t' =
     let u = units_of (settings_of l) in
     let s = here l t in
-    Acts (check_answer r.answer) (state_questions l t ++ check_in_questions u s key limit now n) (key_decision u s key limit now n)
+    Acts (answer_of r.answer) (state_questions l t ++ check_in_questions u s key limit now n) (key_decision u s key limit now n)
     (check_in u s key limit now n) l t r.limiter t'
 
 -- `check_in_traced`
@@ -171,7 +105,7 @@ abbrev pub ChecksTraced : Limiter → LimiterTables → (key : ℕ) → Limit �
 ChecksTraced l t key limit shadow now n r t' =
     let u = units_of (settings_of l) in
     let s = here l t in
-    Acts (traced_answer r.answer) (state_questions l t ++ traced_questions u s key limit shadow now n)
+    Acts (answer_of r.answer) (state_questions l t ++ traced_questions u s key limit shadow now n)
     (record { decision = key_decision u s key limit now n; shadow = shadow_decision u s key limit shadow now n })
     (check_traced u s key limit shadow now n) l t r.limiter t'
 
@@ -180,7 +114,7 @@ abbrev pub Records : Limiter → LimiterTables → (key : ℕ) → Tally → Lim
 Records l t key y limit now n r t' =
     let u = units_of (settings_of l) in
     let s = here l t in
-    Acts (change_answer r.answer) (state_questions l t ++ record_questions u s key y limit now n) tt
+    Acts (answer_of r.answer) (state_questions l t ++ record_questions u s key y limit now n) tt
     (record_tally u s key y limit now n) l t r.limiter t'
 
 -- `check_each`: of `count` pairs of a key and a reading in lent words; an answer of three words for each, and then the output as it was
@@ -193,13 +127,13 @@ each_asked l t list count n out =
 
 pub record ChecksEach (l : Limiter) (t : LimiterTables) (list : List ℕ) (count n : ℕ) (out : List ℕ) (r : Changed) (t' : LimiterTables) (out' : List ℕ) : Type 0 where
   pub acts :
-      Acts (change_answer r.answer) (each_asked l t list count n out) tt (check_each (units_of (settings_of l)) n (records 2 count list) (here l t)).left l t r.limiter t'
+      Acts (answer_of r.answer) (each_asked l t list count n out) tt (check_each (units_of (settings_of l)) n (records 2 count list) (here l t)).left l t r.limiter t'
   pub output :
       out' ≡ changed (each_asked l t list count n out) out (table (map answer_words (check_each (units_of (settings_of l)) n (records 2 count list) (here l t)).answers) out)
 
 -- `set_cap`, which is lent tables that it cannot write
 pub record SetsCap (l : Limiter) (t : LimiterTables) (x : Option Float) (r : Changed) : Type 0 where
-  pub answered : change_answer r.answer ≡ answer (state_questions l t) tt
+  pub answered : answer_of r.answer ≡ answer (state_questions l t) tt
   pub limiter : r.limiter ≡ changed (state_questions l t) l (value_of (set_cap x (here l t)))
 
 -- ---- ticks
@@ -214,7 +148,7 @@ pub record Holds (s : LimiterState) (t t' : LimiterTables) : Type 0 where
   pub shadows : drop (sizes s.settings.config).shadows t'.shadows ≡ drop (sizes s.settings.config).shadows t.shadows
 
 pub record Ticking (qs : List Question) (after : LimiterState) (l : Limiter) (t : LimiterTables) (r : Changed) (t' : LimiterTables) : Type 0 where
-  pub answered : change_answer r.answer ≡ answer qs tt
+  pub answered : answer_of r.answer ≡ answer qs tt
   pub limiter : r.limiter ≡ changed qs l (value_of after)
   pub held : passes qs ≡ true → Holds after t t'
   pub unmoved : passes qs ≡ false → t' ≡ t
@@ -230,54 +164,54 @@ TicksWithShares l t p pt now n r t' =
 
 -- ---- calls that read, which are lent what they cannot write: `key_rates`, `quota`, `limit`
 
-abbrev pub TellsRates : Limiter → LimiterTables → (key : ℕ) → RatesAnswer → Type 0
-TellsRates l t key r = rates_answer r ≡ answer (state_questions l t) (told (rates_of (parameters_of (settings_of l))) key (here l t))
+abbrev pub TellsRates : Limiter → LimiterTables → (key : ℕ) → Result (Option KeyRates) Refusal → Type 0
+TellsRates l t key r = answer_of r ≡ answer (state_questions l t) (told (rates_of (parameters_of (settings_of l))) key (here l t))
 
-abbrev pub TellsQuota : Limiter → LimiterTables → (key : ℕ) → KeyQuotaAnswer → Type 0
-TellsQuota l t key r = key_quota_answer r ≡ answer (state_questions l t) (told (λ (k : KeyRecord). k.gcra.quota) key (here l t))
+abbrev pub TellsQuota : Limiter → LimiterTables → (key : ℕ) → Result (Option Quota) Refusal → Type 0
+TellsQuota l t key r = answer_of r ≡ answer (state_questions l t) (told (λ (k : KeyRecord). k.gcra.quota) key (here l t))
 
-abbrev pub TellsLimit : Limiter → LimiterTables → (key : ℕ) → LimitAnswer → Type 0
-TellsLimit l t key r = limit_answer r ≡ answer (state_questions l t) (told (λ (k : KeyRecord). k.limit) key (here l t))
+abbrev pub TellsLimit : Limiter → LimiterTables → (key : ℕ) → Result (Option Limit) Refusal → Type 0
+TellsLimit l t key r = answer_of r ≡ answer (state_questions l t) (told (λ (k : KeyRecord). k.limit) key (here l t))
 
 -- `new_key_quota`, `new_key_factor`
-abbrev pub TellsNewKeyQuota : Limiter → LimiterTables → Limit → (n : ℕ) → QuotaAnswer → Type 0
+abbrev pub TellsNewKeyQuota : Limiter → LimiterTables → Limit → (n : ℕ) → Result Quota Refusal → Type 0
 TellsNewKeyQuota l t limit n r =
-    quota_answer r ≡ answer (state_questions l t ++ (limit_questions limit ++ cluster_questions n)) (cold_quota (units_of (settings_of l)) (here l t).settings limit n)
+    answer_of r ≡ answer (state_questions l t ++ (limit_questions limit ++ cluster_questions n)) (cold_quota (units_of (settings_of l)) (here l t).settings limit n)
 
-abbrev pub TellsNewKeyFactor : Limiter → LimiterTables → (n : ℕ) → RateAnswer → Type 0
-TellsNewKeyFactor l t n r = rate_answer r ≡ answer (state_questions l t ++ cluster_questions n) (new_key_factor (here l t).settings n)
+abbrev pub TellsNewKeyFactor : Limiter → LimiterTables → (n : ℕ) → Result Float Refusal → Type 0
+TellsNewKeyFactor l t n r = answer_of r ≡ answer (state_questions l t ++ cluster_questions n) (new_key_factor (here l t).settings n)
 
 -- `config`, `hot_since`, `is_hot`, `tracked`, `tracked_keys`, `hot_keys`
-abbrev pub TellsConfig : Limiter → LimiterTables → ConfigAnswer → Type 0
-TellsConfig l t r = config_answer r ≡ answer (state_questions l t) l.config
+abbrev pub TellsConfig : Limiter → LimiterTables → Result Config Refusal → Type 0
+TellsConfig l t r = answer_of r ≡ answer (state_questions l t) l.config
 
-abbrev pub TellsHotSince : Limiter → LimiterTables → (key : ℕ) → SinceAnswer → Type 0
-TellsHotSince l t key r = since_answer r ≡ answer (state_questions l t) (since_of (get key (here l t).hot))
+abbrev pub TellsHotSince : Limiter → LimiterTables → (key : ℕ) → Result (Option ℕ) Refusal → Type 0
+TellsHotSince l t key r = answer_of r ≡ answer (state_questions l t) (since_of (get key (here l t).hot))
 
-abbrev pub TellsHot : Limiter → LimiterTables → (key : ℕ) → FlagAnswer → Type 0
-TellsHot l t key r = flag_answer r ≡ answer (state_questions l t) (is_hot key (here l t).hot)
+abbrev pub TellsHot : Limiter → LimiterTables → (key : ℕ) → Result Bool Refusal → Type 0
+TellsHot l t key r = answer_of r ≡ answer (state_questions l t) (is_hot key (here l t).hot)
 
-abbrev pub TellsTracked : Limiter → LimiterTables → (key : ℕ) → FlagAnswer → Type 0
-TellsTracked l t key r = flag_answer r ≡ answer (state_questions l t) (is_tracked (here l t).keys key)
+abbrev pub TellsTracked : Limiter → LimiterTables → (key : ℕ) → Result Bool Refusal → Type 0
+TellsTracked l t key r = answer_of r ≡ answer (state_questions l t) (is_tracked (here l t).keys key)
 
-abbrev pub CountsKeys : Limiter → LimiterTables → LenAnswer → Type 0
-CountsKeys l t r = len_answer r ≡ answer (state_questions l t) (length (here l t).keys)
+abbrev pub CountsKeys : Limiter → LimiterTables → Result ℕ Refusal → Type 0
+CountsKeys l t r = answer_of r ≡ answer (state_questions l t) (length (here l t).keys)
 
-abbrev pub CountsHot : Limiter → LimiterTables → LenAnswer → Type 0
-CountsHot l t r = len_answer r ≡ answer (state_questions l t) (length (here l t).hot)
+abbrev pub CountsHot : Limiter → LimiterTables → Result ℕ Refusal → Type 0
+CountsHot l t r = answer_of r ≡ answer (state_questions l t) (length (here l t).hot)
 
 -- ---- calls that write a list to a lent output: how many entries, and the output, which is as it was past them
 
-pub record Lists (l : Limiter) (t : LimiterTables) (entries : List (List ℕ)) (out : List ℕ) (r : LenAnswer) (out' : List ℕ) : Type 0 where
-  pub answered : len_answer r ≡ answer (state_questions l t ++ output_questions entries out) (length entries)
+pub record Lists (l : Limiter) (t : LimiterTables) (entries : List (List ℕ)) (out : List ℕ) (r : Result ℕ Refusal) (out' : List ℕ) : Type 0 where
+  pub answered : answer_of r ≡ answer (state_questions l t ++ output_questions entries out) (length entries)
   pub output : out' ≡ changed (state_questions l t ++ output_questions entries out) out (table entries out)
 
 -- `hot_demand`, `most_denied`, `most_shadow_denied`
-abbrev pub ListsHotDemand : Limiter → LimiterTables → List ℕ → LenAnswer → List ℕ → Type 0
+abbrev pub ListsHotDemand : Limiter → LimiterTables → List ℕ → Result ℕ Refusal → List ℕ → Type 0
 ListsHotDemand l t out r out' = Lists l t (hot_demand (here l t)) out r out'
 
-abbrev pub ListsMostDenied : Limiter → LimiterTables → (k : ℕ) → List ℕ → LenAnswer → List ℕ → Type 0
+abbrev pub ListsMostDenied : Limiter → LimiterTables → (k : ℕ) → List ℕ → Result ℕ Refusal → List ℕ → Type 0
 ListsMostDenied l t k out r out' = Lists l t (most_denied (parameters_of (settings_of l)) denied_rate k (here l t)) out r out'
 
-abbrev pub ListsMostShadowDenied : Limiter → LimiterTables → (k : ℕ) → List ℕ → LenAnswer → List ℕ → Type 0
+abbrev pub ListsMostShadowDenied : Limiter → LimiterTables → (k : ℕ) → List ℕ → Result ℕ Refusal → List ℕ → Type 0
 ListsMostShadowDenied l t k out r out' = Lists l t (most_denied (parameters_of (settings_of l)) shadow_denied_rate k (here l t)) out r out'

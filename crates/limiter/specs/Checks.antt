@@ -1,13 +1,11 @@
 -- What a check, a traced check, a record, a list of checks and `set_cap` do to a limiter's state (000: `entry`, `check_in`, `check_in_traced`, `record`,
 -- `set_cap`), and their questions. Definitions only.
 use Rattle.std.specs.Prelude.{ℕ, ◌+◌, Bool, false, cond, ◌&&◌, ◌||◌, List, [], ◌∷◌, ◌++◌, ltb, Float, length, get_or}
-use Rattle.std.proofs.Math.Option.{Option, none, some}
 use Rattle.std.specs.Float.{inf, binary64}
 use Rattle.std.specs.Float.Ieee.{mul, div, is_nan}
 use Rattle.float.specs.Order.{minimum_number}
 use Rattle.gcra.specs.declared.Units.{Units}
 use Rattle.gcra.specs.declared.Quota.{Quota}
-use Rattle.gcra.specs.declared.Tat.TheVariants.{Unset}
 use Rattle.gcra.specs.declared.Gcra.{Gcra}
 use Rattle.gcra.specs.declared.Decision.{Decision}
 use Rattle.questions.specs.Questions.{Question, ◌asks◌, Answer, answer, changed}
@@ -21,6 +19,8 @@ use Rattle.records.specs.Typed.{is_word}
 use Rattle.limiter.specs.declared.Limit.{Limit}
 use Rattle.limiter.specs.declared.Tally.{Tally}
 use Rattle.limiter.specs.State.{Settings, Estimate, KeyRecord, ShadowRecord, LimiterState, key_with, shadow_with, put_key, is_tracked}
+use Rattle.std.specs.declared.option.Option.{Option}
+use Rattle.std.specs.declared.option.Option.TheVariants.{None, Some}
 
 -- a state with other keys and shadows
 abbrev pub holding : LimiterState → List KeyRecord → List ShadowRecord → LimiterState
@@ -30,8 +30,8 @@ holding s ks ss = record { settings = s.settings; keys = ks; hot = s.hot; shadow
 
 -- where there is no cap, infinity
 abbrev pub cap_or_none : Option Float → Float
-cap_or_none none = inf false
-cap_or_none (some x) = x
+cap_or_none None = inf false
+cap_or_none (Some x) = x
 
 -- 000, `new_key_factor`: 'alpha ÷ n, or the cap if less'
 unfoldable pub new_key_factor : Settings → (n : ℕ) → Float
@@ -45,8 +45,8 @@ cold_quota u s limit n = per_second u (mul binary64 limit.rate (new_key_factor s
 
 -- 'A new key's estimators start at the last tick, or at the reading if there was none'
 abbrev pub start_of : Option ℕ → (now : ℕ) → ℕ
-start_of none now = now
-start_of (some t) now = t
+start_of None now = now
+start_of (Some t) now = t
 
 abbrev pub starting_at : ℕ → Estimate
 starting_at t = record { rate = whole 0; attempts = 0; last = t; since = t }
@@ -60,7 +60,7 @@ new_key u s key limit now n =
       requests = starting_at (start_of s.last_tick now);
       denials = starting_at (start_of s.last_tick now);
       shadow_denials = starting_at (start_of s.last_tick now);
-      gcra = record { quota = cold_quota u s limit n; tat = Unset };
+      gcra = record { quota = cold_quota u s limit n; tat = None };
     }
 
 -- a tracked key takes the limit of the call and keeps all else
@@ -77,8 +77,8 @@ limited limit k =
     }
 
 abbrev pub found_or : KeyRecord → Limit → Option KeyRecord → KeyRecord
-found_or new limit none = new
-found_or new limit (some k) = limited limit k
+found_or new limit None = new
+found_or new limit (Some k) = limited limit k
 
 unfoldable pub entry : Units → LimiterState → (key : ℕ) → Limit → (now n : ℕ) → KeyRecord
 entry u s key limit now n = found_or (new_key u s.settings key limit now n) limit (key_with key s.keys)
@@ -107,8 +107,8 @@ abbrev pub denied : Decision → ℕ
 denied d = cond (is_allow d) 0 1
 
 abbrev pub denied_by : Option Decision → ℕ
-denied_by none = 0
-denied_by (some d) = denied d
+denied_by None = 0
+denied_by (Some d) = denied d
 
 -- ---- 000, `check_in`: 'finds or makes the key, counts the attempt and asks the meter'
 
@@ -121,7 +121,7 @@ abbrev pub key_decision : Units → LimiterState → (key : ℕ) → Limit → (
 key_decision u s key limit now n = decision (entry u s key limit now n).gcra now
 
 unfoldable pub check_in : Units → LimiterState → (key : ℕ) → Limit → (now n : ℕ) → LimiterState
-check_in u s key limit now n = holding s (put_key (checked_key now none (entry u s key limit now n)) s.keys) s.shadows
+check_in u s key limit now n = holding s (put_key (checked_key now None (entry u s key limit now n)) s.keys) s.shadows
 
 -- ---- 000, `check_in_traced`
 
@@ -132,18 +132,18 @@ shadow_quota u q limit shadow =
 
 -- the shadow's meter under the quota wanted, one without a TAT where the key had no shadow
 abbrev pub shadow_meter : Quota → (now : ℕ) → Option ShadowRecord → Gcra
-shadow_meter wanted now none = record { quota = wanted; tat = Unset }
-shadow_meter wanted now (some s) = set_quota s.gcra wanted now
+shadow_meter wanted now None = record { quota = wanted; tat = None }
+shadow_meter wanted now (Some s) = set_quota s.gcra wanted now
 
 -- the shadow's meter before it is asked, if the call has a shadow limit
 unfoldable pub traced_meter : Units → LimiterState → (key : ℕ) → Limit → Option Limit → (now n : ℕ) → Option Gcra
-traced_meter u s key limit none now n = none
-traced_meter u s key limit (some shadow) now n =
-    some (shadow_meter (shadow_quota u (entry u s key limit now n).gcra.quota limit shadow) now (shadow_with key s.shadows))
+traced_meter u s key limit None now n = None
+traced_meter u s key limit (Some shadow) now n =
+    Some (shadow_meter (shadow_quota u (entry u s key limit now n).gcra.quota limit shadow) now (shadow_with key s.shadows))
 
 abbrev pub decision_by : (now : ℕ) → Option Gcra → Option Decision
-decision_by now none = none
-decision_by now (some g) = some (decision g now)
+decision_by now None = None
+decision_by now (Some g) = Some (decision g now)
 
 -- what the shadow would have decided
 abbrev pub shadow_decision : Units → LimiterState → (key : ℕ) → Limit → Option Limit → (now n : ℕ) → Option Decision
@@ -151,8 +151,8 @@ shadow_decision u s key limit shadow now n = decision_by now (traced_meter u s k
 
 -- the shadow's meter after it was asked; a call without a shadow limit drops it
 abbrev pub shadows_with : (key now : ℕ) → Option Gcra → List ShadowRecord → List ShadowRecord
-shadows_with key now none ss = replaced (λ (s : ShadowRecord). s.key) key [] ss
-shadows_with key now (some g) ss = replaced (λ (s : ShadowRecord). s.key) key (record { key = key; gcra = check g now } ∷ []) ss
+shadows_with key now None ss = replaced (λ (s : ShadowRecord). s.key) key [] ss
+shadows_with key now (Some g) ss = replaced (λ (s : ShadowRecord). s.key) key (record { key = key; gcra = check g now } ∷ []) ss
 
 unfoldable pub check_traced : Units → LimiterState → (key : ℕ) → Limit → Option Limit → (now n : ℕ) → LimiterState
 check_traced u s key limit shadow now n =
@@ -169,8 +169,8 @@ record_tally u s key y limit now n = holding s (put_key (tallied_key y (entry u 
 
 -- ---- 000, `set_cap`: 'The cap may be any f64; NaN is stored as none'
 abbrev pub stored_cap : Option Float → Option Float
-stored_cap none = none
-stored_cap (some x) = cond (is_nan x) none (some x)
+stored_cap None = None
+stored_cap (Some x) = cond (is_nan x) None (Some x)
 
 abbrev pub set_cap : Option Float → LimiterState → LimiterState
 set_cap x s =
@@ -189,8 +189,8 @@ limit_questions x = (3 asks is_rate x.rate) ∷ (4 asks valid_burst x.burst) ∷
 
 -- 'A shadow limit passes 3 and 4 before the main check acts': 3 of both, then 4 of both
 abbrev pub both_limit_questions : Limit → Option Limit → List Question
-both_limit_questions x none = limit_questions x
-both_limit_questions x (some y) = (3 asks (is_rate x.rate && is_rate y.rate)) ∷ (4 asks (valid_burst x.burst && valid_burst y.burst)) ∷ []
+both_limit_questions x None = limit_questions x
+both_limit_questions x (Some y) = (3 asks (is_rate x.rate && is_rate y.rate)) ∷ (4 asks (valid_burst x.burst && valid_burst y.burst)) ∷ []
 
 -- is the cluster size 1 to 65,535?
 abbrev pub cluster_questions : ℕ → List Question
@@ -212,7 +212,7 @@ key_questions s after = (8 asks has_place s after.key) ∷ (9 asks counters_fit 
 -- of each call
 abbrev pub check_in_questions : Units → LimiterState → (key : ℕ) → Limit → (now n : ℕ) → List Question
 check_in_questions u s key limit now n =
-    limit_questions limit ++ (cluster_questions n ++ key_questions s (checked_key now none (entry u s key limit now n)))
+    limit_questions limit ++ (cluster_questions n ++ key_questions s (checked_key now None (entry u s key limit now n)))
 
 abbrev pub traced_questions : Units → LimiterState → (key : ℕ) → Limit → Option Limit → (now n : ℕ) → List Question
 traced_questions u s key limit shadow now n =
@@ -229,7 +229,7 @@ abbrev pub own_limit : LimiterState → Limit
 own_limit s = s.settings.config.limit
 
 abbrev pub check_key_questions : Units → LimiterState → (key now n : ℕ) → List Question
-check_key_questions u s key now n = key_questions s (checked_key now none (entry u s key (own_limit s) now n))
+check_key_questions u s key now n = key_questions s (checked_key now None (entry u s key (own_limit s) now n))
 
 abbrev pub check_questions : Units → LimiterState → (key now n : ℕ) → List Question
 check_questions u s key now n = cluster_questions n ++ check_key_questions u s key now n

@@ -1,6 +1,5 @@
 -- What a limiter's state tells (000: `key_rates`, `quota`, `limit`, `hot_demand`, `most_denied`, ..). Definitions only.
 use Rattle.std.specs.Prelude.{ℕ, Bool, List, [], ◌∷◌, map, Float, take}
-use Rattle.std.proofs.Math.Option.{Option, none, some}
 use Rattle.std.specs.Float.Ieee.{le}
 use Rattle.hot.specs.declared.hot_set.HotEntry.{HotEntry}
 use Rattle.records.specs.Fields.{flag_word}
@@ -10,11 +9,13 @@ use Rattle.limiter.specs.declared.Parameters.{Parameters}
 use Rattle.limiter.specs.declared.KeyRates.{KeyRates}
 use Rattle.limiter.specs.State.{KeyRecord, LimiterState, float_word, key_with}
 use Rattle.limiter.specs.Ticks.{unbiased_rate, sorted, ranked_before}
+use Rattle.std.specs.declared.option.Option.{Option}
+use Rattle.std.specs.declared.option.Option.TheVariants.{None, Some}
 
 -- something of a key, if it is tracked
 abbrev pub of_key : {A : Type 0} → (KeyRecord → A) → Option KeyRecord → Option A
-of_key f none = none
-of_key f (some k) = some (f k)
+of_key f None = None
+of_key f (Some k) = Some (f k)
 
 abbrev pub told : {A : Type 0} → (KeyRecord → A) → ℕ → LimiterState → Option A
 told f key s = of_key f (key_with key s.keys)

@@ -1,14 +1,11 @@
 -- A limiter's state (000: `Limiter`, `KeyState`), its words in the tables and in an image (01, 'The saved image', kinds 1, 2 and 4), and when it is valid.
 -- Definitions only.
 use Rattle.std.specs.Prelude.{ℕ, ◌*◌, min, Bool, true, not, ◌&&◌, List, [], ◌∷◌, ◌++◌, map, leb, eqb, Float, length, get_or, drop}
-use Rattle.std.proofs.Math.Option.{Option, none, some}
 use Rattle.std.specs.Float.{binary64}
 use Rattle.std.specs.Float.Ieee.{of_bits, to_bits, lt, le, fits, is_nan}
 use Rattle.float.specs.Magnitude.{magnitude}
 use Rattle.records.specs.Records.{records, table, ascending}
 use Rattle.gcra.specs.declared.Units.{Units}
-use Rattle.gcra.specs.declared.Tat.{Tat}
-use Rattle.gcra.specs.declared.Tat.TheVariants as tat
 use Rattle.gcra.specs.declared.Gcra.{Gcra}
 use Rattle.gcra.specs.Packed.{unit_nanos, valid_burst, valid_quota, pack, unpack}
 use Rattle.hot.specs.declared.hot_set.HotEntry.{HotEntry}
@@ -23,11 +20,9 @@ use Rattle.records.specs.Typed.{is_word, exact}
 use Rattle.limiter.specs.declared.Limit.{Limit}
 use Rattle.limiter.specs.declared.Config.{Config}
 use Rattle.limiter.specs.declared.Parameters.{Parameters}
-use Rattle.limiter.specs.declared.Cap.{Cap}
-use Rattle.limiter.specs.declared.Cap.TheVariants as cap
-use Rattle.limiter.specs.declared.LastTick.{LastTick}
-use Rattle.limiter.specs.declared.LastTick.TheVariants as last-tick
 use Rattle.limiter.specs.declared.Limiter.{Limiter}
+use Rattle.std.specs.declared.option.Option.{Option}
+use Rattle.std.specs.declared.option.Option.TheVariants.{None, Some}
 
 -- ---- the state
 
@@ -116,16 +111,8 @@ float_of w = of_bits binary64 w
 
 -- '"?" marks flag and value'
 abbrev pub cap_words : Option Float → List ℕ
-cap_words none = 0 ∷ 0 ∷ []
-cap_words (some x) = 1 ∷ float_word x ∷ []
-
-abbrev pub tat_time : Tat → Option ℕ
-tat_time tat.Unset = none
-tat_time (tat.At t) = some t
-
-abbrev pub tat_from : Option ℕ → Tat
-tat_from none = tat.Unset
-tat_from (some t) = tat.At t
+cap_words None = 0 ∷ 0 ∷ []
+cap_words (Some x) = 1 ∷ float_word x ∷ []
 
 -- kind 1: 'rate, burst, alpha, floor factor, cooldown, hot set size, max_tracked_keys, demand time constant, table size, cap?, last tick?'
 unfoldable pub settings_words : Settings → List ℕ
@@ -147,7 +134,7 @@ estimate_words e = float_word e.rate ∷ e.attempts ∷ e.last ∷ e.since ∷ [
 
 -- 'packed quota, TAT?'
 abbrev pub gcra_words : Units → Gcra → List ℕ
-gcra_words u g = pack u g.quota ∷ time_words (tat_time g.tat)
+gcra_words u g = pack u g.quota ∷ time_words g.tat
 
 -- kind 2: 'key, limit rate, burst; demand, requests, denials, shadow denials ..; packed quota, TAT?'
 unfoldable pub key_words : Units → KeyRecord → List ℕ
@@ -169,7 +156,7 @@ abbrev pub estimate_of : List ℕ → Estimate
 estimate_of ws = record { rate = float_of (get_or ws 0 0); attempts = get_or ws 1 0; last = get_or ws 2 0; since = get_or ws 3 0 }
 
 abbrev pub gcra_of : Units → List ℕ → Gcra
-gcra_of u ws = record { quota = unpack u (get_or ws 0 0); tat = tat_from (time_of (get_or ws 1 0) (get_or ws 2 0)) }
+gcra_of u ws = record { quota = unpack u (get_or ws 0 0); tat = (time_of (get_or ws 1 0) (get_or ws 2 0)) }
 
 unfoldable pub key_of : Units → List ℕ → KeyRecord
 key_of u ws =
@@ -194,8 +181,8 @@ is_f64 x = fits binary64 x
 
 -- what the type of a cap says
 abbrev pub cap_fits : Option Float → Bool
-cap_fits none = true
-cap_fits (some x) = is_f64 x
+cap_fits None = true
+cap_fits (Some x) = is_f64 x
 
 -- question 5: 'alpha in (0, 1]'
 unfoldable pub is_alpha : Float → Bool
@@ -214,8 +201,8 @@ valid_limit l = is_f64 l.rate && (is_rate l.rate && valid_burst l.burst)
 
 -- 'a cap is not NaN'
 abbrev pub valid_cap : Option Float → Bool
-valid_cap none = true
-valid_cap (some x) = is_f64 x && not (is_nan x)
+valid_cap None = true
+valid_cap (Some x) = is_f64 x && not (is_nan x)
 
 -- 'Settings .. pass 3 to 6, a cap is not NaN, .. values fit their Rust widths'
 unfoldable pub valid_settings : Settings → Bool
@@ -300,25 +287,8 @@ sizes c = sizes_for c.table_size c.hot_set_size
 abbrev pub have_room : Config → Lengths → Bool
 have_room c n = within (sizes c) n
 
--- the value's cap and last tick
-abbrev pub cap_of : Cap → Option Float
-cap_of cap.Unset = none
-cap_of (cap.At x) = some x
-
-abbrev pub last_tick_of : LastTick → Option ℕ
-last_tick_of last-tick.Unset = none
-last_tick_of (last-tick.At t) = some t
-
-abbrev pub cap_from : Option Float → Cap
-cap_from none = cap.Unset
-cap_from (some x) = cap.At x
-
-abbrev pub last_tick_from : Option ℕ → LastTick
-last_tick_from none = last-tick.Unset
-last_tick_from (some t) = last-tick.At t
-
 abbrev pub settings_of : Limiter → Settings
-settings_of l = record { config = l.config; cap = cap_of l.cap; last_tick = last_tick_of l.last_tick }
+settings_of l = record { config = l.config; cap = l.cap; last_tick = l.last_tick }
 
 -- the units of a limiter's value
 abbrev pub units_in : Limiter → Units
@@ -350,8 +320,8 @@ abbrev pub value_of : LimiterState → Limiter
 value_of s =
     record {
       config = s.settings.config;
-      cap = cap_from s.settings.cap;
-      last_tick = last_tick_from s.settings.last_tick;
+      cap = s.settings.cap;
+      last_tick = s.settings.last_tick;
       keys = length s.keys;
       hot = length s.hot;
       shadows = length s.shadows;

@@ -1,6 +1,5 @@
 -- What a tick does to a limiter's state (000: `tick_with_shares`, `tick`, `enforce_cap`). Definitions only. 'keys ascending in both passes'
 use Rattle.std.specs.Prelude.{ℕ, ◌-◌, Bool, false, cond, not, ◌&&◌, ◌||◌, List, [], ◌∷◌, map, ltb, eqb, Float, length, take}
-use Rattle.std.proofs.Math.Option.{some}
 use Rattle.std.specs.Float.{binary64}
 use Rattle.std.specs.Float.Ieee.{mul, div, le}
 use Rattle.float.specs.Order.{minimum_number, total_less}
@@ -8,8 +7,6 @@ use Rattle.gcra.specs.declared.Units.{Units}
 use Rattle.gcra.specs.declared.Quota.{Quota}
 use Rattle.gcra.specs.Rate.{per_second, set_quota}
 use Rattle.gcra.specs.Meter.{has_debt}
-use Rattle.demand.specs.declared.demand.Times.{Times}
-use Rattle.demand.specs.declared.demand.Times.TheVariants.{Unset, At}
 use Rattle.demand.specs.declared.demand.Demand.{Demand}
 use Rattle.demand.specs.declared.allocation.View.{View}
 use Rattle.hot.specs.declared.hot_set.HotEntry.{HotEntry}
@@ -24,16 +21,19 @@ use Rattle.limiter.specs.declared.Limit.{Limit}
 use Rattle.limiter.specs.declared.Parameters.{Parameters}
 use Rattle.limiter.specs.State.{Settings, Estimate, KeyRecord, ShadowRecord, LimiterState, float_word, is_tracked}
 use Rattle.limiter.specs.Checks.{cap_or_none}
+use Rattle.std.specs.declared.option.Option.{Option}
+use Rattle.std.specs.declared.option.Option.TheVariants.{None, Some}
+use Rattle.demand.specs.declared.demand.Times.{Times}
 
 -- ---- estimators as 004 has them
 
 -- an estimate under its time constant, and back
 abbrev pub demand_of : (c : ℕ) → Estimate → Demand
-demand_of c e = record { current_rate = e.rate; attempts_since_tick = e.attempts; times = At e.last e.since; time_constant = c }
+demand_of c e = record { current_rate = e.rate; attempts_since_tick = e.attempts; times = Some (record { last_tick = e.last; since = e.since }); time_constant = c }
 
-abbrev pub estimate_from : Times → Demand → Estimate
-estimate_from Unset d = record { rate = d.current_rate; attempts = d.attempts_since_tick; last = 0; since = 0 }
-estimate_from (At last since) d = record { rate = d.current_rate; attempts = d.attempts_since_tick; last = last; since = since }
+abbrev pub estimate_from : Option Times → Demand → Estimate
+estimate_from None d = record { rate = d.current_rate; attempts = d.attempts_since_tick; last = 0; since = 0 }
+estimate_from (Some t) d = record { rate = d.current_rate; attempts = d.attempts_since_tick; last = t.last_tick; since = t.since }
 
 unfoldable pub folded : (c now : ℕ) → Estimate → Estimate
 folded c now e = let d = ticked (demand_of c e) now in estimate_from d.times d
@@ -182,7 +182,7 @@ module _ (par : Parameters) (s : Settings) (o : Others) (now n : ℕ) where
   abbrev pub after_passes : Units → List ShadowRecord → Settled → LimiterState
   after_passes u ss p =
       record {
-        settings = record { config = s.config; cap = s.cap; last_tick = some now };
+        settings = record { config = s.config; cap = s.cap; last_tick = Some now };
         keys = keys_after u p;
         hot = p.hot;
         shadows = only (λ (x : ShadowRecord). is_tracked (keys_after u p) x.key) ss;

@@ -16,18 +16,20 @@ mod traces;
 
 ghost use Rattle.std.specs.Prelude.{◌≡◌, true, ◌&&◌, min, ◌++◌};
 ghost use Rattle.demand.specs.Allocation.{is_floor_factor};
-ghost use Rattle.limiter.specs.State.{parameters_of, units_of, valid_limit, cap_of, valid_cap, is_alpha};
+ghost use Rattle.limiter.specs.State.{parameters_of, units_of, valid_limit, valid_cap, is_alpha};
 ghost use Rattle.limiter.specs.State.{are_sizes, settings_of, valid_settings, tables, lengths};
 ghost use Rattle.limiter.specs.State.{room_for, have_room, is_valid};
 ghost use Rattle.limiter.specs.Steps.Scan.{has_room};
 ghost use Rattle.questions.specs.Questions.{first_no};
 ghost use Rattle.limiter.specs.Checks as Checks;
 ghost use Rattle.limiter.specs.Calls as Calls;
-ghost use Rattle.limiter.specs.Steps.ReaderSteps.{with_cap};
+ghost use Rattle.questions.specs.Refusals.{asked};
+ghost use Rattle.limiter.specs.Answered.{refused_with};
 
 use demand::allocation::{is_floor_factor, is_rate};
-use gcra::{CheckAnswer, Decision, Quota};
-use peers::peer_demand::{ChangeAnswer, IMPLAUSIBLE_JUMP};
+use gcra::{Decision, Quota};
+use peers::peer_demand::IMPLAUSIBLE_JUMP;
+use questions::Refusal;
 
 // A key's limit: requests a second in the whole cluster, and how many one node may allow at once.
 #[derive(Clone, Copy)]
@@ -72,26 +74,12 @@ pub(crate) fn parameters_of(limiter: Limiter) -> Parameters
     }
 }
 
-// A part of each key's rate that no key gets more than, or none.
-#[derive(Clone, Copy)]
-pub enum Cap {
-    Unset,
-    At(f64),
-}
-
-// The reading of the last tick, or none.
-#[derive(Clone, Copy)]
-pub enum LastTick {
-    Unset,
-    At(u64),
-}
-
 // The settings, and how many key, hot and shadow records are in use.
 #[derive(Clone, Copy)]
 pub struct Limiter {
     pub config: Config,
-    pub cap: Cap,
-    pub last_tick: LastTick,
+    pub cap: Option<f64>,
+    pub last_tick: Option<u64>,
     pub keys: usize,
     pub hot: usize,
     pub shadows: usize,
@@ -113,85 +101,37 @@ pub struct KeyRates {
     pub shadow_denied_per_sec: f64,
 }
 
-// A limit that is only tried out, or none.
-#[derive(Clone, Copy)]
-pub enum Shadow {
-    Unset,
-    Of(Limit),
-}
-
-// What the shadow would have decided, if there is one.
-#[derive(Clone, Copy)]
-pub enum ShadowDecision {
-    Unset,
-    Is(Decision),
-}
-
 // The decision, and the shadow's.
 #[derive(Clone, Copy)]
 pub struct Traced {
     pub decision: Decision,
-    pub shadow: ShadowDecision,
-}
-
-// Answers: the number of the question that was answered 'no', or the value.
-#[derive(Clone, Copy)]
-pub enum LimiterAnswer {
-    No(u8),
-    Is(Limiter),
-}
-
-#[derive(Clone, Copy)]
-pub enum TracedAnswer {
-    No(u8),
-    Is(Traced),
-}
-
-#[derive(Clone, Copy)]
-pub enum RatesAnswer {
-    No(u8),
-    Untracked,
-    Is(KeyRates),
-}
-
-#[derive(Clone, Copy)]
-pub enum KeyQuotaAnswer {
-    No(u8),
-    Untracked,
-    Is(Quota),
-}
-
-#[derive(Clone, Copy)]
-pub enum LimitAnswer {
-    No(u8),
-    Untracked,
-    Is(Limit),
-}
-
-#[derive(Clone, Copy)]
-pub enum ConfigAnswer {
-    No(u8),
-    Is(Config),
+    pub shadow: Option<Decision>,
 }
 
 // The answer of a call that changes the limiter, and the limiter after it.
 #[derive(Clone, Copy)]
-pub struct Checked {
-    pub answer: CheckAnswer,
+pub struct Answered<T> {
+    pub answer: Result<T, Refusal>,
     pub limiter: Limiter,
 }
 
-#[derive(Clone, Copy)]
-pub struct TracedCheck {
-    pub answer: TracedAnswer,
-    pub limiter: Limiter,
+impl<T> Answered<T> {
+    // A 'no', with the limiter as it was.
+    fn refused(no: Refusal, limiter: Limiter) -> Self
+        ensures { result ≡ refused_with no limiter }
+    {
+        Answered {
+            answer: Err(no),
+            limiter,
+        }
+    }
 }
 
-#[derive(Clone, Copy)]
-pub struct Changed {
-    pub answer: ChangeAnswer,
-    pub limiter: Limiter,
-}
+pub type Checked = Answered<Decision>;
+
+pub type TracedCheck = Answered<Traced>;
+
+pub type Changed = Answered<()>;
 
 // The words of a key, of a hot entry and of a shadow in their tables.
 pub const KEY_WORDS: usize = 22;
@@ -210,38 +150,27 @@ impl Limit {
     fn is_valid(self) -> bool
         ensures { result ≡ valid_limit self }
     {
-        scan::is_limit(float::to_bits(self.rate), self.burst as u64)
+        is_rate(self.rate) && Quota::burst_fits(self.burst)
     }
 }
 
-impl Cap {
-    // A cap is not NaN.
-    fn is_valid(self) -> bool
-        ensures { result ≡ valid_cap (cap_of self) }
-    {
-        match self {
-            Cap::Unset => true,
-            Cap::At(x) => x == x,
-        }
-    }
+// A cap is not NaN.
+fn is_cap(cap: Option<f64>) -> bool
+    ensures { result ≡ valid_cap cap }
+{
+    cap.is_none_or(|x| !x.is_nan())
 }
 
 // Question 5: alpha is in (0, 1].
 fn is_alpha(x: f64) -> bool
     ensures { result ≡ is_alpha x }
 {
-    if 0.0 < x { x <= 1.0 } else { false }
-}
-
-// The number, or the bound where it is above that.
-fn at_most(n: usize, bound: usize) -> usize
-    ensures { result ≡ min n bound }
-{
-    if n < bound { n } else { bound }
+    0.0 < x && x <= 1.0
 }
 
 // Question 1, of tables with so many words under these sizes; a size above its bound counts as that
 // bound.
+#[tactic(auto, using(std::proofs::lemmas::Bool::Decides::nat_tests), unfolding(crate::specs::State::within))]
 pub fn have_room(
     table_size: usize,
     hot_set_size: usize,
@@ -251,34 +180,23 @@ pub fn have_room(
 ) -> bool
     ensures { result ≡ room_for table_size hot_set_size keys hot shadows }
 {
-    let size = at_most(table_size, MAX_KEYS);
-    if keys < KEY_WORDS * size {
-        return false;
-    }
-    if hot < HOT_WORDS * at_most(hot_set_size, MAX_HOT) {
-        return false;
-    }
-    SHADOW_WORDS * size <= shadows
+    let size = table_size.min(MAX_KEYS);
+    KEY_WORDS * size <= keys
+        && HOT_WORDS * hot_set_size.min(MAX_HOT) <= hot
+        && SHADOW_WORDS * size <= shadows
 }
 
 impl Config {
     // Question 6: each size is within the next.
+    #[tactic(auto, using(std::proofs::lemmas::Bool::Decides::nat_tests), unfolding(crate::specs::State::are_sizes))]
     fn has_sizes(self) -> bool
         ensures { result ≡ are_sizes self }
     {
-        if self.hot_set_size == 0 {
-            return false;
-        }
-        if MAX_HOT < self.hot_set_size {
-            return false;
-        }
-        if self.max_tracked_keys < self.hot_set_size {
-            return false;
-        }
-        if self.table_size < self.max_tracked_keys {
-            return false;
-        }
-        self.table_size <= MAX_KEYS
+        1 <= self.hot_set_size
+            && self.hot_set_size <= MAX_HOT
+            && self.hot_set_size <= self.max_tracked_keys
+            && self.max_tracked_keys <= self.table_size
+            && self.table_size <= MAX_KEYS
     }
 
     // Question 1, of tables with so many words.
@@ -295,21 +213,7 @@ impl Limiter {
         ensures { result ≡ valid_settings (settings_of self) }
     {
         let config = self.config;
-        let limit = config.limit;
-        let cap = self.cap;
-        if !limit.is_valid() {
-            return false;
-        }
-        if !is_alpha(config.alpha) {
-            return false;
-        }
-        if !is_floor_factor(config.floor_factor) {
-            return false;
-        }
-        if !config.has_sizes() {
-            return false;
-        }
-        cap.is_valid()
+        config.limit.is_valid() && config.has_factors() && config.has_sizes() && is_cap(self.cap)
     }
 
     // Question 2: whether the value and its records could stand in a valid image.
@@ -317,165 +221,130 @@ impl Limiter {
         requires { have_room self.config (lengths (tables keys.now hot.now shadows.now)) ≡ true }
         ensures { result ≡ is_valid (units_of (settings_of self)) self (tables keys.now hot.now shadows.now) }
     {
-        if !self.has_valid_settings() {
-            return false;
-        }
         let config = self.config;
-        if !scan::are_keys(keys, self.keys, config.table_size) {
-            return false;
-        }
-        if !scan::are_hot(hot, self.hot, config.hot_set_size, keys, self.keys) {
-            return false;
-        }
-        scan::are_shadows(shadows, self.shadows, config.table_size, keys, self.keys)
+        self.has_valid_settings()
+            && scan::are_keys(keys, self.keys, config.table_size)
+            && scan::are_hot(hot, self.hot, config.hot_set_size, keys, self.keys)
+            && scan::are_shadows(shadows, self.shadows, config.table_size, keys, self.keys)
     }
 
-    // The first of questions 1 and 2 that is answered 'no', 0 where none is.
-    pub fn ask(self, keys: &[u64], hot: &[u64], shadows: &[u64]) -> u8
-        ensures { Calls.Asks self (tables keys.now hot.now shadows.now) result }
+    // The first of questions 1 and 2 that is answered 'no', if one is.
+    pub fn ask(self, keys: &[u64], hot: &[u64], shadows: &[u64]) -> Result<(), Refusal>
+        ensures { Calls.Asks self (tables keys.now hot.now shadows.now) (asked result) }
     {
-        let config = self.config;
-        if !config.has_room(keys.len(), hot.len(), shadows.len()) {
-            return 1;
+        if !self.config.has_room(keys.len(), hot.len(), shadows.len()) {
+            return Err(Refusal::ShortBuffer);
         }
         if !self.is_valid(keys, hot, shadows) {
-            return 2;
+            return Err(Refusal::Invalid);
         }
-        0
+        Ok(())
     }
 
     // The same, and question 7.
-    fn ask_cluster(self, keys: &[u64], hot: &[u64], shadows: &[u64], cluster_size: usize) -> u8
-        ensures { result ≡ first_no (Calls.state_questions self (tables keys.now hot.now shadows.now) ++ Checks.cluster_questions cluster_size) }
+    fn ask_cluster(
+        self,
+        keys: &[u64],
+        hot: &[u64],
+        shadows: &[u64],
+        cluster_size: usize,
+    ) -> Result<(), Refusal>
+        ensures { asked result ≡ first_no (Calls.state_questions self (tables keys.now hot.now shadows.now) ++ Checks.cluster_questions cluster_size) }
     {
-        let no = self.ask(keys, hot, shadows);
-        if no != 0 {
-            return no;
-        }
+        self.ask(keys, hot, shadows)?;
         checks::ask_cluster(cluster_size)
     }
 
-    // The same, and 3, 4 and 7.
-    fn ask_limit(
+    // The same, 3 and 4 of a limit and of a shadow's, if there is one, and 7.
+    fn ask_limits(
         self,
         keys: &[u64],
         hot: &[u64],
         shadows: &[u64],
         limit: Limit,
+        shadow: Option<Limit>,
         cluster_size: usize,
-    ) -> u8
-        ensures { result ≡ first_no (Calls.state_questions self (tables keys.now hot.now shadows.now)
-            ++ (Checks.limit_questions limit ++ Checks.cluster_questions cluster_size)) }
+    ) -> Result<(), Refusal>
+        ensures { asked result ≡ first_no (Calls.state_questions self (tables keys.now hot.now shadows.now)
+            ++ (Checks.both_limit_questions limit shadow ++ Checks.cluster_questions cluster_size)) }
     {
-        let no = self.ask(keys, hot, shadows);
-        if no != 0 {
-            return no;
-        }
-        checks::ask_limit(limit, cluster_size)
+        self.ask(keys, hot, shadows)?;
+        checks::ask_limits(limit, shadow, cluster_size)
     }
 }
 
-impl Cap {
-    // A cap of NaN is stored as none.
-    fn stored(self) -> Self
-        ensures { cap_of result ≡ Checks.stored_cap (cap_of self) }
-    {
-        match self {
-            Cap::Unset => Cap::Unset,
-            Cap::At(x) => {
-                if x == x {
-                    return Cap::At(x);
-                }
-                Cap::Unset
-            }
-        }
-    }
+// A cap of NaN is stored as none.
+fn stored_cap(cap: Option<f64>) -> Option<f64>
+    ensures { result ≡ Checks.stored_cap cap }
+{
+    cap.filter(|x| !x.is_nan())
 }
 
 impl Config {
-    // The first of questions 1 and 3 to 6 that is answered 'no', 0 where none is.
-    fn ask(self, keys: &[u64], hot: &[u64], shadows: &[u64]) -> u8
-        ensures { result ≡ first_no (Calls.new_questions self (tables keys.now hot.now shadows.now)) }
+    // The first of questions 1 and 3 to 6 that is answered 'no', if one is.
+    fn ask(self, keys: &[u64], hot: &[u64], shadows: &[u64]) -> Result<(), Refusal>
+        ensures { asked result ≡ first_no (Calls.new_questions self (tables keys.now hot.now shadows.now)) }
     {
-        let limit = self.limit;
         if !self.has_room(keys.len(), hot.len(), shadows.len()) {
-            return 1;
+            return Err(Refusal::ShortBuffer);
         }
-        if !is_rate(limit.rate) {
-            return 3;
+        if !is_rate(self.limit.rate) {
+            return Err(Refusal::Rate);
         }
-        if !Quota::burst_fits(limit.burst) {
-            return 4;
+        if !Quota::burst_fits(self.limit.burst) {
+            return Err(Refusal::Burst);
         }
         if !self.has_factors() {
-            return 5;
+            return Err(Refusal::Factor);
         }
         if !self.has_sizes() {
-            return 6;
+            return Err(Refusal::Sizes);
         }
-        0
+        Ok(())
     }
 
     // Question 5: alpha is in (0, 1] and the floor factor in [0, 1].
     fn has_factors(self) -> bool
         ensures { result ≡ (is_alpha self.alpha && is_floor_factor self.floor_factor) }
     {
-        if !is_alpha(self.alpha) {
-            return false;
-        }
-        is_floor_factor(self.floor_factor)
+        is_alpha(self.alpha) && is_floor_factor(self.floor_factor)
     }
 }
 
 impl Limiter {
     // A limiter with no key yet.
-    pub fn new(config: Config, keys: &[u64], hot: &[u64], shadows: &[u64]) -> LimiterAnswer
+    pub fn new(
+        config: Config,
+        keys: &[u64],
+        hot: &[u64],
+        shadows: &[u64],
+    ) -> Result<Limiter, Refusal>
         ensures { Calls.IsNew config (tables keys.now hot.now shadows.now) result }
     {
-        let no = config.ask(keys, hot, shadows);
-        if no != 0 {
-            return LimiterAnswer::No(no);
-        }
-        LimiterAnswer::Is(Limiter {
+        config.ask(keys, hot, shadows)?;
+        Ok(Limiter {
             config,
-            cap: Cap::Unset,
-            last_tick: LastTick::Unset,
+            cap: None,
+            last_tick: None,
             keys: 0,
             hot: 0,
             shadows: 0,
         })
     }
 
-    // The limiter with another cap.
-    fn with_cap(self, cap: Cap) -> Self
-        ensures { result ≡ with_cap self cap }
-    {
-        let config = self.config;
-        let last_tick = self.last_tick;
-        Limiter {
-            config,
-            cap,
-            last_tick,
-            keys: self.keys,
-            hot: self.hot,
-            shadows: self.shadows,
-        }
-    }
-
     // Sets or lifts the cap, the greatest part of its limit that a key gets.
-    pub fn set_cap(self, keys: &[u64], hot: &[u64], shadows: &[u64], cap: Cap) -> Changed
-        ensures { Calls.SetsCap self (tables keys.now hot.now shadows.now) (cap_of cap) result }
+    pub fn set_cap(self, keys: &[u64], hot: &[u64], shadows: &[u64], cap: Option<f64>) -> Changed
+        ensures { Calls.SetsCap self (tables keys.now hot.now shadows.now) cap result }
     {
-        let no = self.ask(keys, hot, shadows);
-        if no != 0 {
-            return Changed {
-                answer: ChangeAnswer::No(no),
-                limiter: self,
-            };
+        if let Err(no) = self.ask(keys, hot, shadows) {
+            return Answered::refused(no, self);
         }
         Changed {
-            answer: ChangeAnswer::Done,
-            limiter: self.with_cap(cap.stored()),
+            answer: Ok(()),
+            limiter: Limiter {
+                cap: stored_cap(cap),
+                ..self
+            },
         }
     }
 }

@@ -3,14 +3,14 @@
 ghost use Rattle.std.specs.Prelude.{◌≡◌, ◌+◌, ◌≤◌, length};
 ghost use Rattle.records.specs.Words.{paste};
 ghost use Rattle.questions.specs.Questions.{given, first_no};
-ghost use Rattle.gcra.specs.Calls.{check_answer};
 ghost use Rattle.limiter.specs.State as State;
 ghost use Rattle.limiter.specs.Calls as Calls;
 ghost use Rattle.limiter.specs.Steps.ManySteps.{PairsReady, ChecksPairs};
+ghost use Rattle.questions.specs.Refusals.{asked, answer_of};
 
-use crate::{Changed, Limiter, checks};
-use gcra::{CheckAnswer, Decision};
-use peers::peer_demand::ChangeAnswer;
+use crate::{Answered, Changed, Limiter, checks};
+use gcra::Decision;
+use questions::Refusal;
 
 // The words of a key and its reading, and of an answer.
 const PAIR_WORDS: usize = 2;
@@ -28,24 +28,21 @@ fn decision_words(decision: Decision) -> [u64; 3]
 }
 
 // The words of an answer: the number of a 'no', or the decision's.
-fn answer_words(answer: CheckAnswer) -> [u64; 3]
-    ensures { result ≡ Calls.answer_words (check_answer answer) }
+fn answer_words(answer: Result<Decision, Refusal>) -> [u64; 3]
+    ensures { result ≡ Calls.answer_words (answer_of answer) }
 {
     match answer {
-        CheckAnswer::No(no) => [no as u64, 0, 0],
-        CheckAnswer::Is(decision) => decision_words(decision),
+        Err(no) => [no.number() as u64, 0, 0],
+        Ok(decision) => decision_words(decision),
     }
 }
 
 // Writes an answer's words at an index.
-fn put_answer(out: &mut [u64], at: usize, answer: CheckAnswer)
+fn put_answer(out: &mut [u64], at: usize, answer: Result<Decision, Refusal>)
     requires { at + 3 ≤ length out.old }
-    ensures { out.new ≡ paste at (Calls.answer_words (check_answer answer)) out.old }
+    ensures { out.new ≡ paste at (Calls.answer_words (answer_of answer)) out.old }
 {
-    let words = answer_words(answer);
-    out[at] = words[0];
-    out[at + 1] = words[1];
-    out[at + 2] = words[2];
+    out[at..at + ANSWER_WORDS].copy_from_slice(&answer_words(answer));
 }
 
 // Checks each of `count` pairs at the settings' limit, and writes its answer.
@@ -61,24 +58,19 @@ fn check_pairs(
     ensures { ChecksPairs limiter keys.old list.now count cluster_size out.old result
         keys.new out.new }
 {
-    let config = limiter.config;
-    let limit = config.limit;
+    let limit = limiter.config.limit;
     let mut left = limiter;
-    let mut i = 0;
-    while i < count {
+    for i in 0..count {
         let at = i * PAIR_WORDS;
         let checked = checks::check_key(left, keys, list[at], limit, list[at + 1], cluster_size);
-        let answer = checked.answer;
-        put_answer(out, i * ANSWER_WORDS, answer);
-        let after = checked.limiter;
-        left = after;
-        i += 1;
+        put_answer(out, i * ANSWER_WORDS, checked.answer);
+        left = checked.limiter;
     }
     left
 }
 
 impl Limiter {
-    // The first of questions 1, 2, 7 and 16 that is answered 'no', or 0.
+    // The first of questions 1, 2, 7 and 16 that is answered 'no', if one is.
     fn ask_each(
         self,
         keys: &[u64],
@@ -88,21 +80,18 @@ impl Limiter {
         count: usize,
         cluster_size: usize,
         out: &[u64],
-    ) -> u8
-        ensures { result ≡ first_no (Calls.each_asked self (State.tables keys.now hot.now shadows.now) list.now count cluster_size
+    ) -> Result<(), Refusal>
+        ensures { asked result ≡ first_no (Calls.each_asked self (State.tables keys.now hot.now shadows.now) list.now count cluster_size
             out.now) }
     {
         if !records::fits(list.len(), PAIR_WORDS, count) {
-            return 1;
+            return Err(Refusal::ShortBuffer);
         }
-        let no = self.ask_cluster(keys, hot, shadows, cluster_size);
-        if no != 0 {
-            return no;
-        }
+        self.ask_cluster(keys, hot, shadows, cluster_size)?;
         if !records::fits(out.len(), ANSWER_WORDS, count) {
-            return 16;
+            return Err(Refusal::ShortOutput);
         }
-        0
+        Ok(())
     }
 
     // `check` of many: `count` pairs of a key and a reading; three words of answer each.
@@ -119,15 +108,11 @@ impl Limiter {
         ensures { Calls.ChecksEach self (State.tables keys.old hot.now shadows.now) list.now count cluster_size
             out.old result (State.tables keys.new hot.now shadows.now) out.new }
     {
-        let no = self.ask_each(keys, hot, shadows, list, count, cluster_size, out);
-        if no != 0 {
-            return Changed {
-                answer: ChangeAnswer::No(no),
-                limiter: self,
-            };
+        if let Err(no) = self.ask_each(keys, hot, shadows, list, count, cluster_size, out) {
+            return Answered::refused(no, self);
         }
         Changed {
-            answer: ChangeAnswer::Done,
+            answer: Ok(()),
             limiter: check_pairs(self, keys, list, count, cluster_size, out),
         }
     }

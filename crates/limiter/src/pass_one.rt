@@ -5,13 +5,13 @@ ghost use Rattle.gcra.specs.Packed.{valid_quota};
 ghost use Rattle.gcra.specs.Meter.{has_debt};
 ghost use Rattle.limiter.specs.State.{parameters_of, settings_of, units_in, key_of};
 ghost use Rattle.limiter.specs.Steps.TickSteps.{flagged, LentKeys, LentKey};
-ghost use Rattle.limiter.specs.Steps.PassOneSteps.{is_demand, stays_if, Measured, LentHot, HotUpdated};
+ghost use Rattle.limiter.specs.Steps.PassOneSteps.{is_demand, stays_if, set_of, Measured, LentHot, HotUpdated};
 ghost use Rattle.limiter.specs.Steps.PassOneSteps.{staying_keys, IdleDropped, Passable, PassesOne};
 ghost use Rattle.limiter.specs.Steps.KeySteps.{units};
 
-use crate::{KEY_WORDS, Limiter, key_record, parameters_of, ticks};
-use gcra::{DebtAnswer, Gcra};
-use hot::hot_set::{EachAnswer, HotSet};
+use crate::{KEY_WORDS, Limiter, MAX_KEYS, key_record, parameters_of, ticks};
+use gcra::Gcra;
+use hot::hot_set::HotSet;
 
 // How many keys and hot entries are left.
 #[derive(Clone, Copy)]
@@ -31,10 +31,7 @@ fn is_demand(silent: f64, rate: f64) -> bool
 fn is_elsewhere(silent: f64, rate: f64, held: bool) -> bool
     ensures { result ≡ (is_demand silent rate && held) }
 {
-    if held {
-        return is_demand(silent, rate);
-    }
-    false
+    is_demand(silent, rate) && held
 }
 
 // Works out what the hot set's update of each key is given: its demand, its threshold, and whether
@@ -55,14 +52,23 @@ fn measure_keys(
     ensures { Measured units silent n keys.now alpha cluster_size elsewhere.now demands.new
         thresholds.new flags.new }
 {
-    let mut i = 0;
-    while i < n {
+    for i in 0..n {
         let at = i * KEY_WORDS;
         let rate = float::from_bits(keys[at + 3]);
         demands[i] = rate;
         thresholds[i] = float::from_bits(keys[at + 1]) / cluster_size * alpha;
         flags[i] = is_elsewhere(silent, rate, elsewhere[i]);
-        i += 1;
+    }
+}
+
+// The limiter's hot set.
+pub(crate) fn set_of(limiter: Limiter) -> HotSet
+    ensures { result ≡ set_of limiter }
+{
+    HotSet {
+        cooldown: limiter.config.cooldown,
+        max_size: limiter.config.hot_set_size,
+        len: limiter.hot,
     }
 }
 
@@ -86,40 +92,33 @@ fn update_hot(
         keys.now hot.old elsewhere.now result hot.new flags.new
         hots.new }
 {
-    let config = limiter.config;
-    let n = limiter.keys;
     let size = float::u64_to_f64(cluster_size as u64);
-    let mut demands = [0.0; 4096];
-    let mut thresholds = [0.0; 4096];
+    let mut demands = [0.0; MAX_KEYS];
+    let mut thresholds = [0.0; MAX_KEYS];
     measure_keys(
         keys,
-        n,
+        limiter.keys,
         silent,
-        config.alpha,
+        limiter.config.alpha,
         size,
         elsewhere,
         &mut demands,
         &mut thresholds,
         flags,
     );
-    let set = HotSet {
-        cooldown: config.cooldown,
-        max_size: config.hot_set_size,
-        len: limiter.hot,
-    };
-    match set.update_each(
+    match set_of(limiter).update_each(
         hot,
         keys,
         KEY_WORDS,
-        n,
+        limiter.keys,
         &demands,
         &thresholds,
         flags,
         reading,
         hots,
     ) {
-        EachAnswer::Is(left) => left.len,
-        EachAnswer::No(_) => 0,
+        Ok(left) => left.len,
+        Err(_) => 0,
     }
 }
 
@@ -128,28 +127,19 @@ fn has_debt(meter: Gcra, reading: u64) -> bool
     requires { valid_quota units meter.quota ≡ true }
     ensures { result ≡ has_debt meter reading }
 {
-    match meter.has_debt(reading) {
-        DebtAnswer::Is(debt) => debt,
-        DebtAnswer::No(_) => true,
-    }
+    meter.has_debt(reading).unwrap_or(true)
 }
 
 // Whether the key in these words stays: it is hot, or has debt, demand or attempts not folded in
 // yet.
+#[tactic(auto, using(crate::proofs::PassTwo::QuotaLaws::lent_long, crate::proofs::PassTwo::QuotaLaws::lent_unpacks))]
 fn key_stays(r: &[u64], silent: f64, reading: u64, hot: bool) -> bool
     requires { LentKey units r.now }
     ensures { result ≡ stays_if silent reading (key_of units r.now) hot }
 {
-    if hot {
-        return true;
-    }
-    if is_demand(silent, float::from_bits(r[3])) {
-        return true;
-    }
-    if 0 < r[4] {
-        return true;
-    }
-    has_debt(key_record::meter_of_words(r, 19), reading)
+    hot || is_demand(silent, float::from_bits(r[3]))
+        || 0 < r[4]
+        || has_debt(key_record::meter_of_words(r, 19), reading)
 }
 
 // Sets the flag of each key that stays.
@@ -157,11 +147,9 @@ fn mark_busy(keys: &[u64], n: usize, silent: f64, reading: u64, hots: &[bool], s
     requires { LentKeys units n keys.now × (n ≤ length hots.now) × (n ≤ length stays.old) }
     ensures { take n stays.new ≡ staying_keys units silent reading n keys.now hots.now }
 {
-    let mut i = 0;
-    while i < n {
+    for i in 0..n {
         let at = i * KEY_WORDS;
         stays[i] = key_stays(&keys[at..at + KEY_WORDS], silent, reading, hots[i]);
-        i += 1;
     }
 }
 
@@ -172,13 +160,11 @@ fn copy_flagged(from: &[bool], n: usize, stays: &[bool], to: &mut [bool])
         flagged (take n stays.now) (take n from.now) }
 {
     let mut kept = 0;
-    let mut i = 0;
-    while i < n {
+    for i in 0..n {
         if stays[i] {
             to[kept] = from[i];
             kept += 1;
         }
-        i += 1;
     }
 }
 
@@ -198,7 +184,7 @@ fn drop_idle(
     ensures { IdleDropped units silent reading n keys.old hots.now flags.now result keys.new
         elsewhere.new }
 {
-    let mut stays = [false; 4096];
+    let mut stays = [false; MAX_KEYS];
     mark_busy(keys, n, silent, reading, hots, &mut stays);
     copy_flagged(flags, n, &stays, elsewhere);
     ticks::keep_flagged(keys, KEY_WORDS, n, &stays)
@@ -219,17 +205,20 @@ pub(crate) fn pass_one(
     ensures { PassesOne (parameters_of (settings_of limiter)) limiter reading cluster_size keys.old
         hot.old elsewhere.old result keys.new hot.new elsewhere.new }
 {
-    let config = limiter.config;
-    let n = limiter.keys;
     let par = parameters_of(limiter);
-    let silent = par.silent_level;
-    let denials = par.denial_time_constant;
-    ticks::fold_keys(keys, n, reading, config.demand_time_constant, denials);
-    let mut flags = [false; 4096];
-    let mut hots = [false; 4096];
+    let n = limiter.keys;
+    ticks::fold_keys(
+        keys,
+        n,
+        reading,
+        limiter.config.demand_time_constant,
+        par.denial_time_constant,
+    );
+    let mut flags = [false; MAX_KEYS];
+    let mut hots = [false; MAX_KEYS];
     let entries = update_hot(
         limiter,
-        silent,
+        par.silent_level,
         keys,
         hot,
         elsewhere,
@@ -238,7 +227,7 @@ pub(crate) fn pass_one(
         &mut flags,
         &mut hots,
     );
-    let left = drop_idle(keys, n, silent, reading, &hots, &flags, elsewhere);
+    let left = drop_idle(keys, n, par.silent_level, reading, &hots, &flags, elsewhere);
     Passed {
         keys: left,
         hot: entries,

@@ -8,13 +8,14 @@ ghost use Rattle.hot.specs.HotSet.Set.{entries};
 ghost use Rattle.hot.specs.HotSet.Steps.{EntriesReady};
 ghost use Rattle.limiter.specs.State.{key_words, key_of};
 ghost use Rattle.limiter.specs.Steps.TickSteps.{key_records, LentKeys, LentKey};
-ghost use Rattle.limiter.specs.Steps.PassTwoSteps.{GoodTerms, share_by, hot_rate, cold_rate, rate_by};
+ghost use Rattle.limiter.specs.Steps.PassTwoSteps.{GoodTerms, terms_of, share_by, hot_rate, cold_rate, rate_by};
 ghost use Rattle.limiter.specs.Steps.PassTwoSteps.{quota_row, requoted};
 ghost use Rattle.limiter.specs.Steps.KeySteps.{units};
 
-use crate::{HOT_WORDS, KEY_WORDS, checks, key_record};
-use demand::allocation::{ShareAnswer, View};
+use crate::{HOT_WORDS, KEY_WORDS, Limiter, checks, key_record};
+use demand::allocation::View;
 use gcra::{Gcra, Quota};
+use records::Found;
 
 // What the rates of a tick are worked out from: whether hot keys share evenly, there being no peers;
 // the settings' parts of a limit; and the cluster's size.
@@ -25,6 +26,21 @@ pub(crate) struct RateTerms {
     pub floor_factor: f64,
     pub cap: f64,
     pub cluster_size: usize,
+}
+
+impl RateTerms {
+    // Those of a limiter.
+    pub(crate) fn of(limiter: Limiter, even: bool, cluster_size: usize) -> RateTerms
+        ensures { result ≡ terms_of limiter even cluster_size }
+    {
+        RateTerms {
+            even,
+            alpha: limiter.config.alpha,
+            floor_factor: limiter.config.floor_factor,
+            cap: checks::cap_or_none(limiter.cap),
+            cluster_size,
+        }
+    }
 }
 
 // The share of a hot key.
@@ -42,10 +58,7 @@ fn share_of(limit: f64, own: f64, total: f64, terms: RateTerms) -> f64
         own,
         others: total,
     };
-    match demand::allocation::share(view) {
-        ShareAnswer::Is(share) => share,
-        ShareAnswer::No(_) => 0.0,
-    }
+    demand::allocation::share(view).unwrap_or(0.0)
 }
 
 // The rate of a hot key: its share, no more than the cap allows.
@@ -63,15 +76,16 @@ fn cold_rate(limit: f64, elsewhere: bool, terms: RateTerms) -> f64
 {
     let size = float::u64_to_f64(terms.cluster_size as u64);
     let cold = limit / size * terms.alpha;
-    let most = limit * terms.cap;
-    if !elsewhere {
-        return float::min(cold, most);
-    }
-    let least = limit * terms.floor_factor / size;
-    float::min(float::min(least, cold), most)
+    let rate = if elsewhere {
+        float::min(limit * terms.floor_factor / size, cold)
+    } else {
+        cold
+    };
+    float::min(rate, limit * terms.cap)
 }
 
 // The rate of the key in these words; a hot key's total is at the place of its entry.
+#[tactic(auto, using(crate::proofs::PassTwo::QuotaLaws::lent_long))]
 fn key_rate(
     r: &[u64],
     hot: &[u64],
@@ -84,13 +98,9 @@ fn key_rate(
     ensures { result ≡ rate_by terms (entries h hot.now) totals.now elsewhere (key_of units r.now) }
 {
     let limit = float::from_bits(r[1]);
-    let found = records::find(hot, HOT_WORDS, 1, h, r[0], 0);
-    match found {
-        records::Found::At(place) => {
-            hot_rate(limit, float::from_bits(r[3]), totals[place], terms)
-        }
-        records::Found::Gap(_) => cold_rate(limit, elsewhere, terms),
-        records::Found::Unfit => cold_rate(limit, elsewhere, terms),
+    match records::find(hot, HOT_WORDS, 1, h, r[0], 0) {
+        Found::At(place) => hot_rate(limit, float::from_bits(r[3]), totals[place], terms),
+        _ => cold_rate(limit, elsewhere, terms),
     }
 }
 
@@ -99,21 +109,18 @@ fn changed(meter: Gcra, quota: Quota, reading: u64) -> Gcra
     requires { (valid_quota units meter.quota ≡ true) × (valid_quota units quota ≡ true) }
     ensures { result ≡ set_quota meter quota reading }
 {
-    let set = meter.set_quota(quota, reading);
-    set.gcra
+    meter.set_quota(quota, reading).gcra
 }
 
 // Gives the key in these words the quota of a rate.
+#[tactic(auto, using(crate::proofs::PassTwo::QuotaLaws::lent_long, crate::proofs::PassTwo::QuotaLaws::lent_unpacks))]
 fn set_quota(r: &mut [u64], rate: f64, reading: u64)
     requires { LentKey units r.old }
     ensures { r.new ≡ quota_row units reading rate r.old }
 {
     let quota = checks::quota_for(rate, r[2] as u32);
     let meter = key_record::meter_of_words(r, 19);
-    let words = key_record::meter_words(changed(meter, quota, reading));
-    r[19] = words[0];
-    r[20] = words[1];
-    r[21] = words[2];
+    r[19..KEY_WORDS].copy_from_slice(&key_record::meter_words(changed(meter, quota, reading)));
 }
 
 // Gives the key in these words the quota of its rate.
@@ -155,8 +162,7 @@ pub(crate) fn set_quotas(
         (requoted units terms (entries h hot.now) totals.now reading elsewhere.now
         (key_records units n keys.old))) keys.old }
 {
-    let mut i = 0;
-    while i < n {
+    for i in 0..n {
         let at = i * KEY_WORDS;
         set_key_quota(
             &mut keys[at..at + KEY_WORDS],
@@ -167,6 +173,5 @@ pub(crate) fn set_quotas(
             terms,
             reading,
         );
-        i += 1;
     }
 }

@@ -11,30 +11,22 @@ ghost use Rattle.limiter.specs.Steps.ReaderSteps.{key_found};
 
 use crate::key_record::{Estimator, KeyState};
 use crate::{
-    ConfigAnswer, KEY_WORDS, KeyQuotaAnswer, KeyRates, Limit, LimitAnswer, Limiter, Parameters,
-    RatesAnswer, checks, parameters_of, ticks,
+    Config, KEY_WORDS, KeyRates, Limit, Limiter, Parameters, checks, parameters_of, ticks,
 };
-use demand::answers::{FlagAnswer, LenAnswer};
 use demand::demand::{Demand, Times};
-use gcra::{QuotaAnswer, RateAnswer};
-use hot::hot_set::{HotSet, SinceAnswer};
-
-// A key's state, if it has one.
-#[derive(Clone, Copy)]
-pub(crate) enum TrackedKey {
-    Untracked,
-    Is(KeyState),
-}
+use gcra::Quota;
+use hot::hot_set::HotSet;
+use questions::Refusal;
+use records::Found;
 
 // Finds the key in the table of a limiter that passed questions 1 and 2.
-pub(crate) fn find_key(limiter: Limiter, keys: &[u64], key: u64) -> TrackedKey
+pub(crate) fn find_key(limiter: Limiter, keys: &[u64], key: u64) -> Option<KeyState>
     requires { Ready limiter keys.now }
     ensures { key_found result ≡ key_with key (keys_in limiter keys.now) }
 {
     match records::find(keys, KEY_WORDS, 1, limiter.keys, key, 0) {
-        records::Found::At(place) => TrackedKey::Is(KeyState::of_words(keys, place * KEY_WORDS)),
-        records::Found::Gap(_) => TrackedKey::Untracked,
-        records::Found::Unfit => TrackedKey::Untracked,
+        Found::At(place) => Some(KeyState::of_words(keys, place * KEY_WORDS)),
+        _ => None,
     }
 }
 
@@ -46,16 +38,13 @@ pub(crate) fn unbiased_rate(estimator: Estimator, time_constant: u64) -> f64
     let demand = Demand {
         current_rate: estimator.rate,
         attempts_since_tick: estimator.attempts,
-        times: Times::At {
+        times: Some(Times {
             last_tick: estimator.last,
             since: estimator.since,
-        },
+        }),
         time_constant,
     };
-    match demand.unbiased_rate() {
-        demand::demand::RateAnswer::Is(rate) => rate,
-        demand::demand::RateAnswer::No(_) => 0.0,
-    }
+    demand.unbiased_rate().unwrap_or(0.0)
 }
 
 // A key's three rates.
@@ -64,64 +53,55 @@ pub(crate) fn rates_of(par: Parameters, state: KeyState) -> KeyRates
     ensures { result ≡ rates_of par (key_record state) }
 {
     let time_constant = par.denial_time_constant;
-    let requests = state.requests;
-    let denials = state.denials;
-    let shadow_denials = state.shadow_denials;
     KeyRates {
-        requests_per_sec: unbiased_rate(requests, time_constant),
-        denied_per_sec: unbiased_rate(denials, time_constant),
-        shadow_denied_per_sec: unbiased_rate(shadow_denials, time_constant),
+        requests_per_sec: unbiased_rate(state.requests, time_constant),
+        denied_per_sec: unbiased_rate(state.denials, time_constant),
+        shadow_denied_per_sec: unbiased_rate(state.shadow_denials, time_constant),
     }
 }
 
 impl Limiter {
     // The three rates of a tracked key.
-    pub fn key_rates(self, keys: &[u64], hot: &[u64], shadows: &[u64], key: u64) -> RatesAnswer
+    pub fn key_rates(
+        self,
+        keys: &[u64],
+        hot: &[u64],
+        shadows: &[u64],
+        key: u64,
+    ) -> Result<Option<KeyRates>, Refusal>
         ensures { Calls.TellsRates self (tables keys.now hot.now shadows.now) key result }
     {
-        let no = self.ask(keys, hot, shadows);
-        if no != 0 {
-            return RatesAnswer::No(no);
-        }
-        match find_key(self, keys, key) {
-            TrackedKey::Untracked => RatesAnswer::Untracked,
-            TrackedKey::Is(state) => RatesAnswer::Is(rates_of(parameters_of(self), state)),
-        }
+        self.ask(keys, hot, shadows)?;
+        let par = parameters_of(self);
+        Ok(find_key(self, keys, key).map(|state| rates_of(par, state)))
     }
 
     // The quota that a key is held to.
-    pub fn quota(self, keys: &[u64], hot: &[u64], shadows: &[u64], key: u64) -> KeyQuotaAnswer
+    pub fn quota(
+        self,
+        keys: &[u64],
+        hot: &[u64],
+        shadows: &[u64],
+        key: u64,
+    ) -> Result<Option<Quota>, Refusal>
         ensures { Calls.TellsQuota self (tables keys.now hot.now shadows.now) key result }
     {
-        let no = self.ask(keys, hot, shadows);
-        if no != 0 {
-            return KeyQuotaAnswer::No(no);
-        }
-        match find_key(self, keys, key) {
-            TrackedKey::Untracked => KeyQuotaAnswer::Untracked,
-            TrackedKey::Is(state) => {
-                let gcra = state.gcra;
-                let quota = gcra.quota;
-                KeyQuotaAnswer::Is(quota)
-            }
-        }
+        self.ask(keys, hot, shadows)?;
+        Ok(find_key(self, keys, key).map(|state| state.gcra.quota))
     }
 
     // The limit that a key was last given.
-    pub fn limit(self, keys: &[u64], hot: &[u64], shadows: &[u64], key: u64) -> LimitAnswer
+    pub fn limit(
+        self,
+        keys: &[u64],
+        hot: &[u64],
+        shadows: &[u64],
+        key: u64,
+    ) -> Result<Option<Limit>, Refusal>
         ensures { Calls.TellsLimit self (tables keys.now hot.now shadows.now) key result }
     {
-        let no = self.ask(keys, hot, shadows);
-        if no != 0 {
-            return LimitAnswer::No(no);
-        }
-        match find_key(self, keys, key) {
-            TrackedKey::Untracked => LimitAnswer::Untracked,
-            TrackedKey::Is(state) => {
-                let limit = state.limit;
-                LimitAnswer::Is(limit)
-            }
-        }
+        self.ask(keys, hot, shadows)?;
+        Ok(find_key(self, keys, key).map(|state| state.limit))
     }
 
     // A new key's quota under a limit.
@@ -132,14 +112,11 @@ impl Limiter {
         shadows: &[u64],
         limit: Limit,
         cluster_size: usize,
-    ) -> QuotaAnswer
+    ) -> Result<Quota, Refusal>
         ensures { Calls.TellsNewKeyQuota self (tables keys.now hot.now shadows.now) limit cluster_size result }
     {
-        let no = self.ask_limit(keys, hot, shadows, limit, cluster_size);
-        if no != 0 {
-            return QuotaAnswer::No(no);
-        }
-        QuotaAnswer::Is(checks::cold_quota(self, limit, cluster_size))
+        self.ask_limits(keys, hot, shadows, limit, None, cluster_size)?;
+        Ok(checks::cold_quota(self, limit, cluster_size))
     }
 
     // A new key's part of its limit.
@@ -149,86 +126,81 @@ impl Limiter {
         hot: &[u64],
         shadows: &[u64],
         cluster_size: usize,
-    ) -> RateAnswer
+    ) -> Result<f64, Refusal>
         ensures { Calls.TellsNewKeyFactor self (tables keys.now hot.now shadows.now) cluster_size result }
     {
-        let no = self.ask_cluster(keys, hot, shadows, cluster_size);
-        if no != 0 {
-            return RateAnswer::No(no);
-        }
-        RateAnswer::Is(checks::new_key_factor(self, cluster_size))
+        self.ask_cluster(keys, hot, shadows, cluster_size)?;
+        Ok(checks::new_key_factor(self, cluster_size))
     }
 
     // The settings that it was made with.
-    pub fn config(self, keys: &[u64], hot: &[u64], shadows: &[u64]) -> ConfigAnswer
+    pub fn config(self, keys: &[u64], hot: &[u64], shadows: &[u64]) -> Result<Config, Refusal>
         ensures { Calls.TellsConfig self (tables keys.now hot.now shadows.now) result }
     {
-        let no = self.ask(keys, hot, shadows);
-        if no != 0 {
-            return ConfigAnswer::No(no);
-        }
-        let config = self.config;
-        ConfigAnswer::Is(config)
+        self.ask(keys, hot, shadows)?;
+        Ok(self.config)
     }
 
     // When a hot key came into the hot set.
-    pub fn hot_since(self, keys: &[u64], hot: &[u64], shadows: &[u64], key: u64) -> SinceAnswer
+    pub fn hot_since(
+        self,
+        keys: &[u64],
+        hot: &[u64],
+        shadows: &[u64],
+        key: u64,
+    ) -> Result<Option<u64>, Refusal>
         ensures { Calls.TellsHotSince self (tables keys.now hot.now shadows.now) key result }
     {
-        let no = self.ask(keys, hot, shadows);
-        if no != 0 {
-            return SinceAnswer::No(no);
-        }
-        let config = self.config;
+        self.ask(keys, hot, shadows)?;
         let set = HotSet {
-            cooldown: config.cooldown,
-            max_size: config.hot_set_size,
+            cooldown: self.config.cooldown,
+            max_size: self.config.hot_set_size,
             len: self.hot,
         };
         set.hot_since(hot, key)
     }
 
     // Whether a key is hot here.
-    pub fn is_hot(self, keys: &[u64], hot: &[u64], shadows: &[u64], key: u64) -> FlagAnswer
+    pub fn is_hot(
+        self,
+        keys: &[u64],
+        hot: &[u64],
+        shadows: &[u64],
+        key: u64,
+    ) -> Result<bool, Refusal>
         ensures { Calls.TellsHot self (tables keys.now hot.now shadows.now) key result }
     {
-        let no = self.ask(keys, hot, shadows);
-        if no != 0 {
-            return FlagAnswer::No(no);
-        }
-        FlagAnswer::Is(ticks::is_hot(hot, self.hot, key))
+        self.ask(keys, hot, shadows)?;
+        Ok(ticks::is_hot(hot, self.hot, key))
     }
 
     // Whether a key has state here.
-    pub fn tracked(self, keys: &[u64], hot: &[u64], shadows: &[u64], key: u64) -> FlagAnswer
+    pub fn tracked(
+        self,
+        keys: &[u64],
+        hot: &[u64],
+        shadows: &[u64],
+        key: u64,
+    ) -> Result<bool, Refusal>
         ensures { Calls.TellsTracked self (tables keys.now hot.now shadows.now) key result }
     {
-        let no = self.ask(keys, hot, shadows);
-        if no != 0 {
-            return FlagAnswer::No(no);
-        }
-        FlagAnswer::Is(ticks::is_tracked(keys, self.keys, key))
+        self.ask(keys, hot, shadows)?;
+        Ok(ticks::is_tracked(keys, self.keys, key))
     }
 
     // How many keys have state here.
-    pub fn tracked_keys(self, keys: &[u64], hot: &[u64], shadows: &[u64]) -> LenAnswer
+    pub fn tracked_keys(self, keys: &[u64], hot: &[u64], shadows: &[u64]) -> Result<usize, Refusal>
         ensures { Calls.CountsKeys self (tables keys.now hot.now shadows.now) result }
     {
-        let no = self.ask(keys, hot, shadows);
-        if no != 0 {
-            return LenAnswer::No(no);
-        }
-        LenAnswer::Is(self.keys)
+        self.ask(keys, hot, shadows)?;
+        Ok(self.keys)
     }
 
     // How many keys are hot here.
-    pub fn hot_keys(self, keys: &[u64], hot: &[u64], shadows: &[u64]) -> LenAnswer
+    pub fn hot_keys(self, keys: &[u64], hot: &[u64], shadows: &[u64]) -> Result<usize, Refusal>
         ensures { Calls.CountsHot self (tables keys.now hot.now shadows.now) result }
     {
-        let no = self.ask(keys, hot, shadows);
-        if no != 0 {
-            return LenAnswer::No(no);
-        }
-        LenAnswer::Is(self.hot)
+        self.ask(keys, hot, shadows)?;
+        Ok(self.hot)
     }
 }

@@ -1,11 +1,13 @@
 // A tick: its walks over the tables of a limiter that is valid, and the two calls that join them.
+// The words are the caller's, and the limiter has their counts, as C callers keep them: so the two
+// go side by side, here and in the two passes.
 ghost use Rattle.std.specs.Prelude.{◌≡◌, true, cond, ◌&&◌, ◌||◌, [], ◌++◌, map, ◌+◌, ◌-◌, ◌*◌, ◌≤◌, ◌<◌, ltb, eqb, length, take, drop, get_or};
 ghost use Rattle.std.specs.Float.{binary64};
 ghost use Rattle.std.specs.Float.Ieee.{of_bits, to_bits};
 ghost use Rattle.float.specs.Magnitude.{magnitude};
 ghost use Rattle.records.specs.Words.{paste};
 ghost use Rattle.records.specs.Records.{records, table};
-ghost use Rattle.demand.specs.Estimators.Estimator.{folded_by};
+ghost use Rattle.demand.specs.Estimators.Estimator.{alpha, folded_by};
 ghost use Rattle.hot.specs.HotSet.Set.{is_hot, entries};
 ghost use Rattle.questions.specs.Lists.{only};
 ghost use Rattle.questions.specs.Questions.{first_no, passes};
@@ -19,18 +21,21 @@ ghost use Rattle.limiter.specs.Calls as Calls;
 ghost use Rattle.limiter.specs.Ticks.{folded, tick_with_shares};
 ghost use Rattle.limiter.specs.Steps.TickSteps.{flagged, below, Cut, staying, top, rate_place_of};
 ghost use Rattle.limiter.specs.Steps.TickSteps.{key_records, key_rank, stays_under, LentKeys};
-ghost use Rattle.limiter.specs.Steps.TickSteps.{alpha_of, IsAlpha, AreAlphas, folded_row, LentKey};
+ghost use Rattle.limiter.specs.Steps.TickSteps.{folded_row, LentKey};
 ghost use Rattle.limiter.specs.Steps.TickSteps.{shadow_key};
 ghost use Rattle.limiter.specs.Steps.PassTwoSteps.{terms_of, requoted, Finishing, Finished, Ticked};
 ghost use Rattle.limiter.specs.Steps.KeySteps.{units};
+ghost use Rattle.questions.specs.Refusals.{asked};
 
 use crate::pass_two::RateTerms;
 use crate::{
-    Changed, HOT_WORDS, KEY_WORDS, LastTick, Limiter, SHADOW_WORDS, checks, pass_one, pass_two,
+    Changed, HOT_WORDS, KEY_WORDS, Limiter, MAX_HOT, MAX_KEYS, SHADOW_WORDS, checks, pass_one,
+    pass_two,
 };
-use demand::demand::{Demand, RateAnswer, Times};
-use float::whole;
-use peers::peer_demand::{ChangeAnswer, PeerDemand};
+use demand::demand::{Demand, Times};
+use peers::peer_demand::PeerDemand;
+use questions::Refusal;
+use records::Found;
 
 // Keeps the records whose flag is set, in their order, at the front of their table; tells how many.
 pub(crate) fn keep_flagged(t: &mut [u64], w: usize, n: usize, stays: &[bool]) -> usize
@@ -38,14 +43,12 @@ pub(crate) fn keep_flagged(t: &mut [u64], w: usize, n: usize, stays: &[bool]) ->
     ensures { Tabled result (flagged stays.now (records w n t.old)) t.old t.new }
 {
     let mut kept = 0;
-    let mut i = 0;
-    while i < n {
+    for i in 0..n {
         if stays[i] {
             let at = i * w;
             records::copy_words(t, at, at + w, kept * w);
             kept += 1;
         }
-        i += 1;
     }
     kept
 }
@@ -55,18 +58,11 @@ fn count_below(ranks: &[u64], n: usize, limit: u64) -> usize
     requires { n ≤ length ranks.now }
     ensures { result ≡ below limit (take n ranks.now) }
 {
-    let mut count = 0;
-    let mut i = 0;
-    while i < n {
-        if ranks[i] < limit {
-            count += 1;
-        }
-        i += 1;
-    }
-    count
+    ranks[..n].iter().filter(|rank| **rank < limit).count()
 }
 
-// The greatest limit that at most `most` of the n ranks are below: bisection.
+// The greatest limit that at most `most` of the n ranks are below. The loop halves a range of words:
+// a search of the library would want a list of them.
 fn cut(ranks: &[u64], n: usize, most: usize) -> u64
     requires { n ≤ length ranks.now }
     ensures { Cut top most (take n ranks.now) result }
@@ -74,7 +70,7 @@ fn cut(ranks: &[u64], n: usize, most: usize) -> u64
     let mut low = 0;
     let mut high = u64::MAX;
     while low + 1 < high {
-        let middle = low + (high - low) / 2;
+        let middle = low.midpoint(high);
         if count_below(ranks, n, middle) <= most {
             low = middle;
         } else {
@@ -88,26 +84,18 @@ fn cut(ranks: &[u64], n: usize, most: usize) -> u64
 fn goes(rank: u64, limit: u64, room: usize) -> bool
     ensures { result ≡ (ltb rank limit || (eqb rank limit && ltb 0 room)) }
 {
-    if rank < limit {
-        return true;
-    }
-    if rank != limit {
-        return false;
-    }
-    0 < room
+    rank < limit || (rank == limit && 0 < room)
 }
 
 // The room that it leaves.
 fn room_after(rank: u64, limit: u64, room: usize) -> usize
     ensures { result ≡ cond (eqb rank limit) (room - 1) room }
 {
-    if rank != limit {
-        return room;
+    if rank == limit {
+        room.saturating_sub(1)
+    } else {
+        room
     }
-    if room == 0 {
-        return 0;
-    }
-    room - 1
 }
 
 // Sets the flag of each key that stays.
@@ -116,12 +104,9 @@ fn mark_staying(ranks: &[u64], n: usize, limit: u64, room: usize, stays: &mut [b
     ensures { take n stays.new ≡ staying limit room (take n ranks.now) }
 {
     let mut left = room;
-    let mut i = 0;
-    while i < n {
-        let rank = ranks[i];
-        stays[i] = !goes(rank, limit, left);
-        left = room_after(rank, limit, left);
-        i += 1;
+    for i in 0..n {
+        stays[i] = !goes(ranks[i], limit, left);
+        left = room_after(ranks[i], limit, left);
     }
 }
 
@@ -130,12 +115,7 @@ pub(crate) fn is_hot(hot: &[u64], h: usize, key: u64) -> bool
     requires { EntriesReady h hot.now }
     ensures { result ≡ is_hot key (entries h hot.now) }
 {
-    let found = records::find(hot, HOT_WORDS, 1, h, key, 0);
-    match found {
-        records::Found::At(_) => true,
-        records::Found::Gap(_) => false,
-        records::Found::Unfit => false,
-    }
+    matches!(records::find(hot, HOT_WORDS, 1, h, key, 0), Found::At(_))
 }
 
 // The place of an estimator's unbiased rate in totalOrder.
@@ -146,12 +126,12 @@ fn rate_place(rate: u64, last_tick: u64, since: u64, time_constant: u64) -> u64
     let demand = Demand {
         current_rate: float::from_bits(rate),
         attempts_since_tick: 0,
-        times: Times::At { last_tick, since },
+        times: Some(Times { last_tick, since }),
         time_constant,
     };
     match demand.unbiased_rate() {
-        RateAnswer::Is(unbiased) => float::total_place(float::to_bits(unbiased)),
-        RateAnswer::No(_) => u64::MAX,
+        Ok(unbiased) => float::total_place(float::to_bits(unbiased)),
+        Err(_) => u64::MAX,
     }
 }
 
@@ -174,10 +154,8 @@ fn rank_keys(keys: &[u64], n: usize, hot: &[u64], h: usize, time_constant: u64, 
         map (λ x. key_rank time_constant (entries h hot.now) (key_of units x))
         (records 22 n keys.now) }
 {
-    let mut i = 0;
-    while i < n {
+    for i in 0..n {
         ranks[i] = key_rank(keys, n, i, hot, h, time_constant);
-        i += 1;
     }
 }
 
@@ -202,11 +180,11 @@ pub(crate) fn enforce_cap(
         return n;
     }
     let excess = n - most;
-    let mut ranks = [0; 4096];
+    let mut ranks = [0; MAX_KEYS];
     rank_keys(keys, n, hot, h, time_constant, &mut ranks);
     let limit = cut(&ranks, n, excess);
     let room = excess - count_below(&ranks, n, limit);
-    let mut stays = [false; 4096];
+    let mut stays = [false; MAX_KEYS];
     mark_staying(&ranks, n, limit, room, &mut stays);
     keep_flagged(keys, KEY_WORDS, n, &stays)
 }
@@ -217,20 +195,29 @@ struct Alpha {
     elapsed: u64,
     time_constant: u64,
     value: f64,
+    ghost worked_out: { value ≡ alpha elapsed time_constant },
 }
 
-// The alpha for this time: worked out anew only where the time is another.
-fn alpha_at(known: Alpha, elapsed: u64) -> Alpha
-    requires { IsAlpha known }
-    ensures { result ≡ alpha_of elapsed known.time_constant }
-{
-    if known.elapsed == elapsed {
-        return known;
+impl Alpha {
+    // The alpha of a time and a time constant.
+    fn of(elapsed: u64, time_constant: u64) -> Alpha
+        ensures { (result.elapsed ≡ elapsed) × (result.time_constant ≡ time_constant) }
+    {
+        Alpha {
+            elapsed,
+            time_constant,
+            value: demand::demand::alpha(elapsed, time_constant),
+        }
     }
-    Alpha {
-        elapsed,
-        time_constant: known.time_constant,
-        value: demand::demand::alpha(elapsed, known.time_constant),
+
+    // The alpha of another time: worked out anew only where it is another.
+    fn after(self, elapsed: u64) -> Alpha
+        ensures { (result.elapsed ≡ elapsed) × (result.time_constant ≡ self.time_constant) }
+    {
+        if self.elapsed == elapsed {
+            return self;
+        }
+        Alpha::of(elapsed, self.time_constant)
     }
 }
 
@@ -244,19 +231,18 @@ fn folded_by(alpha: f64, rate: u64, attempts: u64, elapsed: u64) -> u64
 
 // Folds the estimator at `at`.
 fn fold_estimate(t: &mut [u64], at: usize, reading: u64, known: Alpha) -> Alpha
-    requires { (at + 4 ≤ length t.old) × IsAlpha known ×
-        (magnitude (of_bits binary64 (get_or t.old at 0)) ≡ true) }
-    ensures time_constant_value { (result.time_constant ≡ known.time_constant) × IsAlpha result }
+    requires { (at + 4 ≤ length t.old) × (magnitude (of_bits binary64 (get_or t.old at 0)) ≡ true) }
+    ensures time_constant_kept { result.time_constant ≡ known.time_constant }
     ensures t_after { t.new ≡
         paste at
         (estimate_words (folded known.time_constant reading (estimate_of (drop at t.old))))
         t.old }
 {
-    let elapsed = whole::saturating_sub(reading, t[at + 2]);
+    let elapsed = reading.saturating_sub(t[at + 2]);
     if elapsed == 0 {
         return known;
     }
-    let next = alpha_at(known, elapsed);
+    let next = known.after(elapsed);
     t[at] = folded_by(next.value, t[at], t[at + 1], elapsed);
     t[at + 1] = 0;
     t[at + 2] = reading;
@@ -270,33 +256,16 @@ struct Alphas {
     denials: Alpha,
 }
 
-// The alpha for no time at all.
-fn first_alpha(time_constant: u64) -> Alpha
-    ensures { result ≡ alpha_of 0 time_constant }
-{
-    Alpha {
-        elapsed: 0,
-        time_constant,
-        value: demand::demand::alpha(0, time_constant),
-    }
-}
-
 // Folds the four estimators in the words of one key.
-fn fold_key(
-    r: &mut [u64],
-    reading: u64,
-    known: Alphas,
-    time_constant: u64,
-    denial_time_constant: u64,
-) -> Alphas
-    requires { LentKey units r.old × AreAlphas time_constant denial_time_constant known }
-    ensures are_alphas { AreAlphas time_constant denial_time_constant result }
-    ensures r_after { r.new ≡ folded_row units time_constant denial_time_constant reading r.old }
+fn fold_key(r: &mut [u64], reading: u64, known: Alphas) -> Alphas
+    requires { LentKey units r.old }
+    ensures demand_kept { result.demand.time_constant ≡ known.demand.time_constant }
+    ensures denials_kept { result.denials.time_constant ≡ known.denials.time_constant }
+    ensures r_after { r.new ≡
+        folded_row units known.demand.time_constant known.denials.time_constant reading r.old }
 {
-    let known_demand = known.demand;
-    let known_denials = known.denials;
-    let demand = fold_estimate(r, 3, reading, known_demand);
-    let requests = fold_estimate(r, 7, reading, known_denials);
+    let demand = fold_estimate(r, 3, reading, known.demand);
+    let requests = fold_estimate(r, 7, reading, known.denials);
     let denials = fold_estimate(r, 11, reading, requests);
     let shadow_denials = fold_estimate(r, 15, reading, denials);
     Alphas {
@@ -320,20 +289,12 @@ pub(crate) fn fold_keys(
         keys.old }
 {
     let mut known = Alphas {
-        demand: first_alpha(time_constant),
-        denials: first_alpha(denial_time_constant),
+        demand: Alpha::of(0, time_constant),
+        denials: Alpha::of(0, denial_time_constant),
     };
-    let mut i = 0;
-    while i < n {
+    for i in 0..n {
         let at = i * KEY_WORDS;
-        known = fold_key(
-            &mut keys[at..at + KEY_WORDS],
-            reading,
-            known,
-            time_constant,
-            denial_time_constant,
-        );
-        i += 1;
+        known = fold_key(&mut keys[at..at + KEY_WORDS], reading, known);
     }
 }
 
@@ -342,12 +303,7 @@ pub(crate) fn is_tracked(keys: &[u64], n: usize, key: u64) -> bool
     requires { LentKeys units n keys.now }
     ensures { result ≡ is_tracked (key_records units n keys.now) key }
 {
-    let found = records::find(keys, KEY_WORDS, 1, n, key, 0);
-    match found {
-        records::Found::At(_) => true,
-        records::Found::Gap(_) => false,
-        records::Found::Unfit => false,
-    }
+    matches!(records::find(keys, KEY_WORDS, 1, n, key, 0), Found::At(_))
 }
 
 // Sets the flag of each shadow whose key has state.
@@ -356,10 +312,8 @@ fn mark_tracked(shadows: &[u64], m: usize, keys: &[u64], n: usize, stays: &mut [
     ensures { take m stays.new ≡
         map (λ x. is_tracked (key_records units n keys.now) (shadow_key units x)) (records 4 m shadows.now) }
 {
-    let mut i = 0;
-    while i < m {
+    for i in 0..m {
         stays[i] = is_tracked(keys, n, shadows[i * SHADOW_WORDS]);
-        i += 1;
     }
 }
 
@@ -370,7 +324,7 @@ pub(crate) fn keep_tracked(shadows: &mut [u64], m: usize, keys: &[u64], n: usize
         (only (λ x. is_tracked (key_records units n keys.now) (shadow_key units x)) (records 4 m shadows.old))
         shadows.old shadows.new }
 {
-    let mut stays = [false; 4096];
+    let mut stays = [false; MAX_KEYS];
     mark_tracked(shadows, m, keys, n, &mut stays);
     keep_flagged(shadows, SHADOW_WORDS, m, &stays)
 }
@@ -395,32 +349,23 @@ fn finish_tick(
         (requoted (units_in limiter) (terms_of limiter even cluster_size) (entries h hot.now) totals.now reading
         elsewhere.now (key_records (units_in limiter) n keys.old)) reading result keys.new shadows.new }
 {
-    let config = limiter.config;
-    let cap = limiter.cap;
-    let terms = RateTerms {
-        even,
-        alpha: config.alpha,
-        floor_factor: config.floor_factor,
-        cap: checks::cap_or_none(cap),
-        cluster_size,
-    };
+    let terms = RateTerms::of(limiter, even, cluster_size);
     pass_two::set_quotas(keys, n, hot, h, elsewhere, totals, terms, reading);
     let left = enforce_cap(
         keys,
         n,
         hot,
         h,
-        config.max_tracked_keys,
-        config.demand_time_constant,
+        limiter.config.max_tracked_keys,
+        limiter.config.demand_time_constant,
     );
     let tracked = keep_tracked(shadows, limiter.shadows, keys, left);
     Limiter {
-        config,
-        cap,
-        last_tick: LastTick::At(reading),
+        last_tick: Some(reading),
         keys: left,
         hot: h,
         shadows: tracked,
+        ..limiter
     }
 }
 
@@ -437,16 +382,15 @@ impl Limiter {
     ) -> Changed
         ensures { Calls.Ticks self (State.tables keys.old hot.old shadows.old) reading cluster_size result (State.tables keys.new hot.new shadows.new) }
     {
-        let no = self.ask_cluster(keys, hot, shadows, cluster_size);
-        if no != 0 {
+        if let Err(no) = self.ask_cluster(keys, hot, shadows, cluster_size) {
             return Changed {
-                answer: ChangeAnswer::No(no),
+                answer: Err(no),
                 limiter: self,
             };
         }
-        let mut elsewhere = [false; 4096];
+        let mut elsewhere = [false; MAX_KEYS];
         let passed = pass_one::pass_one(self, keys, hot, &mut elsewhere, reading, cluster_size);
-        let totals = [0.0; 64];
+        let totals = [0.0; MAX_HOT];
         let limiter = finish_tick(
             self,
             keys,
@@ -461,13 +405,13 @@ impl Limiter {
             cluster_size,
         );
         Changed {
-            answer: ChangeAnswer::Done,
+            answer: Ok(()),
             limiter,
         }
     }
 
     // The first of questions 1 and 2, each of the limiter and the peers, and 7 that is answered 'no',
-    // 0 where none is.
+    // if one is.
     fn ask_both(
         self,
         keys: &[u64],
@@ -478,24 +422,13 @@ impl Limiter {
         snapshot_keys: &[u64],
         contested: &[u64],
         cluster_size: usize,
-    ) -> u8
-        ensures { result ≡ first_no (Calls.both_questions self (State.tables keys.now hot.now shadows.now) peers
+    ) -> Result<(), Refusal>
+        ensures { asked result ≡ first_no (Calls.both_questions self (State.tables keys.now hot.now shadows.now) peers
             (PeerState.tables peer_table.now snapshot_keys.now contested.now) ++ Checks.cluster_questions cluster_size) }
     {
         let here = self.ask(keys, hot, shadows);
         let there = peers.ask(peer_table, snapshot_keys, contested);
-        if here == 1 {
-            return 1;
-        }
-        if there == 1 {
-            return 1;
-        }
-        if here != 0 {
-            return here;
-        }
-        if there != 0 {
-            return there;
-        }
+        Refusal::first(here, there)?;
         checks::ask_cluster(cluster_size)
     }
 
@@ -518,8 +451,8 @@ impl Limiter {
             (PeerState.state_of peers (PeerState.tables peer_table.now snapshot_keys.now contested.now)) reading cluster_size
             (Calls.here self (State.tables keys.old hot.old shadows.old))) (State.tables keys.old hot.old shadows.old) result (State.tables keys.new hot.new shadows.new) }
     {
-        let mut elsewhere = [false; 4096];
-        peers.hot_elsewhere_of_each(
+        let mut elsewhere = [false; MAX_KEYS];
+        let _ = peers.hot_elsewhere_of_each(
             peer_table,
             snapshot_keys,
             contested,
@@ -529,8 +462,8 @@ impl Limiter {
             &mut elsewhere,
         );
         let passed = pass_one::pass_one(self, keys, hot, &mut elsewhere, reading, cluster_size);
-        let mut totals = [0.0; 64];
-        peers.total_of_each(
+        let mut totals = [0.0; MAX_HOT];
+        let _ = peers.total_of_each(
             peer_table,
             snapshot_keys,
             contested,
@@ -571,7 +504,7 @@ impl Limiter {
             (PeerState.tables peer_table.now snapshot_keys.now contested.now) reading cluster_size result
             (State.tables keys.new hot.new shadows.new) }
     {
-        let no = self.ask_both(
+        if let Err(no) = self.ask_both(
             keys,
             hot,
             shadows,
@@ -580,10 +513,9 @@ impl Limiter {
             snapshot_keys,
             contested,
             cluster_size,
-        );
-        if no != 0 {
+        ) {
             return Changed {
-                answer: ChangeAnswer::No(no),
+                answer: Err(no),
                 limiter: self,
             };
         }
@@ -599,7 +531,7 @@ impl Limiter {
             cluster_size,
         );
         Changed {
-            answer: ChangeAnswer::Done,
+            answer: Ok(()),
             limiter,
         }
     }

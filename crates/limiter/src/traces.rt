@@ -1,7 +1,6 @@
 // The shadow of a key: a limit that is only tried out. Its meter stands in a table of its own, of
 // which the first n records of four words are in use: key, packed quota and TAT.
 ghost use Rattle.std.specs.Prelude.{◌≡◌, true, ◌++◌, ◌*◌, ◌≤◌, length};
-ghost use Rattle.std.proofs.Math.Option.{none, some};
 ghost use Rattle.gcra.specs.Packed.{valid_burst, valid_quota};
 ghost use Rattle.gcra.specs.Rate.{set_quota};
 ghost use Rattle.questions.specs.Questions.{first_no};
@@ -10,22 +9,20 @@ ghost use Rattle.limiter.specs.Checks as Checks;
 ghost use Rattle.limiter.specs.Calls as Calls;
 ghost use Rattle.limiter.specs.Steps.KeySteps.{units};
 ghost use Rattle.limiter.specs.Steps.TraceSteps.{ShadowsReady, ShadowPlaced, EntersShadow, with_shadow};
-ghost use Rattle.limiter.specs.Steps.TraceSteps.{without_shadow, HoldsShadows, Tries, counting_shadows};
+ghost use Rattle.limiter.specs.Steps.TraceSteps.{without_shadow, HoldsShadows, Tries};
 ghost use Rattle.limiter.specs.Steps.TraceSteps.{Roomy, Traces};
 ghost use Rattle.limiter.specs.Steps.CheckSteps.{Ready};
+ghost use Rattle.questions.specs.Refusals.{asked};
 
-use crate::{
-    Limit, Limiter, SHADOW_WORDS, Shadow, ShadowDecision, Traced, TracedAnswer, TracedCheck,
-    checks, key_record,
-};
-use gcra::{CheckAnswer, Decision, Gcra, MAX_INTERVAL, Quota, RateAnswer, Tat};
+use crate::{Answered, Limit, Limiter, SHADOW_WORDS, Traced, TracedCheck, checks, key_record};
+use gcra::{Decision, Gcra, MAX_INTERVAL, Quota};
+use questions::Refusal;
+use records::Found;
 
-// The shadow of a call: whether the key has one, its place among the records or where it would go,
-// and its meter.
+// The shadow of a call: its place among the records, or where it would go, and its meter.
 #[derive(Clone, Copy)]
 pub(crate) struct ShadowEntry {
-    pub tracked: bool,
-    pub place: usize,
+    pub place: Result<usize, usize>,
     pub gcra: Gcra,
 }
 
@@ -41,13 +38,8 @@ pub(crate) fn shadow_quota(quota: Quota, limit: Limit, shadow: Limit) -> Quota
     requires { valid_quota units quota ≡ true }
     ensures { result ≡ Checks.shadow_quota units quota limit shadow }
 {
-    match quota.rate_per_sec() {
-        RateAnswer::Is(rate) => checks::quota_for(rate * shadow.rate / limit.rate, shadow.burst),
-        RateAnswer::No(_) => Quota {
-            interval: MAX_INTERVAL,
-            burst: shadow.burst,
-        },
-    }
+    let rate = quota.rate_per_sec().unwrap_or(0.0);
+    checks::quota_for(rate * shadow.rate / limit.rate, shadow.burst)
 }
 
 // A meter under another quota.
@@ -55,8 +47,7 @@ fn under_quota(gcra: Gcra, wanted: Quota, reading: u64) -> Gcra
     requires { (valid_quota units gcra.quota ≡ true) × (valid_quota units wanted ≡ true) }
     ensures { result ≡ set_quota gcra wanted reading }
 {
-    let set = gcra.set_quota(wanted, reading);
-    set.gcra
+    gcra.set_quota(wanted, reading).gcra
 }
 
 // The shadow found, under the quota wanted, or a fresh one.
@@ -72,28 +63,25 @@ pub(crate) fn shadow_entry(
     ensures { EntersShadow units n shadows.now key wanted reading result }
 {
     match records::find(shadows, SHADOW_WORDS, 1, n, key, 0) {
-        records::Found::At(place) => {
+        Found::At(place) => {
             let known = key_record::meter_of_words(shadows, place * SHADOW_WORDS + 1);
             ShadowEntry {
-                tracked: true,
-                place,
+                place: Ok(place),
                 gcra: under_quota(known, wanted, reading),
             }
         }
-        records::Found::Gap(place) => ShadowEntry {
-            tracked: false,
-            place,
+        Found::Gap(place) => ShadowEntry {
+            place: Err(place),
             gcra: Gcra {
                 quota: wanted,
-                tat: Tat::Unset,
+                tat: None,
             },
         },
-        records::Found::Unfit => ShadowEntry {
-            tracked: false,
-            place: 0,
+        Found::Unfit => ShadowEntry {
+            place: Err(0),
             gcra: Gcra {
                 quota: wanted,
-                tat: Tat::At(u64::MAX),
+                tat: Some(u64::MAX),
             },
         },
     }
@@ -102,22 +90,24 @@ pub(crate) fn shadow_entry(
 // Writes a shadow's record at its place; how many there are then.
 pub(crate) fn put_shadow(shadows: &mut [u64], n: usize, key: u64, entry: ShadowEntry) -> usize
     requires shadows_ready { ShadowsReady units n shadows.old }
-    requires shadow_placed { ShadowPlaced n shadows.old key entry.tracked entry.place }
+    requires shadow_placed { ShadowPlaced n shadows.old key entry.place }
     requires quota_value { valid_quota units entry.gcra.quota ≡ true }
     requires gcra_in_bounds { length (with_shadow units n shadows.old key entry.gcra) * 4 ≤ length shadows.old }
     ensures { HoldsShadows units (with_shadow units n shadows.old key entry.gcra) shadows.old result
         shadows.new }
 {
-    let gcra = entry.gcra;
-    let place = entry.place;
-    let meter = key_record::meter_words(gcra);
+    let meter = key_record::meter_words(entry.gcra);
     let words = [key, meter[0], meter[1], meter[2]];
-    if entry.tracked {
-        records::overwrite(shadows, SHADOW_WORDS, n, place, &words);
-        return n;
+    match entry.place {
+        Ok(place) => {
+            records::overwrite(shadows, SHADOW_WORDS, n, place, &words);
+            n
+        }
+        Err(place) => {
+            records::insert(shadows, SHADOW_WORDS, n, place, &words);
+            n + 1
+        }
     }
-    records::insert(shadows, SHADOW_WORDS, n, place, &words);
-    n + 1
 }
 
 // Takes a key's shadow out, if it has one; how many there are then.
@@ -126,12 +116,11 @@ pub(crate) fn drop_shadow(shadows: &mut [u64], n: usize, key: u64) -> usize
     ensures { HoldsShadows units (without_shadow units n shadows.old key) shadows.old result shadows.new }
 {
     match records::find(shadows, SHADOW_WORDS, 1, n, key, 0) {
-        records::Found::At(place) => {
+        Found::At(place) => {
             records::remove(shadows, SHADOW_WORDS, n, place);
             n - 1
         }
-        records::Found::Gap(_) => n,
-        records::Found::Unfit => n,
+        _ => n,
     }
 }
 
@@ -143,32 +132,12 @@ fn try_shadow(shadows: &[u64], n: usize, key: u64, wanted: Quota, reading: u64) 
 {
     let found = shadow_entry(shadows, n, key, wanted, reading);
     let asked = checks::ask_meter(found.gcra, reading);
-    let decision = asked.decision;
-    let gcra = asked.gcra;
     Tried {
-        decision,
+        decision: asked.decision,
         after: ShadowEntry {
-            tracked: found.tracked,
-            place: found.place,
-            gcra,
+            gcra: asked.gcra,
+            ..found
         },
-    }
-}
-
-// The limiter with so many shadows.
-fn with_shadows(limiter: Limiter, shadows: usize) -> Limiter
-    ensures { result ≡ counting_shadows limiter shadows }
-{
-    let config = limiter.config;
-    let cap = limiter.cap;
-    let last_tick = limiter.last_tick;
-    Limiter {
-        config,
-        cap,
-        last_tick,
-        keys: limiter.keys,
-        hot: limiter.hot,
-        shadows,
     }
 }
 
@@ -185,26 +154,24 @@ pub(crate) fn trace_none(
     requires ready { Ready limiter keys.old }
     requires shadows_ready { ShadowsReady (State.units_in limiter) limiter.shadows shadows.old }
     requires burst_value { valid_burst limit.burst ≡ true }
-    ensures { Traces limiter keys.old shadows.old key limit none reading cluster_size result
+    ensures { Traces limiter keys.old shadows.old key limit None reading cluster_size result
         keys.new shadows.new }
 {
     let n = limiter.shadows;
     let checked = checks::check_key(limiter, keys, key, limit, reading, cluster_size);
-    let answer = checked.answer;
-    let left = checked.limiter;
-    match answer {
-        CheckAnswer::No(no) => TracedCheck {
-            answer: TracedAnswer::No(no),
-            limiter: left,
-        },
-        CheckAnswer::Is(decision) => {
+    match checked.answer {
+        Err(no) => Answered::refused(no, checked.limiter),
+        Ok(decision) => {
             let count = drop_shadow(shadows, n, key);
             TracedCheck {
-                answer: TracedAnswer::Is(Traced {
+                answer: Ok(Traced {
                     decision,
-                    shadow: ShadowDecision::Unset,
+                    shadow: None,
                 }),
-                limiter: with_shadows(left, count),
+                limiter: Limiter {
+                    shadows: count,
+                    ..checked.limiter
+                },
             }
         }
     }
@@ -225,64 +192,36 @@ pub(crate) fn trace_with(
     requires shadows_ready { ShadowsReady (State.units_in limiter) limiter.shadows shadows.old }
     requires burst_value { (valid_burst limit.burst ≡ true) × (valid_burst shadow.burst ≡ true) }
     requires roomy { Roomy limiter keys.old shadows.old key limit shadow reading cluster_size }
-    ensures { Traces limiter keys.old shadows.old key limit (some shadow) reading cluster_size result
+    ensures { Traces limiter keys.old shadows.old key limit (Some shadow) reading cluster_size result
         keys.new shadows.new }
 {
     let found = checks::entry(limiter, keys, key, limit, reading, cluster_size);
-    let state = found.state;
-    let gcra = state.gcra;
-    let asked = checks::ask_meter(gcra, reading);
-    let decision = asked.decision;
-    let denials = checks::denied(decision);
+    let asked = checks::ask_meter(found.state.gcra, reading);
+    let denials = checks::denied(asked.decision);
     let n = limiter.shadows;
-    let wanted = shadow_quota(gcra.quota, limit, shadow);
+    let wanted = shadow_quota(found.state.gcra.quota, limit, shadow);
     let tried = try_shadow(shadows, n, key, wanted, reading);
-    let would = tried.decision;
-    let tried_denials = checks::denied(would);
+    let tried_denials = checks::denied(tried.decision);
     let raised = checks::raise(limiter, keys, found, 1, denials, tried_denials, asked.gcra);
-    let left = raised.limiter;
-    if raised.no != 0 {
-        return TracedCheck {
-            answer: TracedAnswer::No(raised.no),
-            limiter: left,
-        };
+    if let Err(no) = raised.answer {
+        return Answered::refused(no, raised.limiter);
     }
     let count = put_shadow(shadows, n, key, tried.after);
     TracedCheck {
-        answer: TracedAnswer::Is(Traced {
-            decision,
-            shadow: ShadowDecision::Is(would),
+        answer: Ok(Traced {
+            decision: asked.decision,
+            shadow: Some(tried.decision),
         }),
-        limiter: with_shadows(left, count),
+        limiter: Limiter {
+            shadows: count,
+            ..raised.limiter
+        },
     }
 }
 
 // ---- the public call
 
 impl Limiter {
-    // The first of questions 1 and 2, 3 and 4 of both limits, and 7, that is answered 'no', or 0.
-    fn ask_traced(
-        self,
-        keys: &[u64],
-        hot: &[u64],
-        shadows: &[u64],
-        limit: Limit,
-        shadow: Shadow,
-        cluster_size: usize,
-    ) -> u8
-        ensures { result ≡ first_no (Calls.state_questions self (State.tables keys.now hot.now shadows.now)
-            ++ (Checks.both_limit_questions limit (Calls.shadow_limit shadow) ++ Checks.cluster_questions cluster_size)) }
-    {
-        let no = self.ask(keys, hot, shadows);
-        if no != 0 {
-            return no;
-        }
-        match shadow {
-            Shadow::Unset => checks::ask_limit(limit, cluster_size),
-            Shadow::Of(tried) => checks::ask_limits(limit, tried, cluster_size),
-        }
-    }
-
     // A check under the limit given, and the shadow's decision beside it.
     pub fn check_in_traced(
         self,
@@ -291,23 +230,19 @@ impl Limiter {
         shadows: &mut [u64],
         key: u64,
         limit: Limit,
-        shadow: Shadow,
+        shadow: Option<Limit>,
         reading: u64,
         cluster_size: usize,
     ) -> TracedCheck
-        ensures { Calls.ChecksTraced self (State.tables keys.old hot.now shadows.old) key limit (Calls.shadow_limit shadow) reading
+        ensures { Calls.ChecksTraced self (State.tables keys.old hot.now shadows.old) key limit shadow reading
             cluster_size result (State.tables keys.new hot.now shadows.new) }
     {
-        let no = self.ask_traced(keys, hot, shadows, limit, shadow, cluster_size);
-        if no != 0 {
-            return TracedCheck {
-                answer: TracedAnswer::No(no),
-                limiter: self,
-            };
+        if let Err(no) = self.ask_limits(keys, hot, shadows, limit, shadow, cluster_size) {
+            return Answered::refused(no, self);
         }
         match shadow {
-            Shadow::Unset => trace_none(self, keys, shadows, key, limit, reading, cluster_size),
-            Shadow::Of(tried) => {
+            None => trace_none(self, keys, shadows, key, limit, reading, cluster_size),
+            Some(tried) => {
                 trace_with(
                     self,
                     keys,

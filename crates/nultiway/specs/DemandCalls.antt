@@ -1,34 +1,34 @@
 -- The promise of each function of the library on an estimator, a share or the rounds of reports alone. Definitions only.
-use Rattle.std.specs.Prelude.{ℕ, zero, suc, ◌≡◌, Bool, true, ◌&&◌, List, [], ◌∷◌, ◌++◌, leb, length, get_or}
+use Rattle.std.specs.Prelude.{Float, ℕ, zero, suc, ◌≡◌, Bool, true, ◌&&◌, List, [], ◌∷◌, ◌++◌, leb, length, get_or}
 use Rattle.questions.specs.Questions.{Question, ◌asks◌, given, answer}
-use Rattle.demand.specs.declared.answers.FlagAnswer.{FlagAnswer}
-use Rattle.demand.specs.declared.demand.Times.{Times}
-use Rattle.demand.specs.declared.demand.Times.TheVariants.{Unset, At}
 use Rattle.demand.specs.declared.demand.Demand.{Demand}
-use Rattle.demand.specs.declared.demand.DemandAnswer.{DemandAnswer}
-use Rattle.demand.specs.declared.demand.RateAnswer.{RateAnswer}
 use Rattle.demand.specs.declared.allocation.View.{View}
-use Rattle.demand.specs.Answers.{flag_answer}
-use Rattle.demand.specs.Allocation.{share, share_answer}
+use Rattle.demand.specs.Allocation.{share}
 use Rattle.demand.specs.Estimators.Estimator as estimator
 use Rattle.demand.specs.Estimators.Calls as demand
-use Rattle.peers.specs.Peers.Calls.{rounds_answer, cluster_questions}
+use Rattle.peers.specs.Peers.Calls.{cluster_questions}
 use Rattle.peers.specs.Peers.Changes.{stale_after_rounds}
 use Rattle.records.specs.Fields.{is_time}
 use Rattle.limiter.specs.State.{float_word, float_of}
 use Rattle.nultiway.specs.Calls.{Called, Tells, one_word, float_words, flag_words}
 use Rattle.nultiway.specs.LoneCalls.{TellsAlone}
+use Rattle.std.specs.declared.option.Option.{Option}
+use Rattle.std.specs.declared.option.Option.TheVariants.{None, Some}
+use Rattle.std.specs.declared.result.Result.{Result}
+use Rattle.questions.specs.declared.Refusal.{Refusal}
+use Rattle.questions.specs.Refusals.{answer_of}
+use Rattle.demand.specs.declared.demand.Times.{Times}
 
 -- ---- an estimator in lent words
 
 -- whether it has its times, the last tick and the start; all 0 where it has none
-abbrev pub times_words : Times → List ℕ
-times_words Unset = 0 ∷ 0 ∷ 0 ∷ []
-times_words (At last since) = 1 ∷ last ∷ since ∷ []
+abbrev pub times_words : Option Times → List ℕ
+times_words None = 0 ∷ 0 ∷ 0 ∷ []
+times_words (Some t) = 1 ∷ t.last_tick ∷ t.since ∷ []
 
-abbrev pub times_of : (flag last since : ℕ) → Times
-times_of zero last since = Unset
-times_of (suc flag) last since = At last since
+abbrev pub times_of : (flag last since : ℕ) → Option Times
+times_of zero last since = None
+times_of (suc flag) last since = Some (record { last_tick = last; since = since })
 
 -- rate, attempts since the last tick, the times, time constant
 abbrev pub demand_words : Demand → List ℕ
@@ -69,7 +69,7 @@ DemandStartingAt ws c now = TellsAlone {R = Demand} given (given (estimator.star
 abbrev pub DemandRecordAttempts : (ws : List ℕ) (n : ℕ) (r : ℕ) (ws' : List ℕ) → Type 0
 DemandRecordAttempts ws n r ws' =
     Called (demand_asked ws true) r (ws' ≡ ws)
-    (Tells (λ (d : Demand) (x : DemandAnswer). demand.demand_answer x ≡ demand.record_attempts d n) (demand_of ws) demand.demand_answer demand_words
+    (Tells (λ (d : Demand) (x : Result Demand Refusal). answer_of x ≡ demand.record_attempts d n) (demand_of ws) answer_of demand_words
     ws r ws')
 
 -- `nultiway_demand_record_attempt`: one attempt
@@ -80,7 +80,7 @@ DemandRecordAttempt ws r ws' = DemandRecordAttempts ws 1 r ws'
 abbrev pub DemandTick : (ws : List ℕ) (now : ℕ) (r : ℕ) (ws' : List ℕ) → Type 0
 DemandTick ws now r ws' =
     Called (demand_asked ws true) r (ws' ≡ ws)
-    (Tells (λ (d : Demand) (x : DemandAnswer). demand.demand_answer x ≡ demand.tick d now) (demand_of ws) demand.demand_answer demand_words ws r ws')
+    (Tells (λ (d : Demand) (x : Result Demand Refusal). answer_of x ≡ demand.tick d now) (demand_of ws) answer_of demand_words ws r ws')
 
 -- ---- an estimator read
 
@@ -88,26 +88,26 @@ DemandTick ws now r ws' =
 abbrev pub DemandHasPending : (ws answer : List ℕ) (r : ℕ) (answer' : List ℕ) → Type 0
 DemandHasPending ws answer r answer' =
     Called (demand_asked ws (leb 1 (length answer))) r (answer' ≡ answer)
-    (Tells (λ (d : Demand) (x : FlagAnswer). flag_answer x ≡ demand.has_pending d) (demand_of ws) flag_answer flag_words answer r answer')
+    (Tells (λ (d : Demand) (x : Result Bool Refusal). answer_of x ≡ demand.has_pending d) (demand_of ws) answer_of flag_words answer r answer')
 
 -- `nultiway_demand_rate`
 abbrev pub DemandRate : (ws answer : List ℕ) (r : ℕ) (answer' : List ℕ) → Type 0
 DemandRate ws answer r answer' =
     Called (demand_asked ws (leb 1 (length answer))) r (answer' ≡ answer)
-    (Tells (λ (d : Demand) (x : RateAnswer). demand.rate_answer x ≡ demand.rate d) (demand_of ws) demand.rate_answer float_words answer r answer')
+    (Tells (λ (d : Demand) (x : Result Float Refusal). answer_of x ≡ demand.rate d) (demand_of ws) answer_of float_words answer r answer')
 
 -- `nultiway_demand_unbiased_rate`
 abbrev pub DemandUnbiasedRate : (ws answer : List ℕ) (r : ℕ) (answer' : List ℕ) → Type 0
 DemandUnbiasedRate ws answer r answer' =
     Called (demand_asked ws (leb 1 (length answer))) r (answer' ≡ answer)
-    (Tells (λ (d : Demand) (x : RateAnswer). demand.rate_answer x ≡ demand.unbiased_rate d) (demand_of ws) demand.rate_answer float_words answer r answer')
+    (Tells (λ (d : Demand) (x : Result Float Refusal). answer_of x ≡ demand.unbiased_rate d) (demand_of ws) answer_of float_words answer r answer')
 
 -- ---- a share, and the rounds of reports
 
 -- `nultiway_share`
 abbrev pub Share : (v : View) (answer : List ℕ) (r : ℕ) (answer' : List ℕ) → Type 0
-Share v = TellsAlone share_answer (share v) float_words 1
+Share v = TellsAlone answer_of (share v) float_words 1
 
 -- `nultiway_stale_after_rounds`
 abbrev pub StaleAfterRounds : (n : ℕ) (answer : List ℕ) (r : ℕ) (answer' : List ℕ) → Type 0
-StaleAfterRounds n = TellsAlone rounds_answer (answer (cluster_questions n) (stale_after_rounds n)) one_word 1
+StaleAfterRounds n = TellsAlone answer_of (answer (cluster_questions n) (stale_after_rounds n)) one_word 1

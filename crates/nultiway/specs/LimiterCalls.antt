@@ -1,42 +1,30 @@
 -- The promise of each function of the library on a limiter: that of the crate's function on the limiter that the lent words stand for.
 -- Definitions only.
 use Rattle.std.specs.Prelude.{ℕ, zero, suc, ◌≡◌, Bool, true, List, [], ◌∷◌, ◌++◌, leb, Float, length}
-use Rattle.std.proofs.Math.Option.{Option, none, some}
 use Rattle.gcra.specs.declared.Decision.{Decision}
 use Rattle.gcra.specs.declared.Quota.{Quota}
-use Rattle.gcra.specs.declared.QuotaAnswer.{QuotaAnswer}
-use Rattle.gcra.specs.declared.RateAnswer.{RateAnswer}
 use Rattle.questions.specs.Questions.{Answer, first_no}
-use Rattle.gcra.specs.Calls.{check_answer, quota_answer, rate_answer}
-use Rattle.hot.specs.declared.hot_set.SinceAnswer.{SinceAnswer}
 use Rattle.peers.specs.declared.peer_demand.PeerDemand.{PeerDemand}
-use Rattle.demand.specs.declared.answers.FlagAnswer.{FlagAnswer}
-use Rattle.demand.specs.declared.answers.LenAnswer.{LenAnswer}
 use Rattle.records.specs.Fields.{time_words}
 use Rattle.records.specs.Records.{fits}
-use Rattle.hot.specs.HotSet.Calls.{since_answer}
 use Rattle.peers.specs.Peers.State as peer-state
 use Rattle.peers.specs.Peers.State.{PeerTables}
-use Rattle.peers.specs.Peers.Calls.{change_answer}
-use Rattle.demand.specs.Answers.{flag_answer, len_answer}
 use Rattle.limiter.specs.declared.Limit.{Limit}
 use Rattle.limiter.specs.declared.Config.{Config}
 use Rattle.limiter.specs.declared.Limiter.{Limiter}
 use Rattle.limiter.specs.declared.Tally.{Tally}
 use Rattle.limiter.specs.declared.KeyRates.{KeyRates}
-use Rattle.limiter.specs.declared.LimiterAnswer.{LimiterAnswer}
-use Rattle.limiter.specs.declared.RatesAnswer.{RatesAnswer}
-use Rattle.limiter.specs.declared.KeyQuotaAnswer.{KeyQuotaAnswer}
-use Rattle.limiter.specs.declared.LimitAnswer.{LimitAnswer}
-use Rattle.limiter.specs.declared.ConfigAnswer.{ConfigAnswer}
-use Rattle.limiter.specs.declared.Checked.{Checked}
-use Rattle.limiter.specs.declared.TracedCheck.{TracedCheck}
-use Rattle.limiter.specs.declared.Changed.{Changed}
+use Rattle.limiter.specs.Answered.{Checked, TracedCheck, Changed}
 use Rattle.limiter.specs.State.{LimiterTables, lengths, float_word}
 use Rattle.limiter.specs.Calls as limiter
-use Rattle.limiter.specs.Calls.{Decisions}
 use Rattle.nultiway.specs.Values.{limiter_width, limiter_words, limiter_of, limiter_asked, peers_of, peers_room, room_asked}
 use Rattle.nultiway.specs.Calls.{Called, Changes, Answers, Tells, one_word, decision_words, quota_words, float_words, flag_words}
+use Rattle.std.specs.declared.option.Option.{Option}
+use Rattle.std.specs.declared.option.Option.TheVariants.{None, Some}
+use Rattle.std.specs.declared.result.Result.{Result}
+use Rattle.questions.specs.declared.Refusal.{Refusal}
+use Rattle.questions.specs.Refusals.{answer_of}
+use Rattle.limiter.specs.declared.Traced.{Traced}
 
 -- ---- arguments
 
@@ -62,33 +50,33 @@ tally attempts denials shadow_denials = record { attempts = attempts; denials = 
 
 -- a flag of 0 is none, any other number the value
 abbrev pub cap_given : ℕ → Float → Option Float
-cap_given zero x = none
-cap_given (suc flag) x = some x
+cap_given zero x = None
+cap_given (suc flag) x = Some x
 
 abbrev pub shadow_given : ℕ → Limit → Option Limit
-shadow_given zero l = none
-shadow_given (suc flag) l = some l
+shadow_given zero l = None
+shadow_given (suc flag) l = Some l
 
 -- ---- the words of answers; a missing value is a flag of 0 and then zeros
 
 abbrev pub shadow_words : Option Decision → List ℕ
-shadow_words none = 0 ∷ 0 ∷ 0 ∷ []
-shadow_words (some d) = 1 ∷ decision_words d
+shadow_words None = 0 ∷ 0 ∷ 0 ∷ []
+shadow_words (Some d) = 1 ∷ decision_words d
 
-abbrev pub traced_words : Decisions → List ℕ
+abbrev pub traced_words : Traced → List ℕ
 traced_words x = decision_words x.decision ++ shadow_words x.shadow
 
 abbrev pub rates_words : Option KeyRates → List ℕ
-rates_words none = 0 ∷ 0 ∷ 0 ∷ 0 ∷ []
-rates_words (some x) = 1 ∷ float_word x.requests_per_sec ∷ float_word x.denied_per_sec ∷ float_word x.shadow_denied_per_sec ∷ []
+rates_words None = 0 ∷ 0 ∷ 0 ∷ 0 ∷ []
+rates_words (Some x) = 1 ∷ float_word x.requests_per_sec ∷ float_word x.denied_per_sec ∷ float_word x.shadow_denied_per_sec ∷ []
 
 abbrev pub key_quota_words : Option Quota → List ℕ
-key_quota_words none = 0 ∷ 0 ∷ 0 ∷ []
-key_quota_words (some q) = 1 ∷ quota_words q
+key_quota_words None = 0 ∷ 0 ∷ 0 ∷ []
+key_quota_words (Some q) = 1 ∷ quota_words q
 
 abbrev pub limit_words : Option Limit → List ℕ
-limit_words none = 0 ∷ 0 ∷ 0 ∷ []
-limit_words (some l) = 1 ∷ float_word l.rate ∷ l.burst ∷ []
+limit_words None = 0 ∷ 0 ∷ 0 ∷ []
+limit_words (Some l) = 1 ∷ float_word l.rate ∷ l.burst ∷ []
 
 -- the first nine words of a limiter
 abbrev pub config_words : Config → List ℕ
@@ -110,7 +98,7 @@ config_words c =
 abbrev pub New : (ws : List ℕ) → LimiterTables → Config → (r : ℕ) → (ws' : List ℕ) → Type 0
 New ws t c r ws' =
     Called (room_asked (leb limiter_width (length ws))) r (ws' ≡ ws)
-    (Tells (λ (k : Config) (x : LimiterAnswer). limiter.IsNew k t x) c limiter.limiter_answer limiter_words ws r ws')
+    (Tells (λ (k : Config) (x : Result Limiter Refusal). limiter.IsNew k t x) c answer_of limiter_words ws r ws')
 
 -- `nultiway_limiter_ask`
 abbrev pub Ask : (ws : List ℕ) → LimiterTables → (r : ℕ) → Type 0
@@ -129,7 +117,7 @@ abbrev pub Changing :
     → Type 0
 Changing ws t room r ws' Unmoved promise v =
     Called (limiter_asked ws (lengths t) room) r Unmoved
-    (Changes promise v (λ (x : Changed). change_answer x.answer) (λ (x : Changed). limiter_words x.limiter) ws r ws')
+    (Changes promise v (λ (x : Changed). answer_of x.answer) (λ (x : Changed). limiter_words x.limiter) ws r ws')
 
 -- `nultiway_set_cap`, which is lent tables that it cannot write
 abbrev pub SetCap : (ws : List ℕ) → LimiterTables → Option Float → (r : ℕ) → (ws' : List ℕ) → Type 0
@@ -169,7 +157,7 @@ abbrev pub Checking :
     → (r : ℕ) → (ws' : List ℕ) → LimiterTables → (answer' : List ℕ) → (Limiter → Checked → Type 0) → Type 0
 Checking ws t answer r ws' t' answer' promise =
     Called (limiter_asked ws (lengths t) (leb 2 (length answer))) r ((ws' ≡ ws) × (t' ≡ t) × (answer' ≡ answer))
-    (Answers promise (limiter_of ws) (λ (x : Checked). check_answer x.answer) decision_words (λ (x : Checked). limiter_words x.limiter)
+    (Answers promise (limiter_of ws) (λ (x : Checked). answer_of x.answer) decision_words (λ (x : Checked). limiter_words x.limiter)
     ws answer r ws' answer')
 
 -- `nultiway_check`
@@ -193,7 +181,7 @@ abbrev pub CheckInTraced :
 CheckInTraced ws t key k shadow now n answer r ws' t' answer' =
     Called (limiter_asked ws (lengths t) (leb 5 (length answer))) r ((ws' ≡ ws) × (t' ≡ t) × (answer' ≡ answer))
     (Answers (λ (v : Limiter × Option Limit) (x : TracedCheck). limiter.ChecksTraced v.0 t key k v.1 now n x t') (limiter_of ws, shadow)
-    (λ (x : TracedCheck). limiter.traced_answer x.answer) traced_words (λ (x : TracedCheck). limiter_words x.limiter) ws answer r ws' answer')
+    (λ (x : TracedCheck). answer_of x.answer) traced_words (λ (x : TracedCheck). limiter_words x.limiter) ws answer r ws' answer')
 
 -- ---- calls that read, which are lent a limiter and tables that they cannot write
 
@@ -207,78 +195,78 @@ Telling ws t size answer r answer' said words promise =
 -- `nultiway_new_key_quota`: a new key's quota under a limit
 abbrev pub NewKeyQuota : (ws : List ℕ) → LimiterTables → Limit → (n : ℕ) → (answer : List ℕ) → (r : ℕ) → (answer' : List ℕ) → Type 0
 NewKeyQuota ws t k n answer r answer' =
-    Telling ws t 2 answer r answer' quota_answer quota_words (λ (l : Limiter) (x : QuotaAnswer). limiter.TellsNewKeyQuota l t k n x)
+    Telling ws t 2 answer r answer' answer_of quota_words (λ (l : Limiter) (x : Result Quota Refusal). limiter.TellsNewKeyQuota l t k n x)
 
 -- `nultiway_new_key_factor`: a new key's part of its limit
 abbrev pub NewKeyFactor : (ws : List ℕ) → LimiterTables → (n : ℕ) → (answer : List ℕ) → (r : ℕ) → (answer' : List ℕ) → Type 0
 NewKeyFactor ws t n answer r answer' =
-    Telling ws t 1 answer r answer' rate_answer float_words (λ (l : Limiter) (x : RateAnswer). limiter.TellsNewKeyFactor l t n x)
+    Telling ws t 1 answer r answer' answer_of float_words (λ (l : Limiter) (x : Result Float Refusal). limiter.TellsNewKeyFactor l t n x)
 
 -- `nultiway_key_rates`: a tracked key's rates
 abbrev pub LimiterKeyRates : (ws : List ℕ) → LimiterTables → (key : ℕ) → (answer : List ℕ) → (r : ℕ) → (answer' : List ℕ) → Type 0
 LimiterKeyRates ws t key answer r answer' =
-    Telling ws t 4 answer r answer' limiter.rates_answer rates_words (λ (l : Limiter) (x : RatesAnswer). limiter.TellsRates l t key x)
+    Telling ws t 4 answer r answer' answer_of rates_words (λ (l : Limiter) (x : Result (Option KeyRates) Refusal). limiter.TellsRates l t key x)
 
 -- `nultiway_quota`: a tracked key's quota
 abbrev pub LimiterQuota : (ws : List ℕ) → LimiterTables → (key : ℕ) → (answer : List ℕ) → (r : ℕ) → (answer' : List ℕ) → Type 0
 LimiterQuota ws t key answer r answer' =
-    Telling ws t 3 answer r answer' limiter.key_quota_answer key_quota_words (λ (l : Limiter) (x : KeyQuotaAnswer). limiter.TellsQuota l t key x)
+    Telling ws t 3 answer r answer' answer_of key_quota_words (λ (l : Limiter) (x : Result (Option Quota) Refusal). limiter.TellsQuota l t key x)
 
 -- `nultiway_limit`: a tracked key's limit
 abbrev pub LimiterLimit : (ws : List ℕ) → LimiterTables → (key : ℕ) → (answer : List ℕ) → (r : ℕ) → (answer' : List ℕ) → Type 0
 LimiterLimit ws t key answer r answer' =
-    Telling ws t 3 answer r answer' limiter.limit_answer limit_words (λ (l : Limiter) (x : LimitAnswer). limiter.TellsLimit l t key x)
+    Telling ws t 3 answer r answer' answer_of limit_words (λ (l : Limiter) (x : Result (Option Limit) Refusal). limiter.TellsLimit l t key x)
 
 -- `nultiway_config`: the settings
 abbrev pub LimiterConfig : (ws : List ℕ) → LimiterTables → (answer : List ℕ) → (r : ℕ) → (answer' : List ℕ) → Type 0
 LimiterConfig ws t answer r answer' =
-    Telling ws t 9 answer r answer' limiter.config_answer config_words (λ (l : Limiter) (x : ConfigAnswer). limiter.TellsConfig l t x)
+    Telling ws t 9 answer r answer' answer_of config_words (λ (l : Limiter) (x : Result Config Refusal). limiter.TellsConfig l t x)
 
 -- `nultiway_hot_since`: when a hot key came into the hot set
 abbrev pub HotSince : (ws : List ℕ) → LimiterTables → (key : ℕ) → (answer : List ℕ) → (r : ℕ) → (answer' : List ℕ) → Type 0
 HotSince ws t key answer r answer' =
-    Telling ws t 2 answer r answer' since_answer time_words (λ (l : Limiter) (x : SinceAnswer). limiter.TellsHotSince l t key x)
+    Telling ws t 2 answer r answer' answer_of time_words (λ (l : Limiter) (x : Result (Option ℕ) Refusal). limiter.TellsHotSince l t key x)
 
 -- `nultiway_is_hot`: whether a key is hot
 abbrev pub IsHot : (ws : List ℕ) → LimiterTables → (key : ℕ) → (answer : List ℕ) → (r : ℕ) → (answer' : List ℕ) → Type 0
 IsHot ws t key answer r answer' =
-    Telling ws t 1 answer r answer' flag_answer flag_words (λ (l : Limiter) (x : FlagAnswer). limiter.TellsHot l t key x)
+    Telling ws t 1 answer r answer' answer_of flag_words (λ (l : Limiter) (x : Result Bool Refusal). limiter.TellsHot l t key x)
 
 -- `nultiway_tracked`: whether a key is tracked
 abbrev pub Tracked : (ws : List ℕ) → LimiterTables → (key : ℕ) → (answer : List ℕ) → (r : ℕ) → (answer' : List ℕ) → Type 0
 Tracked ws t key answer r answer' =
-    Telling ws t 1 answer r answer' flag_answer flag_words (λ (l : Limiter) (x : FlagAnswer). limiter.TellsTracked l t key x)
+    Telling ws t 1 answer r answer' answer_of flag_words (λ (l : Limiter) (x : Result Bool Refusal). limiter.TellsTracked l t key x)
 
 -- `nultiway_hot_keys`: how many keys are hot
 abbrev pub HotKeys : (ws : List ℕ) → LimiterTables → (answer : List ℕ) → (r : ℕ) → (answer' : List ℕ) → Type 0
 HotKeys ws t answer r answer' =
-    Telling ws t 1 answer r answer' len_answer one_word (λ (l : Limiter) (x : LenAnswer). limiter.CountsHot l t x)
+    Telling ws t 1 answer r answer' answer_of one_word (λ (l : Limiter) (x : Result ℕ Refusal). limiter.CountsHot l t x)
 
 -- `nultiway_tracked_keys`: how many keys are tracked
 abbrev pub TrackedKeys : (ws : List ℕ) → LimiterTables → (answer : List ℕ) → (r : ℕ) → (answer' : List ℕ) → Type 0
 TrackedKeys ws t answer r answer' =
-    Telling ws t 1 answer r answer' len_answer one_word (λ (l : Limiter) (x : LenAnswer). limiter.CountsKeys l t x)
+    Telling ws t 1 answer r answer' answer_of one_word (λ (l : Limiter) (x : Result ℕ Refusal). limiter.CountsKeys l t x)
 
 -- ---- lists: the output is the crate's, the answer how many entries
 
 -- Over the promise of the crate's function of the limiter that the lent words stand for and of its result.
 abbrev pub Listing :
-    (ws : List ℕ) → LimiterTables → (out answer : List ℕ) → (r : ℕ) → (out' answer' : List ℕ) → (Limiter → LenAnswer → Type 0) → Type 0
+    (ws : List ℕ) → LimiterTables → (out answer : List ℕ) → (r : ℕ) → (out' answer' : List ℕ) → (Limiter → Result ℕ Refusal → Type 0) → Type 0
 Listing ws t out answer r out' answer' promise =
     Called (limiter_asked ws (lengths t) (leb 1 (length answer))) r ((out' ≡ out) × (answer' ≡ answer))
-    (Tells promise (limiter_of ws) len_answer one_word answer r answer')
+    (Tells promise (limiter_of ws) answer_of one_word answer r answer')
 
 -- `nultiway_hot_demand`: the hot keys, greatest demand first
 abbrev pub HotDemand : (ws : List ℕ) → LimiterTables → (out answer : List ℕ) → (r : ℕ) → (out' answer' : List ℕ) → Type 0
 HotDemand ws t out answer r out' answer' =
-    Listing ws t out answer r out' answer' (λ (l : Limiter) (x : LenAnswer). limiter.ListsHotDemand l t out x out')
+    Listing ws t out answer r out' answer' (λ (l : Limiter) (x : Result ℕ Refusal). limiter.ListsHotDemand l t out x out')
 
 -- `nultiway_most_denied`: the first k keys by denials a second
 abbrev pub MostDenied : (ws : List ℕ) → LimiterTables → (k : ℕ) → (out answer : List ℕ) → (r : ℕ) → (out' answer' : List ℕ) → Type 0
 MostDenied ws t k out answer r out' answer' =
-    Listing ws t out answer r out' answer' (λ (l : Limiter) (x : LenAnswer). limiter.ListsMostDenied l t k out x out')
+    Listing ws t out answer r out' answer' (λ (l : Limiter) (x : Result ℕ Refusal). limiter.ListsMostDenied l t k out x out')
 
 -- `nultiway_most_shadow_denied`: the first k keys by shadow denials a second
 abbrev pub MostShadowDenied : (ws : List ℕ) → LimiterTables → (k : ℕ) → (out answer : List ℕ) → (r : ℕ) → (out' answer' : List ℕ) → Type 0
 MostShadowDenied ws t k out answer r out' answer' =
-    Listing ws t out answer r out' answer' (λ (l : Limiter) (x : LenAnswer). limiter.ListsMostShadowDenied l t k out x out')
+    Listing ws t out answer r out' answer' (λ (l : Limiter) (x : Result ℕ Refusal). limiter.ListsMostShadowDenied l t k out x out')

@@ -1,35 +1,32 @@
 -- The promise of each function of the library on the peers. Definitions only.
 use Rattle.std.specs.Prelude.{ℕ, ◌-◌, ◌*◌, ◌%◌, ◌^◌, min, ◌≡◌, Bool, false, ◌&&◌, List, [], ◌∷◌, ◌++◌, map, leb, ltb, Float, length, get_or, replicate}
-use Rattle.std.proofs.Math.Option.{Option, none, some}
 use Rattle.std.specs.Float.{binary32}
 use Rattle.std.specs.Float.Ieee.{to_bits, of_bits}
 use Rattle.records.specs.Records.{records}
 use Rattle.peers.specs.declared.peer_demand.PeerDemand.{PeerDemand}
 use Rattle.peers.specs.declared.peer_demand.KeyDemand.{KeyDemand}
 use Rattle.peers.specs.declared.peer_demand.DemandReport.{DemandReport}
-use Rattle.peers.specs.declared.peer_demand.PeersAnswer.{PeersAnswer}
 use Rattle.peers.specs.declared.peer_demand.PeersChanged.{PeersChanged}
-use Rattle.peers.specs.declared.peer_demand.ChangeAnswer.{ChangeAnswer}
 use Rattle.peers.specs.declared.peer_demand.Heard.{Heard}
-use Rattle.peers.specs.declared.peer_demand.HeardAnswer.{HeardAnswer}
-use Rattle.peers.specs.declared.peer_demand.TotalAnswer.{TotalAnswer}
-use Rattle.demand.specs.declared.answers.FlagAnswer.{FlagAnswer}
-use Rattle.demand.specs.declared.answers.LenAnswer.{LenAnswer}
 use Rattle.records.specs.Fields.{flag_word, flag_of}
 use Rattle.questions.specs.Lists.{all}
 use Rattle.peers.specs.Peers.State.{PeerTables, lengths}
-use Rattle.demand.specs.Answers.{flag_answer, len_answer}
 use Rattle.peers.specs.Peers.Calls as demand
 use Rattle.questions.specs.Questions.{Question, ◌asks◌, Answer}
 use Rattle.nultiway.specs.Values.{peers_width, peers_words, peers_of, peers_room, room_asked}
 use Rattle.nultiway.specs.Calls.{Called, Changes, Tells, number_of, one_word, float_words, flag_words}
+use Rattle.std.specs.declared.option.Option.{Option}
+use Rattle.std.specs.declared.option.Option.TheVariants.{None, Some}
+use Rattle.std.specs.declared.result.Result.{Result}
+use Rattle.questions.specs.declared.Refusal.{Refusal}
+use Rattle.questions.specs.Refusals.{answer_of}
 
 -- ---- the words of answers
 
 -- whether the peer said something of the key; demand ('f32 in the low half'), primary, round, heard at
 abbrev pub heard_words : Option Heard → List ℕ
-heard_words none = 0 ∷ 0 ∷ 0 ∷ 0 ∷ 0 ∷ []
-heard_words (some h) = 1 ∷ to_bits binary32 h.demand ∷ flag_word h.primary ∷ h.round ∷ h.heard_at ∷ []
+heard_words None = 0 ∷ 0 ∷ 0 ∷ 0 ∷ 0 ∷ []
+heard_words (Some h) = 1 ∷ to_bits binary32 h.demand ∷ flag_word h.primary ∷ h.round ∷ h.heard_at ∷ []
 
 -- ---- calls that change the peers
 
@@ -41,7 +38,7 @@ peers_asked ps = room_asked (leb peers_width (length ps))
 abbrev pub New : (ps : List ℕ) → PeerTables → (r : ℕ) (ps' : List ℕ) → Type 0
 New ps t r ps' =
     Called (peers_asked ps) r (ps' ≡ ps)
-    (Tells (λ (u : PeerTables) (x : PeersAnswer). demand.IsNew u x) t demand.peers_answer peers_words ps r ps')
+    (Tells (λ (u : PeerTables) (x : Result PeerDemand Refusal). demand.IsNew u x) t answer_of peers_words ps r ps')
 
 -- a call that changes them, by the promise of the crate's function on what it is given
 abbrev pub ChangesPeers :
@@ -56,7 +53,7 @@ abbrev pub ChangesPeers :
     → Type 0
 ChangesPeers promise v qs ps t r ps' t' =
     Called qs r ((ps' ≡ ps) × (t' ≡ t))
-    (Changes promise v (λ (x : PeersChanged). demand.change_answer x.answer) (λ (x : PeersChanged). peers_words x.peers) ps r ps')
+    (Changes promise v (λ (x : PeersChanged). answer_of x.answer) (λ (x : PeersChanged). peers_words x.peers) ps r ps')
 
 -- the peers, and the peer that a call names
 pub record Named : Type 0 where
@@ -147,25 +144,25 @@ TellsPeers promise v said words size ps answer r answer' =
 -- `nultiway_peers_get`
 abbrev pub Get : (ps : List ℕ) → PeerTables → (peer key : ℕ) (answer : List ℕ) (r : ℕ) (answer' : List ℕ) → Type 0
 Get ps t peer key =
-    TellsPeers (λ (v : Named) (x : HeardAnswer). demand.Gets v.peers t v.peer key x) (record { peers = peers_of ps; peer = peer })
-    demand.heard_answer heard_words 5 ps
+    TellsPeers (λ (v : Named) (x : Result (Option Heard) Refusal). demand.Gets v.peers t v.peer key x) (record { peers = peers_of ps; peer = peer })
+    answer_of heard_words 5 ps
 
 -- `nultiway_peers_total`
 abbrev pub Total : (ps : List ℕ) → PeerTables → (key : ℕ) (answer : List ℕ) (r : ℕ) (answer' : List ℕ) → Type 0
-Total ps t key = TellsPeers (λ (p : PeerDemand) (x : TotalAnswer). demand.Totals p t key x) (peers_of ps) demand.total_answer float_words 1 ps
+Total ps t key = TellsPeers (λ (p : PeerDemand) (x : Result Float Refusal). demand.Totals p t key x) (peers_of ps) answer_of float_words 1 ps
 
 -- `nultiway_peers_hot_elsewhere`
 abbrev pub HotElsewhere : (ps : List ℕ) → PeerTables → (key : ℕ) (answer : List ℕ) (r : ℕ) (answer' : List ℕ) → Type 0
 HotElsewhere ps t key =
-    TellsPeers (λ (p : PeerDemand) (x : FlagAnswer). demand.TellsHotElsewhere p t key x) (peers_of ps) flag_answer flag_words 1 ps
+    TellsPeers (λ (p : PeerDemand) (x : Result Bool Refusal). demand.TellsHotElsewhere p t key x) (peers_of ps) answer_of flag_words 1 ps
 
 -- `nultiway_peers_len`
 abbrev pub Len : (ps : List ℕ) → PeerTables → (answer : List ℕ) (r : ℕ) (answer' : List ℕ) → Type 0
-Len ps t = TellsPeers (λ (p : PeerDemand) (x : LenAnswer). demand.Counts p t x) (peers_of ps) len_answer one_word 1 ps
+Len ps t = TellsPeers (λ (p : PeerDemand) (x : Result ℕ Refusal). demand.Counts p t x) (peers_of ps) answer_of one_word 1 ps
 
 -- `nultiway_peers_is_empty`
 abbrev pub IsEmpty : (ps : List ℕ) → PeerTables → (answer : List ℕ) (r : ℕ) (answer' : List ℕ) → Type 0
-IsEmpty ps t = TellsPeers (λ (p : PeerDemand) (x : FlagAnswer). demand.TellsEmpty p t x) (peers_of ps) flag_answer flag_words 1 ps
+IsEmpty ps t = TellsPeers (λ (p : PeerDemand) (x : Result Bool Refusal). demand.TellsEmpty p t x) (peers_of ps) answer_of flag_words 1 ps
 
 -- ---- calls that read of many keys
 
@@ -179,10 +176,10 @@ pub record Says {R A : Type 0} (promise : PeerDemand → R → Type 0) (v : Peer
 abbrev pub TotalOfEach : (ps : List ℕ) → PeerTables → (keys : List ℕ) (width count : ℕ) (out : List Float) (r : ℕ) (out' : List Float) → Type 0
 TotalOfEach ps t keys width count out r out' =
     Called (peers_asked ps) r (out' ≡ out)
-    (Says (λ (p : PeerDemand) (x : ChangeAnswer). demand.TotalsEach p t width count keys out x out') (peers_of ps) demand.change_answer r)
+    (Says (λ (p : PeerDemand) (x : Result Unit Refusal). demand.TotalsEach p t width count keys out x out') (peers_of ps) answer_of r)
 
 -- `nultiway_peers_hot_elsewhere_of_each`
 abbrev pub HotElsewhereOfEach : (ps : List ℕ) → PeerTables → (keys : List ℕ) (width count : ℕ) (out : List Bool) (r : ℕ) (out' : List Bool) → Type 0
 HotElsewhereOfEach ps t keys width count out r out' =
     Called (peers_asked ps) r (out' ≡ out)
-    (Says (λ (p : PeerDemand) (x : ChangeAnswer). demand.TellsHotElsewhereEach p t width count keys out x out') (peers_of ps) demand.change_answer r)
+    (Says (λ (p : PeerDemand) (x : Result Unit Refusal). demand.TellsHotElsewhereEach p t width count keys out x out') (peers_of ps) answer_of r)

@@ -7,7 +7,7 @@ use Rattle.records.specs.Fields.{time_of}
 use Rattle.limiter.specs.declared.Limiter.{Limiter}
 use Rattle.peers.specs.Peers.State as peer-state
 use Rattle.peers.specs.Peers.State.{PeerLengths}
-use Rattle.limiter.specs.State.{Lengths, have_room, settings_words, settings_of, cap_from, last_tick_from}
+use Rattle.limiter.specs.State.{Lengths, have_room, settings_words, settings_of}
 use Rattle.image.specs.Reader as reader
 use Rattle.image.specs.LoadSteps.{config_from}
 
@@ -26,8 +26,8 @@ unfoldable pub limiter_of : List ℕ → Limiter
 limiter_of ws =
     record {
       config = config_from (take 13 ws);
-      cap = cap_from (reader.cap_from (get_or (take 13 ws) 9 0) (get_or (take 13 ws) 10 0));
-      last_tick = last_tick_from (time_of (get_or (take 13 ws) 11 0) (get_or (take 13 ws) 12 0));
+      cap = (reader.cap_from (get_or (take 13 ws) 9 0) (get_or (take 13 ws) 10 0));
+      last_tick = (time_of (get_or (take 13 ws) 11 0) (get_or (take 13 ws) 12 0));
       keys = get_or ws 13 0;
       hot = get_or ws 14 0;
       shadows = get_or ws 15 0;

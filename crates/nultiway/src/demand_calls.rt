@@ -2,14 +2,12 @@
 ghost use Rattle.std.specs.Prelude.{◌≡◌, ◌≤◌, length};
 ghost use Rattle.records.specs.Words.{paste};
 ghost use Rattle.questions.specs.Questions.{first_no};
-ghost use Rattle.demand.specs.Estimators.Calls.{demand_answer, rate_answer};
-ghost use Rattle.nultiway.specs.Calls.{number_of, answer_put, float_words};
 ghost use Rattle.nultiway.specs.DemandCalls.{times_of, demand_words, demand_of, is_demand, demand_asked};
 ghost use Rattle.nultiway.specs.DemandCalls as Calls;
 
-use crate::answers::put_flag;
+use crate::answers::{Lent, put_answer};
 use crate::values::put;
-use demand::demand::{Demand, DemandAnswer, RateAnswer, Times};
+use demand::demand::{Demand, Times};
 use records::fields::is_time;
 
 // The words of an estimator: rate, attempts since the last tick, whether it has its times, the last
@@ -21,11 +19,7 @@ fn is_demand(words: &[u64]) -> bool
     requires { 6 ≤ length words.now }
     ensures { result ≡ is_demand words.now }
 {
-    if is_time(words[2], words[3]) {
-        is_time(words[2], words[4])
-    } else {
-        false
-    }
+    is_time(words[2], words[3]) && is_time(words[2], words[4])
 }
 
 // Questions 1 and 2 of an estimator's words: are there as many, and as many in the buffer for the
@@ -45,13 +39,13 @@ fn ask_demand(words: &[u64], room: bool) -> u8
     0
 }
 
-fn times_of(flag: u64, last_tick: u64, since: u64) -> Times
+fn times_of(flag: u64, last_tick: u64, since: u64) -> Option<Times>
     ensures { result ≡ times_of flag last_tick since }
 {
     if flag == 0 {
-        return Times::Unset;
+        return None;
     }
-    Times::At { last_tick, since }
+    Some(Times { last_tick, since })
 }
 
 // The estimator that the words stand for.
@@ -76,8 +70,8 @@ fn demand_words(demand: Demand) -> [u64; DEMAND_WORDS]
     let attempts = demand.attempts_since_tick;
     let times = demand.times;
     match times {
-        Times::Unset => [rate, attempts, 0, 0, 0, demand.time_constant],
-        Times::At { last_tick, since } => {
+        None => [rate, attempts, 0, 0, 0, demand.time_constant],
+        Some(Times { last_tick, since }) => {
             [rate, attempts, 1, last_tick, since, demand.time_constant]
         }
     }
@@ -88,38 +82,15 @@ fn put_demand(words: &mut [u64], demand: Demand)
     requires { 6 ≤ length words.old }
     ensures { words.new ≡ paste 0 (demand_words demand) words.old }
 {
-    let w = demand_words(demand);
-    put(words, &w);
+    put(words, &demand_words(demand));
 }
 
-// Writes the words of a changed estimator: the number of a 'no', or 0.
-fn put_changed(words: &mut [u64], said: DemandAnswer) -> u8
-    requires { 6 ≤ length words.old }
-    ensures value { result ≡ number_of (demand_answer said) }
-    ensures words_after { words.new ≡ answer_put demand_words (demand_answer said) words.old }
-{
-    match said {
-        DemandAnswer::No(no) => no,
-        DemandAnswer::Is(demand) => {
-            put_demand(words, demand);
-            0
-        }
-    }
-}
+// A changed estimator.
+impl Lent<6> for Demand {
+    ghost words = { demand_words };
 
-// Writes a rate's bits: the number of a 'no', or 0.
-fn put_rate(to: &mut [u64], said: RateAnswer) -> u8
-    requires { 1 ≤ length to.old }
-    ensures value { result ≡ number_of (rate_answer said) }
-    ensures to_after { to.new ≡ answer_put float_words (rate_answer said) to.old }
-{
-    match said {
-        RateAnswer::No(no) => no,
-        RateAnswer::Is(x) => {
-            let w = [float::to_bits(x)];
-            put(to, &w);
-            0
-        }
+    fn words(self) -> [u64; 6] {
+        demand_words(self)
     }
 }
 
@@ -163,7 +134,7 @@ pub extern "C" fn nultiway_demand_record_attempt(demand: &mut [u64]) -> u8
         return no;
     }
     let before = demand_of(demand);
-    put_changed(demand, before.record_attempt())
+    put_answer(demand, before.record_attempt())
 }
 
 // Counts attempts on an estimator.
@@ -176,7 +147,7 @@ pub extern "C" fn nultiway_demand_record_attempts(demand: &mut [u64], attempts: 
         return no;
     }
     let before = demand_of(demand);
-    put_changed(demand, before.record_attempts(attempts))
+    put_answer(demand, before.record_attempts(attempts))
 }
 
 // Moves an estimator's rate by the attempts counted since its last tick, and counts from 0 again.
@@ -189,7 +160,7 @@ pub extern "C" fn nultiway_demand_tick(demand: &mut [u64], reading: u64) -> u8
         return no;
     }
     let before = demand_of(demand);
-    put_changed(demand, before.tick(reading))
+    put_answer(demand, before.tick(reading))
 }
 
 // Tells whether an estimator has attempts that no tick has folded.
@@ -202,7 +173,7 @@ pub extern "C" fn nultiway_demand_has_pending(demand: &[u64], answer: &mut [u64]
         return no;
     }
     let read = demand_of(demand);
-    put_flag(answer, read.has_pending())
+    put_answer(answer, read.has_pending())
 }
 
 // Tells the rate that an estimator's last tick left: the bits of a double.
@@ -215,7 +186,7 @@ pub extern "C" fn nultiway_demand_rate(demand: &[u64], answer: &mut [u64]) -> u8
         return no;
     }
     let read = demand_of(demand);
-    put_rate(answer, read.rate())
+    put_answer(answer, read.rate())
 }
 
 // Tells an estimator's rate with its start at 0 taken out: the bits of a double.
@@ -229,5 +200,5 @@ pub extern "C" fn nultiway_demand_unbiased_rate(demand: &[u64], answer: &mut [u6
         return no;
     }
     let read = demand_of(demand);
-    put_rate(answer, read.unbiased_rate())
+    put_answer(answer, read.unbiased_rate())
 }

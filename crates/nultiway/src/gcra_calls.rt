@@ -2,18 +2,14 @@
 ghost use Rattle.std.specs.Prelude.{◌≡◌, true, ◌≤◌, length};
 ghost use Rattle.records.specs.Words.{paste};
 ghost use Rattle.questions.specs.Questions.{first_no};
-ghost use Rattle.gcra.specs.Calls.{gcra_answer, set_answer};
 ghost use Rattle.records.specs.Fields.{time_of};
-ghost use Rattle.limiter.specs.State.{tat_from};
-ghost use Rattle.nultiway.specs.Calls.{number_of, answer_put};
 ghost use Rattle.nultiway.specs.LoneCalls.{gcra_words, gcra_of, is_gcra, gcra_asked};
 ghost use Rattle.nultiway.specs.LoneCalls as Calls;
 
-use crate::answers::put_decision;
-use crate::lone_answers::{put_debt, put_retry};
+use crate::answers::{Lent, change_number, put_answer};
 use crate::values::put;
-use gcra::{Gcra, GcraAnswer, Quota, SetAnswer, Tat};
-use records::fields::is_time;
+use gcra::{Gcra, Quota};
+use records::fields::{is_time, time_of, time_words};
 
 // The words of a Gcra: interval, burst, whether there is a TAT, and the TAT.
 pub const GCRA_WORDS: usize = 4;
@@ -26,11 +22,7 @@ fn is_gcra(words: &[u64]) -> bool
     requires { 4 ≤ length words.now }
     ensures { result ≡ is_gcra words.now }
 {
-    if words[1] < BURSTS {
-        is_time(words[2], words[3])
-    } else {
-        false
-    }
+    words[1] < BURSTS && is_time(words[2], words[3])
 }
 
 // Questions 1 and 2 of a Gcra's words: are there as many, and as many in the buffer for the answer,
@@ -50,15 +42,6 @@ fn ask_gcra(words: &[u64], room: bool) -> u8
     0
 }
 
-fn tat_of(flag: u64, time: u64) -> Tat
-    ensures { result ≡ tat_from (time_of flag time) }
-{
-    if flag == 0 {
-        return Tat::Unset;
-    }
-    Tat::At(time)
-}
-
 // The Gcra that the words stand for.
 fn gcra_of(words: &[u64]) -> Gcra
     requires { (4 ≤ length words.now) × (is_gcra words.now ≡ true) }
@@ -68,7 +51,7 @@ fn gcra_of(words: &[u64]) -> Gcra
         interval: words[0],
         burst: words[1] as u32,
     };
-    let tat = tat_of(words[2], words[3]);
+    let tat = time_of(words[2], words[3]);
     Gcra { quota, tat }
 }
 
@@ -76,11 +59,8 @@ fn gcra_words(gcra: Gcra) -> [u64; 4]
     ensures { result ≡ gcra_words gcra }
 {
     let quota = gcra.quota;
-    let tat = gcra.tat;
-    match tat {
-        Tat::Unset => [quota.interval, quota.burst as u64, 0, 0],
-        Tat::At(time) => [quota.interval, quota.burst as u64, 1, time],
-    }
+    let tat = time_words(gcra.tat);
+    [quota.interval, quota.burst as u64, tat[0], tat[1]]
 }
 
 // Writes a Gcra's words.
@@ -88,32 +68,15 @@ fn put_gcra(words: &mut [u64], gcra: Gcra)
     requires { 4 ≤ length words.old }
     ensures { words.new ≡ paste 0 (gcra_words gcra) words.old }
 {
-    let w = gcra_words(gcra);
-    put(words, &w);
+    put(words, &gcra_words(gcra));
 }
 
-// Writes a new Gcra's words: the number of a 'no', or 0.
-fn put_new(words: &mut [u64], said: GcraAnswer) -> u8
-    requires { 4 ≤ length words.old }
-    ensures value { result ≡ number_of (gcra_answer said) }
-    ensures words_after { words.new ≡ answer_put gcra_words (gcra_answer said) words.old }
-{
-    match said {
-        GcraAnswer::No(no) => no,
-        GcraAnswer::Is(gcra) => {
-            put_gcra(words, gcra);
-            0
-        }
-    }
-}
+// A new Gcra.
+impl Lent<4> for Gcra {
+    ghost words = { gcra_words };
 
-// The number of a 'no', or 0.
-fn set_number(said: SetAnswer) -> u8
-    ensures { result ≡ number_of (set_answer said) }
-{
-    match said {
-        SetAnswer::No(no) => no,
-        SetAnswer::Done => 0,
+    fn words(self) -> [u64; 4] {
+        gcra_words(self)
     }
 }
 
@@ -127,7 +90,7 @@ pub extern "C" fn nultiway_gcra_new(gcra: &mut [u64], interval: u64, burst: u32)
         return 1;
     }
     let quota = Quota { interval, burst };
-    put_new(gcra, Gcra::new(quota))
+    put_answer(gcra, Gcra::new(quota))
 }
 
 // Decides on a request by a meter.
@@ -145,7 +108,7 @@ pub extern "C" fn nultiway_gcra_check(gcra: &mut [u64], reading: u64, answer: &m
     let said = checked.answer;
     let left = checked.gcra;
     put_gcra(gcra, left);
-    put_decision(answer, said)
+    put_answer(answer, said)
 }
 
 // Changes a meter's quota: a debt of so many slots of the old one is as many of the new one.
@@ -169,7 +132,7 @@ pub extern "C" fn nultiway_gcra_set_quota(
     let said = set.answer;
     let left = set.gcra;
     put_gcra(gcra, left);
-    set_number(said)
+    change_number(said)
 }
 
 // Tells whether a meter's TAT is later than the reading.
@@ -182,7 +145,7 @@ pub extern "C" fn nultiway_gcra_has_debt(gcra: &[u64], reading: u64, answer: &mu
         return no;
     }
     let meter = gcra_of(gcra);
-    put_debt(answer, meter.has_debt(reading))
+    put_answer(answer, meter.has_debt(reading))
 }
 
 // Tells whether a meter would deny a check, and the nanoseconds to wait then.
@@ -196,5 +159,5 @@ pub extern "C" fn nultiway_gcra_retry_after(gcra: &[u64], reading: u64, answer: 
         return no;
     }
     let meter = gcra_of(gcra);
-    put_retry(answer, meter.retry_after(reading))
+    put_answer(answer, meter.retry_after(reading))
 }

@@ -2,11 +2,8 @@
 ghost use Rattle.records.specs.Fields.{flag_of};
 ghost use Rattle.nultiway.specs.HotCalls as Calls;
 
-use crate::answers::{put_flag, put_len, put_since};
-use crate::hot_answers::{
-    HOT_SET_WORDS, hot_set_left, hot_set_of, put_hot_set, put_new_hot_set, put_updated,
-    put_updated_each,
-};
+use crate::answers::put_answer;
+use crate::hot_answers::{HOT_SET_WORDS, hot_set_left, hot_set_of, put_hot_set};
 use crate::values::are_long;
 use hot::hot_set::HotSet;
 
@@ -24,7 +21,7 @@ pub extern "C" fn nultiway_hot_set_new(
     if hot_set.len() < HOT_SET_WORDS {
         return 1;
     }
-    put_new_hot_set(hot_set, HotSet::new(entries, cooldown, max_size as usize))
+    put_answer(hot_set, HotSet::new(entries, cooldown, max_size as usize))
 }
 
 // Takes in a key's demand, and tells whether the key is hot then.
@@ -48,7 +45,7 @@ pub extern "C" fn nultiway_hot_set_update(
     let set = hot_set_of(hot_set);
     let said = set.update(entries, key, demand_rate, threshold, reading);
     put_hot_set(hot_set, hot_set_left(set, said));
-    put_updated(answer, said)
+    put_answer(answer, said)
 }
 
 // Takes in a key's demand where a peer may have the key as primary, and tells whether the key is
@@ -75,7 +72,7 @@ pub extern "C" fn nultiway_hot_set_update_with(
     let elsewhere = hot_elsewhere != 0;
     let said = set.update_with(entries, key, demand_rate, threshold, reading, elsewhere);
     put_hot_set(hot_set, hot_set_left(set, said));
-    put_updated(answer, said)
+    put_answer(answer, said)
 }
 
 // Takes in the demand of each of `count` keys, the first words of records of `width` words, one
@@ -107,7 +104,7 @@ pub extern "C" fn nultiway_hot_set_update_each(
     let said = set.update_each(
         entries, keys, w, n, demands, thresholds, elsewhere, reading, out,
     );
-    put_updated_each(hot_set, said)
+    put_answer(hot_set, said)
 }
 
 // Tells whether the set has a key.
@@ -125,7 +122,7 @@ pub extern "C" fn nultiway_hot_set_is_hot(
         return 1;
     }
     let set = hot_set_of(hot_set);
-    put_flag(answer, set.is_hot(entries, key))
+    put_answer(answer, set.is_hot(entries, key))
 }
 
 // Tells whether the set has a key as primary.
@@ -143,7 +140,7 @@ pub extern "C" fn nultiway_hot_set_is_primary(
         return 1;
     }
     let set = hot_set_of(hot_set);
-    put_flag(answer, set.is_primary(entries, key))
+    put_answer(answer, set.is_primary(entries, key))
 }
 
 // Tells whether the set has a key, and when the key came in.
@@ -161,7 +158,7 @@ pub extern "C" fn nultiway_hot_set_hot_since(
         return 1;
     }
     let set = hot_set_of(hot_set);
-    put_since(answer, set.hot_since(entries, key))
+    put_answer(answer, set.hot_since(entries, key))
 }
 
 // Tells the number of the set's entries.
@@ -174,7 +171,7 @@ pub extern "C" fn nultiway_hot_set_len(hot_set: &[u64], entries: &[u64], answer:
         return 1;
     }
     let set = hot_set_of(hot_set);
-    put_len(answer, set.len(entries))
+    put_answer(answer, set.len(entries))
 }
 
 // Tells whether the set has no entry.
@@ -191,5 +188,5 @@ pub extern "C" fn nultiway_hot_set_is_empty(
         return 1;
     }
     let set = hot_set_of(hot_set);
-    put_flag(answer, set.is_empty(entries))
+    put_answer(answer, set.is_empty(entries))
 }

@@ -2,30 +2,29 @@
 ghost use Rattle.std.specs.Prelude.{◌≤◌, length};
 ghost use Rattle.peers.specs.Peers.State as peer-state;
 ghost use Rattle.limiter.specs.State.{tables};
-ghost use Rattle.image.specs.Calls.{load_answer};
 ghost use Rattle.nultiway.specs.ImageCalls.{PutLoaded};
 ghost use Rattle.nultiway.specs.ImageCalls as Calls;
+ghost use Rattle.questions.specs.Refusals.{answer_of};
 
-use crate::answers::put_len;
+use crate::answers::put_answer;
 use crate::values::{
     LIMITER_WORDS, PEERS_WORDS, are_long, ask_limiter, limiter_of, peers_have_room, peers_of,
     put_limiter, put_peers,
 };
-use image::LoadAnswer;
+use image::Loaded;
+use questions::Refusal;
 
 // Writes what a load makes: the number of a 'no', or 0.
-fn put_loaded(limiter: &mut [u64], peers: &mut [u64], said: LoadAnswer) -> u8
+fn put_loaded(limiter: &mut [u64], peers: &mut [u64], said: Result<Loaded, Refusal>) -> u8
     requires { (16 ≤ length limiter.old) × (3 ≤ length peers.old) }
-    ensures { PutLoaded (load_answer said) limiter.old peers.old result
+    ensures { PutLoaded (answer_of said) limiter.old peers.old result
         limiter.new peers.new }
 {
     match said {
-        LoadAnswer::No(no) => no,
-        LoadAnswer::Is(loaded) => {
-            let l = loaded.limiter;
-            let p = loaded.peers;
-            put_limiter(limiter, l);
-            put_peers(peers, p);
+        Err(no) => no.number(),
+        Ok(loaded) => {
+            put_limiter(limiter, loaded.limiter);
+            put_peers(peers, loaded.peers);
             0
         }
     }
@@ -73,7 +72,7 @@ pub extern "C" fn nultiway_save(
         contested,
         out,
     );
-    put_len(answer, said)
+    put_answer(answer, said)
 }
 
 // Makes the limiter and the peers that an image was saved of, in tables that may hold anything.

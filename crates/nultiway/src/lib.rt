@@ -1,6 +1,7 @@
 // The library for programs in other languages: each function under a C name, its values in words
 // that the caller lends. A function answers 0, or the number of the first question that was
-// answered 'no'; then no lent word has changed.
+// answered 'no'; then no lent word has changed. The number of a refusal is what C reads, so the
+// functions that ask about lent words answer it as a number, 0 for none, too.
 #![tactic(auto)]
 
 mod answers;
@@ -14,7 +15,6 @@ pub mod limiter_changes;
 pub mod limiter_checks;
 pub mod limiter_lists;
 pub mod limiter_readers;
-mod lone_answers;
 pub mod lone_calls;
 mod peer_answers;
 pub mod peer_calls;

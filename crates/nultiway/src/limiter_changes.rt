@@ -1,14 +1,14 @@
 // A limiter made, its cap set, its counts and ticks.
 ghost use Rattle.std.specs.Prelude.{◌≡◌};
 ghost use Rattle.peers.specs.Peers.State as peer-state;
-ghost use Rattle.limiter.specs.State.{tables, cap_of};
+ghost use Rattle.limiter.specs.State.{tables};
 ghost use Rattle.nultiway.specs.LimiterCalls as Calls;
 
-use crate::answers::{change_number, put_new};
+use crate::answers::{change_number, put_answer};
 use crate::values::{
     LIMITER_WORDS, ask_limiter, limiter_of, peers_have_room, peers_of, put_limiter,
 };
-use limiter::{Cap, Config, Limit, Limiter, Tally};
+use limiter::{Config, Limit, Limiter, Tally};
 
 // Makes a limiter with no key yet.
 #[unsafe(no_mangle)]
@@ -45,17 +45,17 @@ pub extern "C" fn nultiway_limiter_new(
         demand_time_constant,
         table_size: table_size as usize,
     };
-    put_new(limiter, Limiter::new(config, keys, hot, shadows))
+    put_answer(limiter, Limiter::new(config, keys, hot, shadows))
 }
 
 // The cap, or none where `has_cap` is 0.
-fn cap_given(has_cap: u8, cap: f64) -> Cap
-    ensures { cap_of result ≡ Calls.cap_given has_cap cap }
+fn cap_given(has_cap: u8, cap: f64) -> Option<f64>
+    ensures { result ≡ Calls.cap_given has_cap cap }
 {
     if has_cap == 0 {
-        return Cap::Unset;
+        return None;
     }
-    Cap::At(cap)
+    Some(cap)
 }
 
 // Asks questions 1 and 2 of a limiter and its tables.
@@ -72,8 +72,7 @@ pub extern "C" fn nultiway_limiter_ask(
     if no != 0 {
         return no;
     }
-    let limiter = limiter_of(limiter);
-    limiter.ask(keys, hot, shadows)
+    change_number(limiter_of(limiter).ask(keys, hot, shadows))
 }
 
 // Sets the cap, the greatest part of its limit that a key gets, or lifts it where `has_cap` is 0 or

@@ -1,12 +1,11 @@
 // Checks of keys.
 ghost use Rattle.std.specs.Prelude.{◌≡◌};
 ghost use Rattle.limiter.specs.State.{tables};
-ghost use Rattle.limiter.specs.Calls.{shadow_limit};
 ghost use Rattle.nultiway.specs.LimiterCalls as Calls;
 
-use crate::answers::{change_number, put_decision, put_traced};
+use crate::answers::{change_number, put_answer};
 use crate::values::{ask_limiter, limiter_of, put_limiter};
-use limiter::{Limit, Shadow};
+use limiter::Limit;
 
 // Decides on a request for a key under the settings' limit: a new key's quota is made of it, a
 // tracked key keeps its quota until the next tick, which goes by the limit given last, here this one.
@@ -35,7 +34,7 @@ pub extern "C" fn nultiway_check(
     let next = checked.limiter;
     let said = checked.answer;
     put_limiter(limiter, next);
-    put_decision(answer, said)
+    put_answer(answer, said)
 }
 
 // Decides on a request for a key under the limit given: a new key's quota is made of it, a tracked
@@ -69,17 +68,17 @@ pub extern "C" fn nultiway_check_in(
     let after = checked.limiter;
     let said = checked.answer;
     put_limiter(limiter, after);
-    put_decision(answer, said)
+    put_answer(answer, said)
 }
 
 // The shadow limit, or none where `has_shadow` is 0.
-fn shadow_given(has_shadow: u8, rate: f64, burst: u32) -> Shadow
-    ensures { shadow_limit result ≡ Calls.shadow_given has_shadow (Calls.limit rate burst) }
+fn shadow_given(has_shadow: u8, rate: f64, burst: u32) -> Option<Limit>
+    ensures { result ≡ Calls.shadow_given has_shadow (Calls.limit rate burst) }
 {
     if has_shadow == 0 {
-        return Shadow::Unset;
+        return None;
     }
-    Shadow::Of(Limit { rate, burst })
+    Some(Limit { rate, burst })
 }
 
 // Does the same beside a shadow limit, and tells a decision, whether there is a shadow, and its
@@ -120,7 +119,7 @@ pub extern "C" fn nultiway_check_in_traced(
     let after = checked.limiter;
     let said = checked.answer;
     put_limiter(limiter, after);
-    put_traced(answer, said)
+    put_answer(answer, said)
 }
 
 // Checks `count` pairs of a key and a reading under the settings' limit, one after the other: three

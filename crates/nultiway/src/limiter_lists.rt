@@ -2,7 +2,7 @@
 ghost use Rattle.limiter.specs.State.{tables};
 ghost use Rattle.nultiway.specs.LimiterCalls as Calls;
 
-use crate::answers::put_len;
+use crate::answers::put_answer;
 use crate::values::{ask_limiter, limiter_of};
 
 // Lists the hot keys, greatest demand first, and tells how many: three words for each, the key,
@@ -27,7 +27,7 @@ pub extern "C" fn nultiway_hot_demand(
     }
     let limiter = limiter_of(limiter);
     let said = limiter.hot_demand(keys, hot, shadows, out);
-    put_len(answer, said)
+    put_answer(answer, said)
 }
 
 // Lists the first `k` keys by denials a second, and tells how many: four words for each, the key
@@ -54,7 +54,7 @@ pub extern "C" fn nultiway_most_denied(
     let most = k as usize;
     let limiter = limiter_of(limiter);
     let said = limiter.most_denied(keys, hot, shadows, most, out);
-    put_len(answer, said)
+    put_answer(answer, said)
 }
 
 // Lists the first `k` keys by shadow denials a second likewise.
@@ -80,5 +80,5 @@ pub extern "C" fn nultiway_most_shadow_denied(
     let most = k as usize;
     let limiter = limiter_of(limiter);
     let said = limiter.most_shadow_denied(keys, hot, shadows, most, out);
-    put_len(answer, said)
+    put_answer(answer, said)
 }

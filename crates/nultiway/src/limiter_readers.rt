@@ -2,10 +2,7 @@
 ghost use Rattle.limiter.specs.State.{tables};
 ghost use Rattle.nultiway.specs.LimiterCalls as Calls;
 
-use crate::answers::{
-    put_config, put_flag, put_key_quota, put_len, put_limit, put_quota, put_rate, put_rates,
-    put_since,
-};
+use crate::answers::put_answer;
 use crate::values::{ask_limiter, limiter_of};
 use limiter::Limit;
 
@@ -32,7 +29,7 @@ pub extern "C" fn nultiway_new_key_quota(
     let limit = Limit { rate, burst };
     let nodes = cluster_size as usize;
     let limiter = limiter_of(limiter);
-    put_quota(
+    put_answer(
         answer,
         limiter.new_key_quota(keys, hot, shadows, limit, nodes),
     )
@@ -58,7 +55,7 @@ pub extern "C" fn nultiway_new_key_factor(
     }
     let nodes = cluster_size as usize;
     let limiter = limiter_of(limiter);
-    put_rate(answer, limiter.new_key_factor(keys, hot, shadows, nodes))
+    put_answer(answer, limiter.new_key_factor(keys, hot, shadows, nodes))
 }
 
 // Tells whether a key is tracked, and the bits of three rates a second: requests, denials, and
@@ -81,7 +78,7 @@ pub extern "C" fn nultiway_key_rates(
         return no;
     }
     let limiter = limiter_of(limiter);
-    put_rates(answer, limiter.key_rates(keys, hot, shadows, key))
+    put_answer(answer, limiter.key_rates(keys, hot, shadows, key))
 }
 
 // Tells whether a key is tracked, and the interval and burst of its quota.
@@ -103,7 +100,7 @@ pub extern "C" fn nultiway_quota(
         return no;
     }
     let limiter = limiter_of(limiter);
-    put_key_quota(answer, limiter.quota(keys, hot, shadows, key))
+    put_answer(answer, limiter.quota(keys, hot, shadows, key))
 }
 
 // Tells whether a key is tracked, and its limit: the rate's bits and the burst.
@@ -125,7 +122,7 @@ pub extern "C" fn nultiway_limit(
         return no;
     }
     let limiter = limiter_of(limiter);
-    put_limit(answer, limiter.limit(keys, hot, shadows, key))
+    put_answer(answer, limiter.limit(keys, hot, shadows, key))
 }
 
 // Tells the settings: the first nine words of the limiter.
@@ -146,7 +143,7 @@ pub extern "C" fn nultiway_config(
         return no;
     }
     let limiter = limiter_of(limiter);
-    put_config(answer, limiter.config(keys, hot, shadows))
+    put_answer(answer, limiter.config(keys, hot, shadows))
 }
 
 // Tells whether a key is hot, and when it came into the hot set.
@@ -168,7 +165,7 @@ pub extern "C" fn nultiway_hot_since(
         return no;
     }
     let limiter = limiter_of(limiter);
-    put_since(answer, limiter.hot_since(keys, hot, shadows, key))
+    put_answer(answer, limiter.hot_since(keys, hot, shadows, key))
 }
 
 // Tells whether a key is hot.
@@ -190,7 +187,7 @@ pub extern "C" fn nultiway_is_hot(
         return no;
     }
     let limiter = limiter_of(limiter);
-    put_flag(answer, limiter.is_hot(keys, hot, shadows, key))
+    put_answer(answer, limiter.is_hot(keys, hot, shadows, key))
 }
 
 // Tells whether a key is tracked.
@@ -212,7 +209,7 @@ pub extern "C" fn nultiway_tracked(
         return no;
     }
     let limiter = limiter_of(limiter);
-    put_flag(answer, limiter.tracked(keys, hot, shadows, key))
+    put_answer(answer, limiter.tracked(keys, hot, shadows, key))
 }
 
 // Tells how many keys are hot.
@@ -233,7 +230,7 @@ pub extern "C" fn nultiway_hot_keys(
         return no;
     }
     let limiter = limiter_of(limiter);
-    put_len(answer, limiter.hot_keys(keys, hot, shadows))
+    put_answer(answer, limiter.hot_keys(keys, hot, shadows))
 }
 
 // Tells how many keys are tracked.
@@ -254,5 +251,5 @@ pub extern "C" fn nultiway_tracked_keys(
         return no;
     }
     let limiter = limiter_of(limiter);
-    put_len(answer, limiter.tracked_keys(keys, hot, shadows))
+    put_answer(answer, limiter.tracked_keys(keys, hot, shadows))
 }

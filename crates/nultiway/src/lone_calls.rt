@@ -1,8 +1,7 @@
 // Calls on a quota or on `step` alone.
 ghost use Rattle.nultiway.specs.LoneCalls as Calls;
 
-use crate::answers::{decision_words, put_quota, put_rate};
-use crate::lone_answers::put_number;
+use crate::answers::{decision_words, put_answer};
 use crate::values::put;
 use gcra::Quota;
 
@@ -20,7 +19,7 @@ pub extern "C" fn nultiway_quota_new(rate: u32, burst: u32, answer: &mut [u64]) 
     if answer.len() < QUOTA_WORDS {
         return 1;
     }
-    put_quota(answer, Quota::new(rate, burst))
+    put_answer(answer, Quota::new(rate, burst))
 }
 
 // Makes the quota of any rate, the longest interval where it is too slow or no rate: interval and
@@ -32,7 +31,7 @@ pub extern "C" fn nultiway_quota_per_second(rate: f64, burst: u32, answer: &mut 
     if answer.len() < QUOTA_WORDS {
         return 1;
     }
-    put_quota(answer, Quota::per_second(rate, burst))
+    put_answer(answer, Quota::per_second(rate, burst))
 }
 
 // Reads the quota that a packed word holds: interval and burst.
@@ -43,7 +42,7 @@ pub extern "C" fn nultiway_quota_unpack(word: u64, answer: &mut [u64]) -> u8
     if answer.len() < QUOTA_WORDS {
         return 1;
     }
-    put_quota(answer, Quota::unpack(word))
+    put_answer(answer, Quota::unpack(word))
 }
 
 // Packs a quota into one word.
@@ -56,7 +55,7 @@ pub extern "C" fn nultiway_quota_pack(interval: u64, burst: u32, answer: &mut [u
         return 1;
     }
     let quota = Quota { interval, burst };
-    put_number(answer, quota.pack())
+    put_answer(answer, quota.pack())
 }
 
 // Tells the requests a second of a quota: the bits of a double.
@@ -69,7 +68,7 @@ pub extern "C" fn nultiway_quota_rate_per_sec(interval: u64, burst: u32, answer:
         return 1;
     }
     let quota = Quota { interval, burst };
-    put_rate(answer, quota.rate_per_sec())
+    put_answer(answer, quota.rate_per_sec())
 }
 
 // Tells the quoted ceiling: the most checks that a quota allows at readings from s to s + `window`.
@@ -87,7 +86,7 @@ pub extern "C" fn nultiway_quota_ceiling(
         return 1;
     }
     let quota = Quota { interval, burst };
-    put_number(answer, quota.ceiling(window))
+    put_answer(answer, quota.ceiling(window))
 }
 
 // Makes one attempt on a TAT, 0 for none, and a packed quota: a decision, and the TAT after it.

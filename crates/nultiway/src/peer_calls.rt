@@ -2,8 +2,7 @@
 ghost use Rattle.peers.specs.Peers.State.{tables};
 ghost use Rattle.nultiway.specs.PeerCalls as Calls;
 
-use crate::answers::{change_number, put_flag, put_len};
-use crate::peer_answers::{put_heard, put_total};
+use crate::answers::{change_number, put_answer};
 use crate::values::{PEERS_WORDS, are_long, peers_of};
 use peers::boundary::PeerId;
 
@@ -20,8 +19,7 @@ pub extern "C" fn nultiway_peers_ask(
     if peers.len() < PEERS_WORDS {
         return 1;
     }
-    let p = peers_of(peers);
-    p.ask(peer_table, snapshot_keys, contested)
+    change_number(peers_of(peers).ask(peer_table, snapshot_keys, contested))
 }
 
 // Tells whether a peer said something of a key, the bits of the demand (a float), whether the key
@@ -44,7 +42,7 @@ pub extern "C" fn nultiway_peers_get(
     }
     let p = peers_of(peers);
     let id = PeerId::new(peer);
-    put_heard(answer, p.get(peer_table, snapshot_keys, contested, id, key))
+    put_answer(answer, p.get(peer_table, snapshot_keys, contested, id, key))
 }
 
 // Tells the peers' demands for a key, added up: the bits of a double.
@@ -64,7 +62,7 @@ pub extern "C" fn nultiway_peers_total(
         return 1;
     }
     let p = peers_of(peers);
-    put_total(answer, p.total(peer_table, snapshot_keys, contested, key))
+    put_answer(answer, p.total(peer_table, snapshot_keys, contested, key))
 }
 
 // Tells whether a key is primary at a peer.
@@ -84,7 +82,7 @@ pub extern "C" fn nultiway_peers_hot_elsewhere(
         return 1;
     }
     let p = peers_of(peers);
-    put_flag(
+    put_answer(
         answer,
         p.hot_elsewhere(peer_table, snapshot_keys, contested, key),
     )
@@ -106,7 +104,7 @@ pub extern "C" fn nultiway_peers_len(
         return 1;
     }
     let p = peers_of(peers);
-    put_len(answer, p.len(peer_table, snapshot_keys, contested))
+    put_answer(answer, p.len(peer_table, snapshot_keys, contested))
 }
 
 // Tells whether there is no key of any peer.
@@ -125,7 +123,7 @@ pub extern "C" fn nultiway_peers_is_empty(
         return 1;
     }
     let p = peers_of(peers);
-    put_flag(answer, p.is_empty(peer_table, snapshot_keys, contested))
+    put_answer(answer, p.is_empty(peer_table, snapshot_keys, contested))
 }
 
 // Tells the peers' demands, added up, for each of `count` keys, the first words of records of

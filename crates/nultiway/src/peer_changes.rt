@@ -2,8 +2,7 @@
 ghost use Rattle.peers.specs.Peers.State.{tables};
 ghost use Rattle.nultiway.specs.PeerCalls as Calls;
 
-use crate::answers::change_number;
-use crate::peer_answers::put_new_peers;
+use crate::answers::{change_number, put_answer};
 use crate::report::{ask_report, report_of};
 use crate::values::{PEERS_WORDS, peers_have_room, peers_of, put_peers};
 use peers::boundary::PeerId;
@@ -23,7 +22,7 @@ pub extern "C" fn nultiway_peers_new(
     if peers.len() < PEERS_WORDS {
         return 1;
     }
-    put_new_peers(peers, PeerDemand::new(peer_table, snapshot_keys, contested))
+    put_answer(peers, PeerDemand::new(peer_table, snapshot_keys, contested))
 }
 
 // Removes a peer's record and keys.

@@ -6,7 +6,6 @@ ghost use Rattle.questions.specs.Questions.{first_no};
 ghost use Rattle.questions.specs.Lists.{all};
 ghost use Rattle.nultiway.specs.PeerCalls.{is_listed, listed_of, blank_key, keys_of, report_of, report_asked};
 
-use float::whole;
 use peers::peer_demand::{DemandReport, KeyDemand};
 
 // The words of a key in a report.
@@ -16,15 +15,12 @@ pub const REPORT_WORDS: usize = 3;
 const HALVES: u64 = 1 << 32;
 
 // Whether the words are those of a key: the high half of its demand is 0, and its flag 0 or 1.
+#[tactic(auto, unfolding(crate::specs::PeerCalls::is_listed))]
 fn is_listed(words: &[u64]) -> bool
     requires { length words.now ≡ 3 }
     ensures { result ≡ is_listed words.now }
 {
-    if words[1] < HALVES {
-        words[2] <= 1
-    } else {
-        false
-    }
+    words[1] < HALVES && words[2] <= 1
 }
 
 // Whether all of the first n keys' words are.
@@ -32,13 +28,11 @@ fn are_listed(words: &[u64], n: usize) -> bool
     requires { n * 3 ≤ length words.now }
     ensures { result ≡ all is_listed (records 3 n words.now) }
 {
-    let mut i = 0;
-    while i < n {
+    for i in 0..n {
         let at = i * REPORT_WORDS;
         if !is_listed(&words[at..at + REPORT_WORDS]) {
             return false;
         }
-        i += 1;
     }
     true
 }
@@ -72,14 +66,10 @@ fn listed_keys(words: &[u64], n: usize) -> [KeyDemand; 64]
     requires { (n ≤ 64) × (n * 3 ≤ length words.now) }
     ensures { result ≡ keys_of n words.now }
 {
-    let blank = blank_key();
-    let mut keys = [blank; 64];
-    let mut i = 0;
-    while i < n {
+    let mut keys = [blank_key(); 64];
+    for i in 0..n {
         let at = i * REPORT_WORDS;
-        let key = listed_of(&words[at..at + REPORT_WORDS]);
-        keys[i] = key;
-        i += 1;
+        keys[i] = listed_of(&words[at..at + REPORT_WORDS]);
     }
     keys
 }
@@ -95,7 +85,7 @@ pub(crate) fn report_of(
     requires { min count 64 * 3 ≤ length words.now }
     ensures { result ≡ report_of origin epoch round words.now count }
 {
-    let keys = listed_keys(words, whole::min(count, 64) as usize);
+    let keys = listed_keys(words, count.min(64) as usize);
     DemandReport {
         origin,
         epoch,
@@ -113,11 +103,11 @@ pub(crate) fn ask_report(room: bool, words: &[u64], count: u64) -> u8
     if !room {
         return 1;
     }
-    let least = whole::min(count, 65) as usize * REPORT_WORDS;
+    let least = count.min(65) as usize * REPORT_WORDS;
     if words.len() < least {
         return 1;
     }
-    if !are_listed(words, whole::min(count, 64) as usize) {
+    if !are_listed(words, count.min(64) as usize) {
         return 2;
     }
     0

@@ -5,14 +5,14 @@ ghost use Rattle.questions.specs.Questions.{first_no};
 ghost use Rattle.nultiway.specs.Values.{limiter_words, limiter_of, is_limiter, limiter_asked};
 ghost use Rattle.nultiway.specs.Values.{peers_words, peers_of, peers_room};
 
-use crate::answers::config_words;
-use image::judge::{cap_of, config_of, last_tick_of};
+use crate::answers::{Lent, config_words};
+use image::judge::{cap_of, config_of};
 use image::room::peers_fit;
 use image::rows::SETTINGS_WORDS;
-use image::writer::{cap_words, last_tick_words};
+use image::writer::cap_words;
 use limiter::{Limiter, have_room};
 use peers::peer_demand::PeerDemand;
-use records::are_same;
+use records::{are_same, fields};
 
 // The words of a limiter: its settings, and how many key, hot and shadow records are in use.
 pub const LIMITER_WORDS: usize = SETTINGS_WORDS + 3;
@@ -33,21 +33,17 @@ pub const PEERS_WORDS: usize = 3;
 
 // Writes the words of `from` at the front of `to`.
 pub(crate) fn put(to: &mut [u64], from: &[u64])
-    requires { (0 < length from.now) × (length from.now ≤ length to.old) }
+    requires { length from.now ≤ length to.old }
     ensures { to.new ≡ paste 0 from.now to.old }
 {
-    records::overwrite(to, from.len(), 1, 0, from);
+    to[..from.len()].copy_from_slice(from);
 }
 
 // Whether two buffers of a fixed size have their words.
 pub(crate) fn are_long(first: usize, least: usize, second: usize, least_second: usize) -> bool
     ensures { result ≡ (leb least first && leb least_second second) }
 {
-    if least <= first {
-        least_second <= second
-    } else {
-        false
-    }
+    least <= first && least_second <= second
 }
 
 // ---- the limiter
@@ -70,7 +66,7 @@ pub(crate) fn limiter_of(words: &[u64]) -> Limiter
     let w = settings_in(words);
     let config = config_of(w);
     let cap = cap_of(w[9], w[10]);
-    let last_tick = last_tick_of(w[WAS_TICK], w[LAST_TICK]);
+    let last_tick = fields::time_of(w[WAS_TICK], w[LAST_TICK]);
     Limiter {
         config,
         cap,
@@ -82,15 +78,12 @@ pub(crate) fn limiter_of(words: &[u64]) -> Limiter
 }
 
 // The words of a limiter.
-fn limiter_words(limiter: Limiter) -> [u64; LIMITER_WORDS]
+pub(crate) fn limiter_words(limiter: Limiter) -> [u64; LIMITER_WORDS]
     ensures { result ≡ limiter_words limiter }
 {
-    let config = limiter.config;
-    let cap = limiter.cap;
-    let last_tick = limiter.last_tick;
-    let w = config_words(config);
-    let c = cap_words(cap);
-    let t = last_tick_words(last_tick);
+    let w = config_words(limiter.config);
+    let c = cap_words(limiter.cap);
+    let t = fields::time_words(limiter.last_tick);
     [
         w[0],
         w[1],
@@ -150,8 +143,7 @@ pub(crate) fn put_limiter(words: &mut [u64], limiter: Limiter)
     requires { 16 ≤ length words.old }
     ensures { words.new ≡ paste 0 (limiter_words limiter) words.old }
 {
-    let w = limiter_words(limiter);
-    put(words, &w);
+    put(words, &limiter_words(limiter));
 }
 
 // ---- the peers, of which any three words are a value
@@ -180,13 +172,7 @@ pub(crate) fn peers_have_room(
         && peers_room words
         (record { peers = peers; snapshot_keys = snapshot_keys; contested = contested })) }
 {
-    if !room {
-        return false;
-    }
-    if words < PEERS_WORDS {
-        return false;
-    }
-    peers_fit(peers, snapshot_keys, contested)
+    room && PEERS_WORDS <= words && peers_fit(peers, snapshot_keys, contested)
 }
 
 // Writes the peers' words.
@@ -194,10 +180,5 @@ pub(crate) fn put_peers(words: &mut [u64], peers: PeerDemand)
     requires { 3 ≤ length words.old }
     ensures { words.new ≡ paste 0 (peers_words peers) words.old }
 {
-    let w = [
-        peers.peers as u64,
-        peers.snapshot_keys as u64,
-        peers.contested as u64,
-    ];
-    put(words, &w);
+    put(words, &peers.words());
 }

@@ -10,7 +10,6 @@ use crate::peer_demand::{
     CONTESTED_WORDS, PEER_WORDS, PeerDemand, PeersChanged, SNAPSHOT_KEY_WORDS,
 };
 use crate::{peer_runs, peer_steps};
-use float::whole;
 
 impl PeerDemand {
     // Takes out a peer with all its keys, of a valid state.
@@ -25,16 +24,15 @@ impl PeerDemand {
         ensures { Becomes (changes.forget id) self (tables peers.old snapshot_keys.old contested.old) result
             (tables peers.new snapshot_keys.new contested.new) }
     {
-        let none: [u64; 0] = [];
-        let n = peer_runs::replace_run(peers, PEER_WORDS, self.peers, id, &none);
+        let n = peer_runs::replace_run(peers, PEER_WORDS, self.peers, id, &[]);
         let k = peer_runs::replace_run(
             snapshot_keys,
             SNAPSHOT_KEY_WORDS,
             self.snapshot_keys,
             id,
-            &none,
+            &[],
         );
-        let c = peer_runs::replace_run(contested, CONTESTED_WORDS, self.contested, id, &none);
+        let c = peer_runs::replace_run(contested, CONTESTED_WORDS, self.contested, id, &[]);
         PeerDemand {
             peers: n,
             snapshot_keys: k,
@@ -83,8 +81,7 @@ impl PeerDemand {
         ensures { Forgets self (tables peers.old snapshot_keys.old contested.old) peer.0 result
             (tables peers.new snapshot_keys.new contested.new) }
     {
-        let no = self.ask(peers, snapshot_keys, contested);
-        if no != 0 {
+        if let Err(no) = self.ask(peers, snapshot_keys, contested) {
             return PeersChanged::refused(no, self);
         }
         PeersChanged::done(self.forget_peer(peers, snapshot_keys, contested, peer.0))
@@ -106,16 +103,10 @@ impl PeerDemand {
         if hold == 0 {
             return self.forget(peers, snapshot_keys, contested, peer);
         }
-        let no = self.ask(peers, snapshot_keys, contested);
-        if no != 0 {
+        if let Err(no) = self.ask(peers, snapshot_keys, contested) {
             return PeersChanged::refused(no, self);
         }
-        peer_steps::hold_peer(
-            peers,
-            self.peers,
-            peer.0,
-            whole::saturating_add(reading, hold),
-        );
+        peer_steps::hold_peer(peers, self.peers, peer.0, reading.saturating_add(hold));
         PeersChanged::done(self)
     }
 
@@ -132,8 +123,7 @@ impl PeerDemand {
         ensures { Expires self (tables peers.old snapshot_keys.old contested.old) reading max_age result
             (tables peers.new snapshot_keys.new contested.new) }
     {
-        let no = self.ask(peers, snapshot_keys, contested);
-        if no != 0 {
+        if let Err(no) = self.ask(peers, snapshot_keys, contested) {
             return PeersChanged::refused(no, self);
         }
         PeersChanged::done(self.expire_all(peers, snapshot_keys, contested, reading, max_age))

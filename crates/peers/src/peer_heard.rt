@@ -1,30 +1,37 @@
 // What one peer said about one key: its snapshot's word, its contested one, and both together.
-ghost use Rattle.std.specs.Prelude.{◌≡◌, ◌+◌, ◌*◌, ◌^◌, ◌<◌, ◌≤◌, cond, ◌||◌, map, length, slice_index};
+ghost use Rattle.std.specs.Prelude.{◌≡◌, ◌+◌, ◌*◌, ◌^◌, ◌<◌, ◌≤◌, cond, ◌||◌, map, length, slice_index, MatchOption, None};
 ghost use Rattle.records.specs.Records.{records};
 ghost use Rattle.peers.specs.Peers.Records.{snapshot_of, snapshot_key_of, contested_of};
 ghost use Rattle.peers.specs.Peers.Readers.{heard_taken, heard_contested, snapshot_key_at, contested_at, add_heard};
 ghost use Rattle.peers.specs.Peers.Readers as readers;
-ghost use Rattle.peers.specs.Peers.Steps.Heard.{said_of, heard_of, is_listed, KeyTable};
+ghost use Rattle.peers.specs.Peers.Steps.Heard.{heard_of, is_listed, KeyTable, KeyIn};
+ghost use Rattle.questions.specs.Lists.{first, those};
+ghost use Rattle.records.specs.Typed.{first_word, second_word};
 
 use crate::peer_demand::{CONTESTED_WORDS, Heard, SNAPSHOT_KEY_WORDS};
 
-// What a peer said, if anything.
-#[derive(Clone, Copy)]
-pub(crate) enum Said {
-    Silence,
-    Of(Heard),
+// The words of a peer's key in a table of keys of w words.
+fn key_in(t: &[u64], w: usize, n: usize, id: u64, key: u64) -> Option<&[u64]>
+    requires { KeyTable w n t.now }
+    ensures { MatchOption result (first (those second_word key (those first_word id (records w n t.now))) ≡ None)
+        (λ r. KeyIn w id key (records w n t.now) r.now) }
+{
+    match records::find(t, w, 2, n, id, key) {
+        records::Found::At(i) => Some(&t[i * w..i * w + w]),
+        _ => None,
+    }
 }
 
-// The demand and the flag of the key at `at`, with a round and a time.
-fn key_heard(t: &[u64], at: usize, round: u64, heard_at: u64) -> Heard
-    requires { (at + 4 ≤ length t.now) × (slice_index t.now (at + 2) < 2 ^ 32) × (round < 2 ^ 16) }
-    ensures { result ≡ heard_of (slice_index t.now (at + 2)) (slice_index t.now (at + 3)) round heard_at }
+// The demand and the flag of a key, with a round and a time.
+fn key_heard(r: &[u64], round: u64, heard_at: u64) -> Heard
+    requires { (4 ≤ length r.now) × (slice_index r.now 2 < 2 ^ 32) × (round < 2 ^ 16) }
+    ensures { result ≡ heard_of (slice_index r.now 2) (slice_index r.now 3) round heard_at }
 {
     Heard {
-        demand: float::f32_from_bits(t[at + 2] as u32),
-        primary: t[at + 3] != 0,
+        demand: float::f32_from_bits(r[2] as u32),
+        primary: r[3] != 0,
         round: round as u16,
-        heard_at: heard_at,
+        heard_at,
     }
 }
 
@@ -37,99 +44,65 @@ pub(crate) fn heard_taken(
     flag: u64,
     round: u64,
     heard_at: u64,
-) -> Said
+) -> Option<Heard>
     requires key_table { KeyTable 4 n t.now }
     requires round_bound { round < 2 ^ 16 }
-    ensures { said_of result ≡ heard_taken (snapshot_of flag 0 round heard_at)
+    ensures { result ≡ heard_taken (snapshot_of flag 0 round heard_at)
         (snapshot_key_at id key (map snapshot_key_of (records 4 n t.now))) }
 {
     if flag == 0 {
-        return Said::Silence;
+        return None;
     }
-    match records::find(t, SNAPSHOT_KEY_WORDS, 2, n, id, key) {
-        records::Found::At(i) => Said::Of(key_heard(t, i * SNAPSHOT_KEY_WORDS, round, heard_at)),
-        records::Found::Gap(i) => Said::Silence,
-        records::Found::Unfit => Said::Silence,
-    }
+    let r = key_in(t, SNAPSHOT_KEY_WORDS, n, id, key)?;
+    Some(key_heard(r, round, heard_at))
 }
 
 // The contested word on a key.
-pub(crate) fn heard_contested(t: &[u64], n: usize, id: u64, key: u64) -> Said
+pub(crate) fn heard_contested(t: &[u64], n: usize, id: u64, key: u64) -> Option<Heard>
     requires { KeyTable 6 n t.now }
-    ensures { said_of result ≡ heard_contested (contested_at id key (map contested_of (records 6 n t.now))) }
+    ensures { result ≡ heard_contested (contested_at id key (map contested_of (records 6 n t.now))) }
 {
-    match records::find(t, CONTESTED_WORDS, 2, n, id, key) {
-        records::Found::At(i) => {
-            let at = i * CONTESTED_WORDS;
-            Said::Of(key_heard(t, at, t[at + 4], t[at + 5]))
-        }
-        records::Found::Gap(i) => Said::Silence,
-        records::Found::Unfit => Said::Silence,
-    }
-}
-
-// Whether one of two flags is set.
-fn is_either(a: bool, b: bool) -> bool
-    ensures { result ≡ (a || b) }
-{
-    if a {
-        return true;
-    }
-    b
+    let r = key_in(t, CONTESTED_WORDS, n, id, key)?;
+    Some(key_heard(r, r[4], r[5]))
 }
 
 // The word with the higher demand, the snapshot's of equal ones; primary where one of them is.
 fn joined(taken: Heard, contested: Heard) -> Heard
     ensures { result ≡ readers.joined taken contested }
 {
-    let primary = is_either(taken.primary, contested.primary);
+    let primary = taken.primary || contested.primary;
     if taken.demand < contested.demand {
         return Heard {
-            demand: contested.demand,
-            primary: primary,
-            round: contested.round,
-            heard_at: contested.heard_at,
+            primary,
+            ..contested
         };
     }
-    Heard {
-        demand: taken.demand,
-        primary: primary,
-        round: taken.round,
-        heard_at: taken.heard_at,
-    }
+    Heard { primary, ..taken }
 }
 
 // The snapshot's word on a key and the contested one.
-pub(crate) fn join(taken: Said, contested: Said) -> Said
-    ensures { said_of result ≡ readers.join (said_of taken) (said_of contested) }
+pub(crate) fn join(taken: Option<Heard>, contested: Option<Heard>) -> Option<Heard>
+    ensures { result ≡ readers.join taken contested }
 {
-    match taken {
-        Said::Silence => contested,
-        Said::Of(t) => match contested {
-            Said::Silence => Said::Of(t),
-            Said::Of(c) => Said::Of(joined(t, c)),
-        },
+    match (taken, contested) {
+        (None, _) => contested,
+        (_, None) => taken,
+        (Some(t), Some(c)) => Some(joined(t, c)),
     }
 }
 
 // Adds what was heard.
-pub(crate) fn add_heard(sum: f64, said: Said) -> f64
-    ensures { result ≡ add_heard sum (said_of said) }
+pub(crate) fn add_heard(sum: f64, said: Option<Heard>) -> f64
+    ensures { result ≡ add_heard sum said }
 {
-    match said {
-        Said::Silence => sum,
-        Said::Of(h) => sum + float::f32_to_f64(h.demand),
-    }
+    said.map_or(sum, |h| sum + float::f32_to_f64(h.demand))
 }
 
 // Whether it is hot by the peer's own demand.
-pub(crate) fn is_primary(said: Said) -> bool
-    ensures { result ≡ readers.is_primary (said_of said) }
+pub(crate) fn is_primary(said: Option<Heard>) -> bool
+    ensures { result ≡ readers.is_primary said }
 {
-    match said {
-        Said::Silence => false,
-        Said::Of(h) => h.primary,
-    }
+    said.is_some_and(|h| h.primary)
 }
 
 // Whether a peer's snapshot has a key.
@@ -137,11 +110,7 @@ fn is_listed(t: &[u64], n: usize, id: u64, key: u64) -> bool
     requires { KeyTable 4 n t.now }
     ensures { result ≡ is_listed id key (map snapshot_key_of (records 4 n t.now)) }
 {
-    match records::find(t, SNAPSHOT_KEY_WORDS, 2, n, id, key) {
-        records::Found::At(i) => true,
-        records::Found::Gap(i) => false,
-        records::Found::Unfit => false,
-    }
+    key_in(t, SNAPSHOT_KEY_WORDS, n, id, key).is_some()
 }
 
 // 1 where contested key i is not one of the n snapshot keys in t, else 0.
@@ -153,8 +122,5 @@ pub(crate) fn count_unlisted(t: &[u64], n: usize, contested: &[u64], i: usize) -
         (map snapshot_key_of (records 4 n t.now))) 0 1 }
 {
     let at = i * CONTESTED_WORDS;
-    if is_listed(t, n, contested[at], contested[at + 1]) {
-        return 0;
-    }
-    1
+    usize::from(!is_listed(t, n, contested[at], contested[at + 1]))
 }

@@ -1,7 +1,7 @@
 // What the peers said: of one peer and one key, of all peers, of many keys, and how many keys there are.
-ghost use Rattle.std.specs.Prelude.{◌≡◌, ◌+◌, ◌*◌, ◌<◌, ◌≤◌, true, length, slice_index};
-ghost use Rattle.peers.specs.Peers.State.{tables, state_of};
-ghost use Rattle.peers.specs.Peers.Steps.Heard.{said_of, counted, own_keys, StateReady, Own, Readable};
+ghost use Rattle.std.specs.Prelude.{◌≡◌, ℕ, ◌+◌, ◌*◌, ◌<◌, ◌≤◌, true, length, slice_index};
+ghost use Rattle.peers.specs.Peers.State.{PeersState, tables, state_of};
+ghost use Rattle.peers.specs.Peers.Steps.Heard.{counted, own_keys, StateReady, Own, Readable};
 ghost use Rattle.peers.specs.Peers.Calls.{Gets, Totals, TellsHotElsewhere, Counts, TellsEmpty};
 ghost use Rattle.peers.specs.Peers.Calls.{TotalsEach, TellsHotElsewhereEach};
 ghost use Rattle.peers.specs.Peers.Readers.{told};
@@ -9,14 +9,11 @@ ghost use Rattle.records.specs.Records.{fits};
 ghost use Rattle.peers.specs.Peers.Readers as readers;
 
 use crate::boundary::PeerId;
-use crate::peer_demand::{
-    CONTESTED_WORDS, ChangeAnswer, HeardAnswer, PEER_WORDS, PeerDemand, SNAPSHOT_KEY_WORDS,
-    TotalAnswer,
-};
-use crate::peer_heard::Said;
+use crate::peer_demand::{CONTESTED_WORDS, Heard, PEER_WORDS, PeerDemand, SNAPSHOT_KEY_WORDS};
+use crate::peer_each::Keys;
 use crate::peer_state::KeyStarts;
-use crate::{peer_each, peer_heard, peer_state};
-use demand::answers::{FlagAnswer, LenAnswer};
+use crate::{peer_heard, peer_state};
+use questions::Refusal;
 
 // Where the keys of one peer are in both tables of keys: from one place up to another.
 #[derive(Clone, Copy)]
@@ -27,16 +24,18 @@ pub(crate) struct OwnKeys {
     pub(crate) contested_to: usize,
 }
 
-// Those of peer i.
-fn own_keys(snapshot_starts: &[usize], contested_starts: &[usize], i: usize) -> OwnKeys
-    requires { (i + 1 < length snapshot_starts.now) × (i + 1 < length contested_starts.now) }
-    ensures { result ≡ own_keys snapshot_starts.now contested_starts.now i }
-{
-    OwnKeys {
-        snapshot_from: snapshot_starts[i],
-        snapshot_to: snapshot_starts[i + 1],
-        contested_from: contested_starts[i],
-        contested_to: contested_starts[i + 1],
+impl KeyStarts {
+    // Those of peer i.
+    fn own_keys(&self, i: usize) -> OwnKeys
+        requires { i < 32 }
+        ensures { result ≡ own_keys self.now.snapshot_keys self.now.contested i }
+    {
+        OwnKeys {
+            snapshot_from: self.snapshot_keys[i],
+            snapshot_to: self.snapshot_keys[i + 1],
+            contested_from: self.contested[i],
+            contested_to: self.contested[i + 1],
+        }
     }
 }
 
@@ -49,10 +48,10 @@ impl PeerDemand {
         contested: &[u64],
         i: usize,
         key: u64,
-    ) -> Said
+    ) -> Option<Heard>
         requires state_ready { StateReady self (tables peers.now snapshot_keys.now contested.now) }
         requires i_lt_peers { i < self.peers }
-        ensures { said_of result ≡ readers.heard (slice_index peers.now (i * 12)) key
+        ensures { result ≡ readers.heard (slice_index peers.now (i * 12)) key
             (state_of self (tables peers.now snapshot_keys.now contested.now)) }
     {
         let at = i * PEER_WORDS;
@@ -79,11 +78,11 @@ impl PeerDemand {
         own: OwnKeys,
         i: usize,
         key: u64,
-    ) -> Said
+    ) -> Option<Heard>
         requires state_ready { StateReady self (tables peers.now snapshot_keys.now contested.now) }
         requires own { Own self (tables peers.now snapshot_keys.now contested.now) i own }
         requires i_lt_peers { i < self.peers }
-        ensures { said_of result ≡ readers.heard (slice_index peers.now (i * 12)) key
+        ensures { result ≡ readers.heard (slice_index peers.now (i * 12)) key
             (state_of self (tables peers.now snapshot_keys.now contested.now)) }
     {
         let k = own.snapshot_from;
@@ -91,9 +90,9 @@ impl PeerDemand {
         let c = own.contested_from;
         let c_end = own.contested_to;
         let alone = PeerDemand {
-            peers: self.peers,
             snapshot_keys: k_end - k,
             contested: c_end - c,
+            ..self
         };
         alone.heard_from(
             peers,
@@ -112,14 +111,13 @@ impl PeerDemand {
         contested: &[u64],
         id: u64,
         key: u64,
-    ) -> Said
+    ) -> Option<Heard>
         requires { StateReady self (tables peers.now snapshot_keys.now contested.now) }
-        ensures { said_of result ≡ readers.heard id key (state_of self (tables peers.now snapshot_keys.now contested.now)) }
+        ensures { result ≡ readers.heard id key (state_of self (tables peers.now snapshot_keys.now contested.now)) }
     {
         match records::find(peers, PEER_WORDS, 1, self.peers, id, 0) {
             records::Found::At(i) => self.heard_from(peers, snapshot_keys, contested, i, key),
-            records::Found::Gap(i) => Said::Silence,
-            records::Found::Unfit => Said::Silence,
+            _ => None,
         }
     }
 
@@ -129,22 +127,17 @@ impl PeerDemand {
         peers: &[u64],
         snapshot_keys: &[u64],
         contested: &[u64],
-        starts: KeyStarts,
+        starts: &KeyStarts,
         key: u64,
     ) -> f64
-        requires { Readable self (tables peers.now snapshot_keys.now contested.now) starts }
+        requires { Readable self (tables peers.now snapshot_keys.now contested.now) starts.now }
         ensures { result ≡ readers.total key (state_of self (tables peers.now snapshot_keys.now contested.now)) }
     {
-        let n = self.peers;
-        let snapshot_starts = starts.snapshot_keys;
-        let contested_starts = starts.contested;
         let mut sum = 0.0;
-        let mut i = 0;
-        while i < n {
-            let own = own_keys(&snapshot_starts, &contested_starts, i);
+        for i in 0..self.peers {
+            let own = starts.own_keys(i);
             let said = self.heard_among_own(peers, snapshot_keys, contested, own, i, key);
             sum = peer_heard::add_heard(sum, said);
-            i += 1;
         }
         sum
     }
@@ -155,73 +148,20 @@ impl PeerDemand {
         peers: &[u64],
         snapshot_keys: &[u64],
         contested: &[u64],
-        starts: KeyStarts,
+        starts: &KeyStarts,
         key: u64,
     ) -> bool
-        requires { Readable self (tables peers.now snapshot_keys.now contested.now) starts }
+        requires { Readable self (tables peers.now snapshot_keys.now contested.now) starts.now }
         ensures { result ≡ readers.hot_elsewhere key (state_of self (tables peers.now snapshot_keys.now contested.now)) }
     {
-        let n = self.peers;
-        let snapshot_starts = starts.snapshot_keys;
-        let contested_starts = starts.contested;
-        let mut i = 0;
-        while i < n {
-            let own = own_keys(&snapshot_starts, &contested_starts, i);
+        for i in 0..self.peers {
+            let own = starts.own_keys(i);
             let said = self.heard_among_own(peers, snapshot_keys, contested, own, i, key);
             if peer_heard::is_primary(said) {
                 return true;
             }
-            i += 1;
         }
         false
-    }
-
-    // The sum of what all peers said about the key of each of n records of w words.
-    fn sum_each(
-        self,
-        peers: &[u64],
-        snapshot_keys: &[u64],
-        contested: &[u64],
-        starts: KeyStarts,
-        keys: &[u64],
-        w: usize,
-        n: usize,
-        out: &mut [f64],
-    )
-        requires readable { Readable self (tables peers.now snapshot_keys.now contested.now) starts }
-        requires n_value { (fits (length keys.now) w n ≡ true) × (n ≤ length out.old) }
-        ensures { out.new ≡ told readers.total (state_of self (tables peers.now snapshot_keys.now contested.now)) w n
-            keys.now out.old }
-    {
-        let mut i = 0;
-        while i < n {
-            out[i] = self.sum_heard(peers, snapshot_keys, contested, starts, keys[i * w]);
-            i += 1;
-        }
-    }
-
-    // Whether a peer has the key of each of n records of w words as primary.
-    fn primary_each(
-        self,
-        peers: &[u64],
-        snapshot_keys: &[u64],
-        contested: &[u64],
-        starts: KeyStarts,
-        keys: &[u64],
-        w: usize,
-        n: usize,
-        out: &mut [bool],
-    )
-        requires readable { Readable self (tables peers.now snapshot_keys.now contested.now) starts }
-        requires n_value { (fits (length keys.now) w n ≡ true) × (n ≤ length out.old) }
-        ensures { out.new ≡ told readers.hot_elsewhere (state_of self (tables peers.now snapshot_keys.now contested.now)) w n
-            keys.now out.old }
-    {
-        let mut i = 0;
-        while i < n {
-            out[i] = self.is_primary_of_any(peers, snapshot_keys, contested, starts, keys[i * w]);
-            i += 1;
-        }
     }
 
     // How many keys are known: those of the snapshots, and those that are contested alone.
@@ -232,10 +172,8 @@ impl PeerDemand {
         let n = self.snapshot_keys;
         let m = self.contested;
         let mut count = n;
-        let mut i = 0;
-        while i < m {
+        for i in 0..m {
             count += peer_heard::count_unlisted(snapshot_keys, n, contested, i);
-            i += 1;
         }
         count
     }
@@ -248,17 +186,11 @@ impl PeerDemand {
         contested: &[u64],
         peer: PeerId,
         key: u64,
-    ) -> HeardAnswer
+    ) -> Result<Option<Heard>, Refusal>
         ensures { Gets self (tables peers.now snapshot_keys.now contested.now) peer.0 key result }
     {
-        let asked = self.ask(peers, snapshot_keys, contested);
-        if asked != 0 {
-            return HeardAnswer::No(asked);
-        }
-        match self.heard_by(peers, snapshot_keys, contested, peer.0, key) {
-            Said::Silence => HeardAnswer::Nothing,
-            Said::Of(h) => HeardAnswer::Is(h),
-        }
+        self.ask(peers, snapshot_keys, contested)?;
+        Ok(self.heard_by(peers, snapshot_keys, contested, peer.0, key))
     }
 
     // The sum of the peers' demand for a key, in ascending id.
@@ -268,15 +200,13 @@ impl PeerDemand {
         snapshot_keys: &[u64],
         contested: &[u64],
         key: u64,
-    ) -> TotalAnswer
+    ) -> Result<f64, Refusal>
         ensures { Totals self (tables peers.now snapshot_keys.now contested.now) key result }
     {
         let keys = [key];
         let mut out = [0.0];
-        match self.total_of_each(peers, snapshot_keys, contested, &keys, 1, 1, &mut out) {
-            ChangeAnswer::No(no) => TotalAnswer::No(no),
-            ChangeAnswer::Done => TotalAnswer::Is(out[0]),
-        }
+        self.total_of_each(peers, snapshot_keys, contested, &keys, 1, 1, &mut out)?;
+        Ok(out[0])
     }
 
     // Whether a peer has the key as primary.
@@ -286,15 +216,13 @@ impl PeerDemand {
         snapshot_keys: &[u64],
         contested: &[u64],
         key: u64,
-    ) -> FlagAnswer
+    ) -> Result<bool, Refusal>
         ensures { TellsHotElsewhere self (tables peers.now snapshot_keys.now contested.now) key result }
     {
         let keys = [key];
         let mut out = [false];
-        match self.hot_elsewhere_of_each(peers, snapshot_keys, contested, &keys, 1, 1, &mut out) {
-            ChangeAnswer::No(no) => FlagAnswer::No(no),
-            ChangeAnswer::Done => FlagAnswer::Is(out[0]),
-        }
+        self.hot_elsewhere_of_each(peers, snapshot_keys, contested, &keys, 1, 1, &mut out)?;
+        Ok(out[0])
     }
 
     // The total of the key, the first word, of each of n records of w words, for one test of the tables.
@@ -307,18 +235,21 @@ impl PeerDemand {
         w: usize,
         n: usize,
         out: &mut [f64],
-    ) -> ChangeAnswer
+    ) -> Result<(), Refusal>
         ensures { TotalsEach self (tables peers.now snapshot_keys.now contested.now) w n keys.now out.old result
             out.new }
     {
         let asked = self.ask_for_starts(peers, snapshot_keys, contested);
-        let no = peer_state::ask_for_each(asked.no, keys.len(), w, n, out.len());
-        if no != 0 {
-            return ChangeAnswer::No(no);
-        }
-        let starts = asked.starts;
-        self.sum_each(peers, snapshot_keys, contested, starts, keys, w, n, out);
-        ChangeAnswer::Done
+        let starts = peer_state::ask_for_each(asked, keys.len(), w, n, out.len())?;
+        let keys = Keys {
+            words: keys,
+            width: w,
+            count: n,
+        };
+        keys.tell_each(out, |key| {
+            self.sum_heard(peers, snapshot_keys, contested, &starts, key)
+        });
+        Ok(())
     }
 
     // Whether a peer has the key, the first word, of each of n records of w words as primary, for one
@@ -332,51 +263,56 @@ impl PeerDemand {
         w: usize,
         n: usize,
         out: &mut [bool],
-    ) -> ChangeAnswer
+    ) -> Result<(), Refusal>
         ensures { TellsHotElsewhereEach self (tables peers.now snapshot_keys.now contested.now) w n keys.now out.old result
             out.new }
     {
         let asked = self.ask_for_starts(peers, snapshot_keys, contested);
-        let no = peer_state::ask_for_each(asked.no, keys.len(), w, n, out.len());
-        if no != 0 {
-            return ChangeAnswer::No(no);
-        }
-        let starts = asked.starts;
-        if peer_each::are_many_ascending(keys, w, n) {
-            peer_each::primary_of_ascending(
+        let starts = peer_state::ask_for_each(asked, keys.len(), w, n, out.len())?;
+        let keys = Keys {
+            words: keys,
+            width: w,
+            count: n,
+        };
+        if keys.are_many_ascending() {
+            keys.primary_of_ascending(
                 snapshot_keys,
                 self.snapshot_keys,
                 contested,
                 self.contested,
-                keys,
-                w,
-                n,
                 out,
             );
-            return ChangeAnswer::Done;
+            return Ok(());
         }
-        self.primary_each(peers, snapshot_keys, contested, starts, keys, w, n, out);
-        ChangeAnswer::Done
+        keys.tell_each(out, |key| {
+            self.is_primary_of_any(peers, snapshot_keys, contested, &starts, key)
+        });
+        Ok(())
     }
 
     // How many keys there are a word on, counted peer by peer.
-    pub fn len(self, peers: &[u64], snapshot_keys: &[u64], contested: &[u64]) -> LenAnswer
+    pub fn len(
+        self,
+        peers: &[u64],
+        snapshot_keys: &[u64],
+        contested: &[u64],
+    ) -> Result<usize, Refusal>
         ensures { Counts self (tables peers.now snapshot_keys.now contested.now) result }
     {
-        let asked = self.ask(peers, snapshot_keys, contested);
-        if asked != 0 {
-            return LenAnswer::No(asked);
-        }
-        LenAnswer::Is(self.count_keys(peers, snapshot_keys, contested))
+        self.ask(peers, snapshot_keys, contested)?;
+        Ok(self.count_keys(peers, snapshot_keys, contested))
     }
 
     // Whether there are none.
-    pub fn is_empty(self, peers: &[u64], snapshot_keys: &[u64], contested: &[u64]) -> FlagAnswer
+    pub fn is_empty(
+        self,
+        peers: &[u64],
+        snapshot_keys: &[u64],
+        contested: &[u64],
+    ) -> Result<bool, Refusal>
         ensures { TellsEmpty self (tables peers.now snapshot_keys.now contested.now) result }
     {
-        match self.len(peers, snapshot_keys, contested) {
-            LenAnswer::No(no) => FlagAnswer::No(no),
-            LenAnswer::Is(n) => FlagAnswer::Is(n == 0),
-        }
+        let n = self.len(peers, snapshot_keys, contested)?;
+        Ok(n == 0)
     }
 }

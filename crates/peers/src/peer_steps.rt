@@ -1,6 +1,6 @@
 // The steps of a departure and of expiry: records taken out, kept by a test, or changed, in one
 // lent table.
-ghost use Rattle.std.specs.Prelude.{◌≡◌, ◌+◌, ◌*◌, ◌<◌, ◌≤◌, true, cond, ◌&&◌, map, length, if◌then◌else◌, nat_lt, slice_index};
+ghost use Rattle.std.specs.Prelude.{◌≡◌, ℕ, IfSome, ◌+◌, ◌*◌, ◌<◌, ◌≤◌, true, cond, ◌&&◌, map, length, if◌then◌else◌, nat_lt, slice_index};
 ghost use Rattle.records.specs.Words.{copy_within};
 ghost use Rattle.records.specs.Records.{records, overwritten};
 ghost use Rattle.questions.specs.Lists.{only, those, replaced};
@@ -13,7 +13,6 @@ ghost use Rattle.peers.specs.Peers.Steps.Stays.{place_of, stays_contested, is_st
 
 use crate::peer_demand::{CONTESTED_WORDS, PEER_WORDS, SNAPSHOT_KEY_WORDS};
 use crate::peer_runs;
-use float::whole;
 
 // One step of keeping records: the one at `i` goes behind the `kept` first ones, if it stays and is
 // not there. Tells how many are kept.
@@ -25,11 +24,10 @@ fn keep_record(t: &mut [u64], w: usize, i: usize, kept: usize, stays: bool) -> u
     if !stays {
         return kept;
     }
-    if kept == i {
-        return kept + 1;
+    if kept < i {
+        let at = i * w;
+        records::copy_words(t, at, at + w, kept * w);
     }
-    let at = i * w;
-    records::copy_words(t, at, at + w, kept * w);
     kept + 1
 }
 
@@ -37,62 +35,67 @@ fn keep_record(t: &mut [u64], w: usize, i: usize, kept: usize, stays: bool) -> u
 fn is_fresh(reading: u64, max_age: u64, heard_at: u64) -> bool
     ensures { result ≡ is_fresh reading max_age heard_at }
 {
-    reading < whole::saturating_add(heard_at, max_age)
+    reading < heard_at.saturating_add(max_age)
 }
 
-// Where the peer `id` is among the n peers; n, where it is not. It is looked for at `near` first:
-// the keys of a peer stand together.
-fn peer_place(peers: &[u64], n: usize, id: u64, near: usize) -> usize
-    requires { in_order 12 1 n peers.now ≡ true }
-    ensures { result ≡ place_of n id peers.now }
-{
-    if near < n {
-        if peers[near * PEER_WORDS] == id {
-            return near;
+// The first `count` peers of a table, in their order.
+#[derive(Clone, Copy)]
+struct Peers<'a> {
+    words: &'a [u64],
+    count: usize,
+    ghost order: { in_order 12 1 count words.now ≡ true },
+}
+
+impl<'a> Peers<'a> {
+    // Where the peer `id` is, if it is there. It is looked for at `near` first: the keys of a peer stand
+    // together.
+    fn place(self, id: u64, near: usize) -> Option<usize>
+        ensures place { result ≡ place_of self.entry.count id self.entry.words.now }
+        ensures within { IfSome result (λ i. i < self.entry.count) }
+    {
+        if near < self.count && self.words[near * PEER_WORDS] == id {
+            return Some(near);
+        }
+        match records::find(self.words, PEER_WORDS, 1, self.count, id, 0) {
+            records::Found::At(i) => Some(i),
+            _ => None,
         }
     }
-    let found = records::find(peers, PEER_WORDS, 1, n, id, 0);
-    match found {
-        records::Found::At(i) => i,
-        records::Found::Gap(_) => n,
-        records::Found::Unfit => n,
-    }
-}
 
-// Whether a peer is at this place and has a snapshot.
-fn has_snapshot(peers: &[u64], n: usize, place: usize) -> bool
-    requires { in_order 12 1 n peers.now ≡ true }
-    ensures { result ≡ (nat_lt place n &&
-        has_snapshot (map peer_of (records 12 n peers.now)) (slice_index peers.now (place * 12))) }
-{
-    if place >= n {
-        return false;
+    // Whether a peer is at this place and has a snapshot.
+    fn has_snapshot(self, place: Option<usize>) -> bool
+        requires { IfSome place (λ i. i < self.count) }
+        ensures { (id : ℕ) → place ≡ place_of self.entry.count id self.entry.words.now
+            → result ≡ has_snapshot (map peer_of (records 12 self.entry.count self.entry.words.now)) id }
+    {
+        let Some(i) = place else {
+            return false;
+        };
+        self.words[i * PEER_WORDS + 3] != 0
     }
-    peers[place * PEER_WORDS + 3] != 0
-}
 
-// Whether a peer is at this place and a contested key of it, heard then, stays.
-fn stays_contested(
-    peers: &[u64],
-    n: usize,
-    place: usize,
-    heard_at: u64,
-    reading: u64,
-    max_age: u64,
-) -> bool
-    requires { in_order 12 1 n peers.now ≡ true }
-    ensures { result ≡ (nat_lt place n &&
-        stays_contested reading max_age (map peer_of (records 12 n peers.now))
-        (slice_index peers.now (place * 12)) heard_at) }
-{
-    if place >= n {
-        return false;
+    // Whether a peer is at this place and a contested key of it, heard then, stays.
+    fn stays_contested(
+        self,
+        place: Option<usize>,
+        heard_at: u64,
+        reading: u64,
+        max_age: u64,
+    ) -> bool
+        requires { IfSome place (λ i. i < self.count) }
+        ensures { (id : ℕ) → place ≡ place_of self.entry.count id self.entry.words.now
+            → result ≡ stays_contested reading max_age (map peer_of (records 12 self.entry.count self.entry.words.now)) id heard_at }
+    {
+        let Some(i) = place else {
+            return false;
+        };
+        let at = i * PEER_WORDS;
+        if self.words[at + 1] != 0 {
+            reading < self.words[at + 2]
+        } else {
+            is_fresh(reading, max_age, heard_at)
+        }
     }
-    let at = place * PEER_WORDS;
-    if peers[at + 1] != 0 {
-        return reading < peers[at + 2];
-    }
-    is_fresh(reading, max_age, heard_at)
 }
 
 // Keeps the contested keys that stay, and tells how many.
@@ -111,44 +114,39 @@ pub(crate) fn retain_contested(
         (contested_of x).peer (contested_of x).heard_at) (records 6 c contested.old))
         contested.old contested.new }
 {
-    let mut place = 0;
+    let peers = Peers {
+        words: peers,
+        count: n,
+    };
+    let mut near = 0;
     let mut kept = 0;
-    let mut i = 0;
-    while i < c {
+    for i in 0..c {
         let at = i * CONTESTED_WORDS;
-        place = peer_place(peers, n, contested[at], place);
-        let stays = stays_contested(peers, n, place, contested[at + 5], reading, max_age);
+        let place = peers.place(contested[at], near);
+        near = place.unwrap_or(near);
+        let stays = peers.stays_contested(place, contested[at + 5], reading, max_age);
         kept = keep_record(contested, CONTESTED_WORDS, i, kept, stays);
-        i += 1;
     }
     kept
 }
 
 // Whether a peer that is not held has no snapshot or one that is too old.
+#[tactic(auto, unfolding(crate::specs::Peers::Steps::Stays::is_stale))]
 fn is_stale(held: u64, taken: u64, heard_at: u64, reading: u64, max_age: u64) -> bool
     ensures { result ≡ is_stale reading max_age (time_of held 0) (snapshot_of taken 0 0 heard_at) }
 {
-    if held != 0 {
-        return false;
-    }
-    if taken == 0 {
-        return true;
-    }
-    !is_fresh(reading, max_age, heard_at)
+    held == 0 && (taken == 0 || !is_fresh(reading, max_age, heard_at))
 }
 
 // The words of a peer, without a snapshot that is too old and its past epochs.
-fn aged_words(words: &[u64], reading: u64, max_age: u64) -> [u64; 12]
-    requires { (length words.now ≡ 12) × (peer_words (peer_of words.now) ≡ words.now) }
-    ensures { result ≡ peer_words (age_peer is_held reading max_age (peer_of words.now)) }
+fn aged_words(words: [u64; PEER_WORDS], reading: u64, max_age: u64) -> [u64; PEER_WORDS]
+    requires { peer_words (peer_of words) ≡ words }
+    ensures { result ≡ peer_words (age_peer is_held reading max_age (peer_of words)) }
 {
     if is_stale(words[1], words[3], words[6], reading, max_age) {
         return [words[0], 0, 0, 0, 0, 0, 0, 0, 0, 0, 0, 0];
     }
-    [
-        words[0], words[1], words[2], words[3], words[4], words[5], words[6], words[7], words[8],
-        words[9], words[10], words[11],
-    ]
+    words
 }
 
 // Whether a peer stays, of which these words are known.
@@ -168,10 +166,7 @@ fn stays_peer(
     if held != 0 {
         return reading < until;
     }
-    if taken != 0 {
-        return true;
-    }
-    peer_runs::has_run(contested, CONTESTED_WORDS, c, id)
+    taken != 0 || peer_runs::has_run(contested, CONTESTED_WORDS, c, id)
 }
 
 // One step of keeping peers: the words of one go behind the `kept` first ones, if it stays. Tells
@@ -184,9 +179,8 @@ fn keep_peer(peers: &mut [u64], n: usize, kept: usize, words: &[u64], stays: boo
 {
     if stays {
         records::overwrite(peers, PEER_WORDS, n, kept, words);
-        return kept + 1;
     }
-    kept
+    kept + usize::from(stays)
 }
 
 // Keeps the peers that stay once each has lost a snapshot that is too old, and tells how many.
@@ -208,20 +202,22 @@ pub(crate) fn retain_peers(
         (records 12 n peers.old))) peers.old peers.new }
 {
     let mut kept = 0;
-    let mut i = 0;
-    while i < n {
+    for i in 0..n {
         let at = i * PEER_WORDS;
-        let words = aged_words(&peers[at..at + PEER_WORDS], reading, max_age);
+        let mut words = [0; PEER_WORDS];
+        words.copy_from_slice(&peers[at..at + PEER_WORDS]);
+        words = aged_words(words, reading, max_age);
         let stays = stays_peer(
             contested, c, words[0], words[1], words[2], words[3], reading,
         );
         kept = keep_peer(peers, n, kept, &words, stays);
-        i += 1;
     }
     kept
 }
 
-// Keeps the snapshot keys whose peer has a snapshot, and tells how many.
+// Keeps the snapshot keys whose peer has a snapshot, and tells how many. The loop is that of
+// `retain_contested`: one function for both takes a closure for the test, and the closures' clauses are
+// longer than the loops.
 pub(crate) fn retain_snapshot_keys(
     peers: &[u64],
     n: usize,
@@ -234,15 +230,18 @@ pub(crate) fn retain_snapshot_keys(
         (records 4 k snapshot_keys.old)) snapshot_keys.old
         snapshot_keys.new }
 {
-    let mut place = 0;
+    let peers = Peers {
+        words: peers,
+        count: n,
+    };
+    let mut near = 0;
     let mut kept = 0;
-    let mut i = 0;
-    while i < k {
+    for i in 0..k {
         let at = i * SNAPSHOT_KEY_WORDS;
-        place = peer_place(peers, n, snapshot_keys[at], place);
-        let stays = has_snapshot(peers, n, place);
+        let place = peers.place(snapshot_keys[at], near);
+        near = place.unwrap_or(near);
+        let stays = peers.has_snapshot(place);
         kept = keep_record(snapshot_keys, SNAPSHOT_KEY_WORDS, i, kept, stays);
-        i += 1;
     }
     kept
 }
@@ -256,14 +255,9 @@ pub(crate) fn hold_peer(peers: &mut [u64], n: usize, id: u64, until: u64)
         (those first_word id (records 12 n peers.old)))
         (records 12 n peers.old)) peers.old peers.new }
 {
-    let found = records::find(peers, PEER_WORDS, 1, n, id, 0);
-    match found {
-        records::Found::At(i) => {
-            let at = i * PEER_WORDS;
-            peers[at + 1] = 1;
-            peers[at + 2] = until;
-        }
-        records::Found::Gap(_) => {}
-        records::Found::Unfit => {}
+    if let records::Found::At(i) = records::find(peers, PEER_WORDS, 1, n, id, 0) {
+        let at = i * PEER_WORDS;
+        peers[at + 1] = 1;
+        peers[at + 2] = until;
     }
 }

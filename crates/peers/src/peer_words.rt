@@ -9,28 +9,19 @@ use crate::peer_scan;
 pub fn is_peer_record(words: &[u64]) -> bool
     ensures { result ≡ is_peer_record words.now }
 {
-    if words.len() != PEER_WORDS {
-        return false;
-    }
-    peer_scan::are_peer_words(words)
+    words.len() == PEER_WORDS && peer_scan::are_peer_words(words)
 }
 
 // Whether the words are those of a valid snapshot key.
 pub fn is_snapshot_key_record(words: &[u64]) -> bool
     ensures { result ≡ is_snapshot_key_record words.now }
 {
-    if words.len() != SNAPSHOT_KEY_WORDS {
-        return false;
-    }
-    peer_scan::are_key_words(words, 0, SNAPSHOT_KEY_WORDS)
+    words.len() == SNAPSHOT_KEY_WORDS && peer_scan::are_key_words(words)
 }
 
 // Whether the words are those of a valid contested key.
 pub fn is_contested_record(words: &[u64]) -> bool
     ensures { result ≡ is_contested_record words.now }
 {
-    if words.len() != CONTESTED_WORDS {
-        return false;
-    }
-    peer_scan::are_key_words(words, 0, CONTESTED_WORDS)
+    words.len() == CONTESTED_WORDS && peer_scan::are_key_words(words)
 }

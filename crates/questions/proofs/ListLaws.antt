@@ -3,13 +3,14 @@ use Prim.Native.Nat.{ℕ, zero, suc, ◌≤◌, ◌<◌, zero-le, suc-le-suc}
 use mathlib.Core.Path.{◌≡◌, refl, ap, ◌∙◌}
 use mathlib.Core.Bool.{Bool, true, false, cond, ◌&&◌, ◌||◌}
 use mathlib.Core.List.{List, [], ◌∷◌, map}
-use mathlib.Core.Option.{Option, none, some}
 use native.Mathlib.Nat.{le_of_suc-le-suc, not-suc-le-zero}
 use lib.Dec.{eqb}
 use lib.ListN.{length, take, drop, get_or, length-map, drop_of_length-le}
 use lib.Seq.{drop-cons}
 use Rattle.questions.specs.Lists.{only, all, any, first, present, those}
 use Rattle.questions.proofs.Tests.{both, and_first, and_second}
+use Rattle.std.specs.declared.option.Option.{Option}
+use Rattle.std.specs.declared.option.Option.TheVariants.{None, Some}
 
 pub map-map : {A B C : Type 0} (f : B → C) (g : A → B) (xs : List A) → map f (map g xs) ≡ map (λ x. f (g x)) xs
 map-map f g [] = refl
@@ -17,8 +18,8 @@ map-map f g (x ∷ xs) = ap (λ l. f (g x) ∷ l) (map-map f g xs)
 
 -- an option's value, mapped
 abbrev pub mapped : {A B : Type 0} → (A → B) → Option A → Option B
-mapped f none = none
-mapped f (some x) = some (f x)
+mapped f None = None
+mapped f (Some x) = Some (f x)
 
 -- ---- through a map
 module _ {A B : Type 0} (f : A → B) where
@@ -135,7 +136,7 @@ module _ {A : Type 0} (p : A → Bool) (d : A) where
   none_pass (x ∷ xs) h =
       ap (λ (b : Bool). cond b (x ∷ only p xs) (only p xs)) (h 0 (suc-le-suc zero-le)) ∙ none_pass xs (λ i l. h (suc i) (suc-le-suc l))
 
-  pub first-pass : (xs : List A) (i : ℕ) → i < length xs → ((j : ℕ) → j < i → p (get_or xs j d) ≡ false) → p (get_or xs i d) ≡ true → first (only p xs) ≡ some (get_or xs i d)
+  pub first-pass : (xs : List A) (i : ℕ) → i < length xs → ((j : ℕ) → j < i → p (get_or xs j d) ≡ false) → p (get_or xs i d) ≡ true → first (only p xs) ≡ Some (get_or xs i d)
   unfolding only
   first-pass [] i l h e = absurd (not-suc-le-zero l)
   first-pass (x ∷ xs) zero l h e = ap (λ (b : Bool). first (cond b (x ∷ only p xs) (only p xs))) e

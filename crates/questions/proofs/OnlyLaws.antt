@@ -3,7 +3,6 @@ use mathlib.Core.Path.{◌≡◌, refl, sym, ap, ◌∙◌, subst}
 use mathlib.Core.Bool.{Bool, true, false, cond, not, ◌&&◌, ◌||◌}
 use mathlib.Core.List.{List, [], ◌∷◌, ◌++◌, map, append-nil}
 use mathlib.Core.Logic.{◌⊎◌, inl, inr, ⊎_elim}
-use mathlib.Core.Option.{some}
 use Prim.Native.Nat.{ℕ, suc, ◌+◌, ◌≤◌, ◌<◌, zero-le, suc-le-suc}
 use native.Mathlib.Omega.{arith}
 use borrow.Author.Tests.{ltb-true, ltb-false, lt-ltb, le-ltb, eq-eqb, ne_eqb, eqb-true, eqb-false}
@@ -12,6 +11,7 @@ use lib.ListN.{length, length-append}
 use Rattle.questions.proofs.Tests.{contradiction, split, both, and_intro, or_right, or-false, eqb-self}
 use Rattle.questions.specs.Lists.{only, all, any, first, those, replaced}
 use Rattle.questions.proofs.ListLaws.{only-map}
+use Rattle.std.specs.declared.option.Option.TheVariants.{Some}
 
 -- ---- those that pass
 
@@ -182,7 +182,7 @@ all_two p q r [] f a b = refl
 all_two p q r (x ∷ xs) f a b = and_intro (r x) (all r xs) (f x (both (p x) (all p xs) a).0 (both (q x) (all q xs) b).0) (all_two p q r xs f (both (p x) (all p xs) a).1 (both (q x) (all q xs) b).1)
 
 -- the first of them
-pub first_passes : {A : Type 0} (p : A → Bool) (xs : List A) → all p xs ≡ true → (x : A) → first xs ≡ some x → p x ≡ true
+pub first_passes : {A : Type 0} (p : A → Bool) (xs : List A) → all p xs ≡ true → (x : A) → first xs ≡ Some x → p x ≡ true
 unfolding all
 first_passes p [] a x e = let z : ◌≡◌ {A = ℕ} 0 1 = cc in absurd (omega arith)
 first_passes p (y ∷ ys) a x e = let q : y ≡ x = cc in subst (λ z. p z ≡ true) q (both (p y) (all p ys) a).0
@@ -288,9 +288,9 @@ module _ {A : Type 0} (number : A → ℕ) (a : ℕ) (new xs : List A) (en : all
       let at : A → Bool = λ x. eqb (number x) m in
       let low : A → Bool = λ x. ltb (number x) a in
       let high : A → Bool = λ x. ltb a (number x) in
-      let none : only at new ≡ [] = only-nothing at new (all-imply (λ x. eqb (number x) a) (λ x. not (at x)) new (λ x e. ap not (ne_eqb (number x) m (λ q. h (sym q ∙ eqb-true (number x) a e)))) en) in
+      let None : only at new ≡ [] = only-nothing at new (all-imply (λ x. eqb (number x) a) (λ x. not (at x)) new (λ x e. ap not (ne_eqb (number x) m (λ q. h (sym q ∙ eqb-true (number x) a e)))) en) in
       only-append at (only low xs) (new ++ only high xs)
-      ∙ ap (λ l. only at (only low xs) ++ l) (only-append at new (only high xs) ∙ ap (λ l. l ++ only at (only high xs)) none)
+      ∙ ap (λ l. only at (only low xs) ++ l) (only-append at new (only high xs) ∙ ap (λ l. l ++ only at (only high xs)) None)
       ∙ split (ltb m a)
       (λ e.
       let l : m < a = ltb-true m a e in
@@ -308,15 +308,15 @@ module _ {A : Type 0} (number : A → ℕ) (a : ℕ) (new xs : List A) (en : all
       let high : A → Bool = λ x. ltb a (number x) in
       let below : only low (only low xs ++ (new ++ only high xs)) ≡ only low xs =
       only-append low (only low xs) (new ++ only high xs)
-      ∙ (λ i. only-within low low (λ x e. e) xs i ++ (only-append low new (only high xs) ∙ (λ j. none low (λ x e. le-ltb (number x) a (omega (arith, e))) j ++ only-apart high low (λ x e. le-ltb (number x) a (omega (arith, ltb-true a (number x) e))) xs j)) i)
+      ∙ (λ i. only-within low low (λ x e. e) xs i ++ (only-append low new (only high xs) ∙ (λ j. None low (λ x e. le-ltb (number x) a (omega (arith, e))) j ++ only-apart high low (λ x e. le-ltb (number x) a (omega (arith, ltb-true a (number x) e))) xs j)) i)
       ∙ append-nil (only low xs) in
       let above : only high (only low xs ++ (new ++ only high xs)) ≡ only high xs =
       only-append high (only low xs) (new ++ only high xs)
-      ∙ (λ i. only-apart low high (λ x e. le-ltb a (number x) (omega (arith, ltb-true (number x) a e))) xs i ++ (only-append high new (only high xs) ∙ (λ j. none high (λ x e. le-ltb a (number x) (omega (arith, e))) j ++ only-within high high (λ x e. e) xs j)) i) in
+      ∙ (λ i. only-apart low high (λ x e. le-ltb a (number x) (omega (arith, ltb-true (number x) a e))) xs i ++ (only-append high new (only high xs) ∙ (λ j. None high (λ x e. le-ltb a (number x) (omega (arith, e))) j ++ only-within high high (λ x e. e) xs j)) i) in
       (λ i. below i ++ (last ++ above i))
     where
-      none : (p : A → Bool) → ((x : A) → number x ≡ a → p x ≡ false) → only p new ≡ []
-      none p f = only-nothing p new (all-imply (λ x. eqb (number x) a) (λ x. not (p x)) new (λ x e. ap not (f x (eqb-true (number x) a e))) en)
+      None : (p : A → Bool) → ((x : A) → number x ≡ a → p x ≡ false) → only p new ≡ []
+      None p f = only-nothing p new (all-imply (λ x. eqb (number x) a) (λ x. not (p x)) new (λ x e. ap not (f x (eqb-true (number x) a e))) en)
 
 -- ---- how many
 

@@ -1,2 +1,3 @@
 pub mod Questions
 pub mod Lists
+pub mod Refusals

@@ -1,6 +1,7 @@
 -- Lists by a test, and lists that ascend by a number. Definitions only.
 use Rattle.std.specs.Prelude.{ℕ, Bool, true, false, cond, ◌&&◌, ◌||◌, List, [], ◌∷◌, ◌++◌, ltb, eqb}
-use Rattle.std.proofs.Math.Option.{Option, none, some}
+use Rattle.std.specs.declared.option.Option.{Option}
+use Rattle.std.specs.declared.option.Option.TheVariants.{None, Some}
 
 -- the elements that pass the test
 unfoldable pub only : {A : Type 0} → (A → Bool) → List A → List A
@@ -16,12 +17,12 @@ any p [] = false
 any p (x ∷ xs) = p x || any p xs
 
 abbrev pub first : {A : Type 0} → List A → Option A
-first [] = none
-first (x ∷ xs) = some x
+first [] = None
+first (x ∷ xs) = Some x
 
 abbrev pub present : {A : Type 0} → Option A → Bool
-present none = false
-present (some x) = true
+present None = false
+present (Some x) = true
 
 -- those whose number is n
 unfoldable pub those : {A : Type 0} → (A → ℕ) → ℕ → List A → List A

@@ -1,11 +1,9 @@
 -- Records of w words, ordered by their first d words, in a list of words: what the contracts of `src/lib.rt` cite.
 -- They stand for the Rust's maps (document 01: 'HashMaps: ascending records', 'Lookup in ascending records is proved for all record widths together').
-use Rattle.std.specs.Prelude.{ℕ, zero, suc, ◌+◌, ◌-◌, ◌*◌, ◌/◌, ◌%◌, Bool, true, false, cond, ◌&&◌, ◌||◌, List, [], ◌∷◌, ◌++◌, ltb, leb, eqb, take, drop, get_or, length}
-use Rattle.std.proofs.Math.Option.{Option, none, some}
+use Rattle.std.specs.Prelude.{ℕ, zero, suc, ◌+◌, ◌-◌, ◌*◌, ◌/◌, ◌%◌, Bool, true, false, cond, ◌&&◌, ◌||◌, List, [], ◌∷◌, ◌++◌, ltb, leb, eqb, take, drop, get_or, length, Option, Some, None}
 use Rattle.records.specs.declared.Found.{Found}
 use Rattle.records.specs.declared.Found.TheVariants.{At, Gap, Unfit}
-use Rattle.records.specs.declared.Span.{Span}
-use Rattle.records.specs.declared.Span.TheVariants.{Between, NoSpan}
+use Rattle.std.specs.declared.ops.Range.{Range}
 
 -- ---- records and their words
 
@@ -91,16 +89,16 @@ unfoldable pub find_in : (w d n a b : ℕ) → List ℕ → Found
 find_in w d n a b xs = cond (keyed (length xs) w d n) (find d (key d (a ∷ b ∷ [])) (records w n xs)) Unfit
 
 -- from the first record whose first word is not below a, up to the first whose first word is above a
-unfoldable pub range_of : ℕ → List (List ℕ) → Span
-range_of a rs = Between (lower_bound 1 (a ∷ []) rs) (lower_bound 1 ((a + 1) ∷ []) rs)
+unfoldable pub range_of : ℕ → List (List ℕ) → Range ℕ
+range_of a rs = record { start = lower_bound 1 (a ∷ []) rs; end = lower_bound 1 ((a + 1) ∷ []) rs }
 
-unfoldable pub range_in : (w n a : ℕ) → List ℕ → Span
-range_in w n a xs = cond (fits (length xs) w n) (range_of a (records w n xs)) NoSpan
+unfoldable pub range_in : (w n a : ℕ) → List ℕ → Option (Range ℕ)
+range_in w n a xs = cond (fits (length xs) w n) (Some (range_of a (records w n xs))) None
 
 -- the record with the key k
 unfoldable pub lookup : ℕ → List ℕ → List (List ℕ) → Option (List ℕ)
-lookup d k [] = none
-lookup d k (r ∷ rs) = cond (same (key d r) k) (some r) (lookup d k rs)
+lookup d k [] = None
+lookup d k (r ∷ rs) = cond (same (key d r) k) (Some r) (lookup d k rs)
 
 -- ---- change
 

@@ -1,14 +1,19 @@
 // Answers, made of up to four values or a list, and how they are written.
 use crate::lent;
+use gcra::{Decision, Quota};
+use questions::Refusal;
+use std::cmp::Ordering;
+use std::fmt;
+use std::fmt::Write;
+use text::Output;
 
 // Room that the answer to a line may take.
 const ROOM: usize = 20480;
 
-// A value of an answer; `Refused` has a number of 01's questions, `Deny` the time to try again, and
-// `Unknown` answers what is no call. Words of a list follow some values: so many bits of floats or
-// flags, hot keys of three words, keys with their rates of four, checks of three; and behind the rate
-// of the settings the rest of them. `Image` is the word before an image's length and its `Hash`;
-// where the answer is `Dump`, the image itself is still to be written.
+// A value of an answer; `Unknown` answers what is no call. Words of a list follow some values: so many
+// bits of floats or flags, hot keys of three words, keys with their rates of four, checks of three;
+// and behind the rate of the settings the rest of them. `Image` is the word before an image's length
+// and its `Hash`; where the answer is `Dump`, the image itself is still to be written.
 #[derive(Clone, Copy)]
 pub(crate) enum Value {
     Nothing,
@@ -16,25 +21,118 @@ pub(crate) enum Value {
     Missing,
     Done,
     NoState,
-    Allow,
-    Less,
-    Equal,
-    Greater,
-    Refused(u8),
-    Deny(u64),
-    Whole(u64),
-    Float64(f64),
-    Float32(f32),
-    Floats(u64),
-    Flags(u64),
-    HotKeys(u64),
-    KeysWithRates(u64),
-    Checks(u64),
-    Settings(f64),
     Slash,
     Image,
-    Hash(u64),
     Dump,
+    Order(Ordering),
+    Refused(Refusal),
+    Decided(Decision),
+    Whole(u64),
+    Hash(u64),
+    Float64(f64),
+    Float32(f32),
+    Settings(f64),
+    Floats(usize),
+    Flags(usize),
+    HotKeys(usize),
+    KeysWithRates(usize),
+    Checks(usize),
+}
+
+impl From<()> for Value {
+    fn from(done: ()) -> Self {
+        Value::Done
+    }
+}
+
+impl From<bool> for Value {
+    fn from(yes: bool) -> Self {
+        Value::Whole(yes as u64)
+    }
+}
+
+impl From<u64> for Value {
+    fn from(n: u64) -> Self {
+        Value::Whole(n)
+    }
+}
+
+impl From<u32> for Value {
+    fn from(n: u32) -> Self {
+        Value::Whole(n as u64)
+    }
+}
+
+impl From<usize> for Value {
+    fn from(n: usize) -> Self {
+        Value::Whole(n as u64)
+    }
+}
+
+impl From<f64> for Value {
+    fn from(x: f64) -> Self {
+        Value::Float64(x)
+    }
+}
+
+impl From<Decision> for Value {
+    fn from(decision: Decision) -> Self {
+        Value::Decided(decision)
+    }
+}
+
+impl From<Option<u64>> for Value {
+    fn from(n: Option<u64>) -> Self {
+        n.map_or(Value::Missing, Value::Whole)
+    }
+}
+
+impl Value {
+    // What a call answers, or that it is refused.
+    pub(crate) fn of<T>(answer: Result<T, Refusal>) -> Value
+    where
+        Value: From<T>,
+    {
+        answer.map_or_else(Value::Refused, Value::from)
+    }
+}
+
+// By its bits, every NaN as `nan`.
+fn fmt_float<W: fmt::Write>(x: f64, f: &mut fmt::Formatter<W>) -> fmt::Result {
+    if x != x {
+        f.write_str("nan")
+    } else {
+        write!(f, "{:016x}", float::to_bits(x))
+    }
+}
+
+impl fmt::Display for Value {
+    fn fmt<W: fmt::Write>(&self, f: &mut fmt::Formatter<W>) -> fmt::Result {
+        match *self {
+            Value::Nothing | Value::Dump => Ok(()),
+            Value::Unknown => f.write_str("?"),
+            Value::Missing => f.write_str("none"),
+            Value::Done => f.write_str("ok"),
+            Value::NoState => f.write_str("nostate"),
+            Value::Slash => f.write_str("/"),
+            Value::Image => f.write_str("image"),
+            Value::Order(Ordering::Less) => f.write_str("Less"),
+            Value::Order(Ordering::Equal) => f.write_str("Equal"),
+            Value::Order(Ordering::Greater) => f.write_str("Greater"),
+            Value::Refused(question) => write!(f, "no {}", question.number()),
+            Value::Decided(Decision::Allow) => f.write_str("allow"),
+            Value::Decided(Decision::Deny { retry_at }) => write!(f, "deny {retry_at}"),
+            Value::Whole(n) => write!(f, "{n}"),
+            Value::Hash(hash) => write!(f, "{hash:016x}"),
+            Value::Float64(x) | Value::Settings(x) => fmt_float(x, f),
+            Value::Float32(x) => write!(f, "{:08x}", float::f32_to_bits(x)),
+            Value::Floats(n)
+            | Value::Flags(n)
+            | Value::HotKeys(n)
+            | Value::KeysWithRates(n)
+            | Value::Checks(n) => write!(f, "{n}"),
+        }
+    }
 }
 
 // The values of an answer in their order. Where the first is nothing no line is written.
@@ -46,134 +144,115 @@ pub(crate) struct Answer {
     pub(crate) fourth: Value,
 }
 
-pub(crate) fn flag(yes: bool) -> Value {
-    if yes {
-        Value::Whole(1)
-    } else {
-        Value::Whole(0)
+// What a call answers, and what there is after it.
+#[derive(Clone, Copy)]
+pub(crate) struct Done<S> {
+    pub(crate) answer: Answer,
+    pub(crate) state: S,
+}
+
+pub(crate) fn three(first: Value, second: Value, third: Value) -> Answer {
+    Answer {
+        first,
+        second,
+        third,
+        fourth: Value::Nothing,
     }
 }
 
 pub(crate) fn two(first: Value, second: Value) -> Answer {
-    Answer {
-        first,
-        second,
-        third: Value::Nothing,
-        fourth: Value::Nothing,
-    }
+    three(first, second, Value::Nothing)
 }
 
 pub(crate) fn one(value: Value) -> Answer {
     two(value, Value::Nothing)
 }
 
-pub(crate) fn refused(question: u8) -> Answer {
-    one(Value::Refused(question))
+impl<S> Done<S> {
+    // An answer of one value.
+    pub(crate) fn said(value: Value, state: S) -> Done<S> {
+        Done {
+            answer: one(value),
+            state,
+        }
+    }
 }
 
-pub(crate) fn unknown() -> Answer {
-    one(Value::Unknown)
+// What a call that makes something answers, and what there is after it: what was before where it is
+// refused.
+pub(crate) fn made<T: Copy>(answer: Result<T, Refusal>, before: Option<T>) -> Done<Option<T>> {
+    match answer {
+        Err(question) => Done::said(Value::Refused(question), before),
+        Ok(made) => Done::said(Value::Done, Some(made)),
+    }
+}
+
+// What a call answers with one value, or that it is refused.
+pub(crate) fn of<T>(answer: Result<T, Refusal>) -> Answer
+where
+    Value: From<T>,
+{
+    one(Value::of(answer))
+}
+
+// What a call answers with several values, or that it is refused.
+pub(crate) fn several<T>(answer: Result<T, Refusal>) -> Answer
+where
+    Answer: From<T>,
+{
+    match answer {
+        Err(question) => one(Value::Refused(question)),
+        Ok(x) => Answer::from(x),
+    }
+}
+
+// The same of a call that might find nothing.
+pub(crate) fn found<T>(answer: Result<Option<T>, Refusal>) -> Answer
+where
+    Answer: From<T>,
+{
+    match answer {
+        Err(question) => one(Value::Refused(question)),
+        Ok(None) => one(Value::Missing),
+        Ok(Some(x)) => Answer::from(x),
+    }
+}
+
+impl From<Quota> for Answer {
+    fn from(quota: Quota) -> Self {
+        two(Value::from(quota.interval), Value::from(quota.burst))
+    }
 }
 
 pub(crate) fn is_there(value: Value) -> bool {
-    if let Value::Nothing = value {
-        false
-    } else {
-        true
-    }
-}
-
-fn put_order(out: &mut [u8], at: usize, value: Value) -> usize {
-    match value {
-        Value::Less => text::put(out, at, b"Less"),
-        Value::Equal => text::put(out, at, b"Equal"),
-        Value::Greater => text::put(out, at, b"Greater"),
-        _ => at,
-    }
-}
-
-fn put_word(out: &mut [u8], at: usize, value: Value) -> usize {
-    match value {
-        Value::Missing => text::put(out, at, b"none"),
-        Value::Done => text::put(out, at, b"ok"),
-        Value::NoState => text::put(out, at, b"nostate"),
-        Value::Slash => text::put(out, at, b"/"),
-        Value::Image => text::put(out, at, b"image"),
-        Value::Hash(hash) => text::put_hex(out, at, hash, 16),
-        _ => put_order(out, at, value),
-    }
-}
-
-// A word and a number behind it.
-fn put_with(out: &mut [u8], at: usize, word: &[u8], n: u64) -> usize {
-    let number = text::put(out, at, word);
-    text::put_decimal(out, number, n)
-}
-
-// By its bits, every NaN as `nan`.
-fn put_float64(out: &mut [u8], at: usize, x: f64) -> usize {
-    if x != x {
-        text::put(out, at, b"nan")
-    } else {
-        text::put_hex(out, at, float::to_bits(x), 16)
-    }
-}
-
-// The value that a list follows: how long it is, or the first of the settings.
-fn put_head(out: &mut [u8], at: usize, value: Value) -> usize {
-    match value {
-        Value::Floats(n) => text::put_decimal(out, at, n),
-        Value::Flags(n) => text::put_decimal(out, at, n),
-        Value::HotKeys(n) => text::put_decimal(out, at, n),
-        Value::KeysWithRates(n) => text::put_decimal(out, at, n),
-        Value::Checks(n) => text::put_decimal(out, at, n),
-        Value::Settings(rate) => put_float64(out, at, rate),
-        _ => put_word(out, at, value),
-    }
-}
-
-// A value is written where there is room, which a line's answer always has.
-pub(crate) fn put_value(out: &mut [u8], at: usize, value: Value) -> usize {
-    match value {
-        Value::Unknown => text::put(out, at, b"?"),
-        Value::Allow => text::put(out, at, b"allow"),
-        Value::Deny(retry_at) => put_with(out, at, b"deny ", retry_at),
-        Value::Refused(question) => put_with(out, at, b"no ", question as u64),
-        Value::Whole(n) => text::put_decimal(out, at, n),
-        Value::Float64(x) => put_float64(out, at, x),
-        Value::Float32(x) => text::put_hex(out, at, float::f32_to_bits(x) as u64, 8),
-        _ => put_head(out, at, value),
-    }
+    !matches!(value, Value::Nothing)
 }
 
 // A value behind others, if there is one.
-fn put_next(out: &mut [u8], at: usize, value: Value) -> usize {
-    if !is_there(value) {
-        return at;
+fn fmt_next<W: fmt::Write>(value: Value, f: &mut fmt::Formatter<W>) -> fmt::Result {
+    if is_there(value) {
+        write!(f, " {value}")
+    } else {
+        Ok(())
     }
-    let next = text::put(out, at, b" ");
-    put_value(out, next, value)
 }
 
-fn put_values(out: &mut [u8], at: usize, answer: Answer) -> usize {
-    let first = answer.first;
-    let second = answer.second;
-    let third = answer.third;
-    let fourth = answer.fourth;
-    let a = put_value(out, at, first);
-    let b = put_next(out, a, second);
-    let c = put_next(out, b, third);
-    put_next(out, c, fourth)
+impl fmt::Display for Answer {
+    fn fmt<W: fmt::Write>(&self, f: &mut fmt::Formatter<W>) -> fmt::Result {
+        write!(f, "{}", self.first)?;
+        fmt_next(self.second, f)?;
+        fmt_next(self.third, f)?;
+        fmt_next(self.fourth, f)
+    }
 }
 
 // How many words of the list belong to an answer; those of checks are apart.
-fn listed(value: Value) -> u64 {
+fn listed(value: Value) -> usize {
     match value {
-        Value::Floats(n) => n,
-        Value::Flags(n) => n,
-        Value::HotKeys(n) => lent::three_each(n),
-        Value::KeysWithRates(n) => lent::four_each(n),
-        Value::Settings(rate) => 8,
+        Value::Floats(n) | Value::Flags(n) => n,
+        Value::HotKeys(n) => lent::words_for(n, 3),
+        Value::KeysWithRates(n) => lent::words_for(n, 4),
+        Value::Settings(_) => 8,
         _ => 0,
     }
 }
@@ -181,91 +260,64 @@ fn listed(value: Value) -> u64 {
 // Whether word i of the list is a float: a hot key's demand, a key's three rates, alpha and the floor.
 fn is_float(value: Value, i: usize) -> bool {
     match value {
-        Value::Floats(n) => true,
-        Value::HotKeys(n) => i % 3 == 1,
-        Value::KeysWithRates(n) => i % 4 != 0,
-        Value::Settings(rate) => i == 1 || i == 2,
+        Value::Floats(_) => true,
+        Value::HotKeys(_) => i % 3 == 1,
+        Value::KeysWithRates(_) => i % 4 != 0,
+        Value::Settings(_) => i == 1 || i == 2,
         _ => false,
     }
 }
 
-// A word of the list, the bits of a float or a whole number.
-fn put_word_of(out: &mut [u8], at: usize, is_bits: bool, word: u64) -> usize {
-    let next = text::put(out, at, b" ");
-    if is_bits {
-        text::put_hex(out, next, word, 16)
-    } else {
-        text::put_decimal(out, next, word)
-    }
-}
-
 // The words of the list that belong to an answer, which begins with the value.
-fn put_list(out: &mut [u8], from: usize, value: Value, list: &[u64]) -> usize {
-    let n = listed(value);
-    let mut at = from;
-    let mut i = 0;
-    while i < list.len() {
-        if n <= i as u64 {
-            return at;
+fn put_list(out: &mut Output, value: Value, list: &[u64]) -> fmt::Result {
+    for (i, word) in list.iter().take(listed(value)).enumerate() {
+        if is_float(value, i) {
+            write!(out, " {word:016x}")?;
+        } else {
+            write!(out, " {word}")?;
         }
-        at = put_word_of(out, at, is_float(value, i), list[i]);
-        i += 1;
     }
-    at
-}
-
-// How many checks the list has.
-fn checks_of(value: Value) -> u64 {
-    if let Value::Checks(n) = value { n } else { 0 }
+    Ok(())
 }
 
 // One check by its three words: the number of the question, whether it is denied, the retry time.
-fn check_of(no: u64, denied: u64, retry_at: u64) -> Value {
+fn put_check(out: &mut Output, check: [u64; 3]) -> fmt::Result {
+    let [no, denied, retry_at] = check;
     if no != 0 {
-        return Value::Refused((no % 256) as u8);
+        write!(out, " / no {}", no % 256)
+    } else if denied != 0 {
+        write!(out, " / deny {retry_at}")
+    } else {
+        out.write_str(" / allow")
     }
-    if denied != 0 {
-        return Value::Deny(retry_at);
-    }
-    Value::Allow
 }
 
-fn put_check(out: &mut [u8], at: usize, check: Value) -> usize {
-    let next = text::put(out, at, b" / ");
-    put_value(out, next, check)
-}
-
-// So many checks of the list.
-fn put_checks(out: &mut [u8], from: usize, n: u64, list: &[u64]) -> usize {
-    let mut at = from;
-    let mut left = n;
-    let mut i = 0;
-    while 3 <= list.len() - i {
-        if left == 0 {
-            return at;
-        }
-        at = put_check(out, at, check_of(list[i], list[i + 1], list[i + 2]));
-        left -= 1;
-        i += 3;
+// The checks of the list that belong to an answer.
+fn put_checks(out: &mut Output, value: Value, list: &[u64]) -> fmt::Result {
+    let Value::Checks(n) = value else {
+        return Ok(());
+    };
+    let (checks, _) = list.as_chunks::<3>();
+    for check in checks.iter().take(n) {
+        put_check(out, *check)?;
     }
-    at
+    Ok(())
 }
 
 // Writes an answer, but not the end of its line.
-pub(crate) fn put(out: &mut [u8], at: usize, answer: Answer, list: &[u64]) -> usize {
-    let first = answer.first;
-    let end = put_values(out, at, answer);
-    let behind = put_list(out, end, first, list);
-    put_checks(out, behind, checks_of(first), list)
+pub(crate) fn put(out: &mut Output, answer: Answer, list: &[u64]) -> fmt::Result {
+    write!(out, "{answer}")?;
+    put_list(out, answer.first, list)?;
+    put_checks(out, answer.first, list)
 }
 
 // Ends the line of an answer, and writes what is ready where little room is left then.
-pub(crate) fn end_line(rt: &(impl Print + Eprint), out: &mut [u8], at: usize) -> usize {
-    let next = text::put(out, at, b"\n");
-    spare(rt, out, next)
+pub(crate) fn end_line(rt: &(impl Print + Eprint), out: &mut Output) -> fmt::Result {
+    out.write_str("\n")?;
+    spare(rt, out)
 }
 
 // Writes what is ready where there might be too little room for an answer.
-pub(crate) fn spare(rt: &(impl Print + Eprint), out: &[u8], at: usize) -> usize {
-    text::flush(rt, out, at, ROOM)
+pub(crate) fn spare(rt: &(impl Print + Eprint), out: &mut Output) -> fmt::Result {
+    out.flush(rt, ROOM)
 }

@@ -1,19 +1,16 @@
 // The calls on a lone estimator, the decay weight and a share.
+use crate::answers;
 use crate::answers::{Answer, Value};
+use crate::calls::Name;
 use crate::fields::Args;
-use crate::{answers, calls};
-use demand::allocation::{ShareAnswer, View};
+use demand::allocation::View;
 use demand::decay::decay_weight;
-use demand::demand::{Demand, DemandAnswer, RateAnswer, Times};
+use demand::demand::{Demand, Times};
 
-fn times_of(args: Args) -> Times {
-    if args.none {
-        return Times::Unset;
-    }
-    Times::At {
-        last_tick: args.third,
-        since: args.fourth,
-    }
+fn times_of(args: Args) -> Option<Times> {
+    let last_tick = args.given(args.third)?;
+    let since = args.given(args.fourth)?;
+    Some(Times { last_tick, since })
 }
 
 fn estimator_of(args: Args) -> Demand {
@@ -36,57 +33,30 @@ fn view_of(args: Args) -> View {
 }
 
 // An estimator's answer: the rate, the attempts and the two times.
-fn of_estimator(d: Demand) -> Answer {
-    let times = d.times;
-    let rate = Value::Float64(d.current_rate);
-    let attempts = Value::Whole(d.attempts_since_tick);
-    match times {
-        Times::Unset => Answer {
-            first: rate,
-            second: attempts,
-            third: Value::Missing,
-            fourth: Value::Missing,
-        },
-        Times::At { last_tick, since } => Answer {
-            first: rate,
-            second: attempts,
-            third: Value::Whole(last_tick),
-            fourth: Value::Whole(since),
-        },
-    }
-}
-
-// What the estimator and the allocation answer, as the script writes it.
-fn of_demand(answer: DemandAnswer) -> Answer {
-    match answer {
-        DemandAnswer::No(n) => answers::refused(n),
-        DemandAnswer::Is(d) => of_estimator(d),
-    }
-}
-
-fn of_rate(answer: RateAnswer) -> Answer {
-    match answer {
-        RateAnswer::No(n) => answers::refused(n),
-        RateAnswer::Is(rate) => answers::one(Value::Float64(rate)),
-    }
-}
-
-fn of_share(answer: ShareAnswer) -> Answer {
-    match answer {
-        ShareAnswer::No(n) => answers::refused(n),
-        ShareAnswer::Is(share) => answers::one(Value::Float64(share)),
+impl From<Demand> for Answer {
+    fn from(d: Demand) -> Self {
+        let (last_tick, since) = match d.times {
+            None => (Value::Missing, Value::Missing),
+            Some(times) => (Value::from(times.last_tick), Value::from(times.since)),
+        };
+        Answer {
+            first: Value::from(d.current_rate),
+            second: Value::from(d.attempts_since_tick),
+            third: last_tick,
+            fourth: since,
+        }
     }
 }
 
 // The answer to a call on an estimator, a weight or a share.
-pub(crate) fn answer(place: usize, args: Args) -> Answer {
+pub(crate) fn answer(name: Name, args: Args) -> Answer {
     let d = estimator_of(args);
-    match place {
-        calls::DTICK => of_demand(d.tick(args.sixth)),
-        calls::DREC => of_demand(d.record_attempts(args.sixth)),
-        calls::DUNB => of_rate(d.unbiased_rate()),
-        calls::DECAY => answers::one(Value::Whole(decay_weight(args.first, args.second))),
-        calls::SHARE => of_share(demand::allocation::share(view_of(args))),
-        _ => answers::unknown(),
+    match name {
+        Name::DemandTick => answers::several(d.tick(args.sixth)),
+        Name::DemandRecord => answers::several(d.record_attempts(args.sixth)),
+        Name::DemandUnbiased => answers::of(d.unbiased_rate()),
+        Name::Decay => answers::one(Value::Whole(decay_weight(args.first, args.second))),
+        Name::Share => answers::of(demand::allocation::share(view_of(args))),
+        _ => answers::one(Value::Unknown),
     }
 }

@@ -1,98 +1,82 @@
 // The calls that save and load the image of limiter and peers. One image is kept: the first bytes
 // of a buffer, as many as the session says.
-use crate::answers::{Answer, Value};
+use crate::answers::{Answer, Done, Value};
+use crate::calls::Name;
 use crate::fields::Args;
-use crate::session::{Done, Session};
-use crate::tables::{
-    ContestedTable, HotKeyTable, Kept, KeyTable, PeerTable, ShadowTable, SnapshotTable,
-};
-use crate::{calls, digits, lent, session};
-use demand::answers::LenAnswer;
-use image::LoadAnswer;
+use crate::lent::Lent;
+use crate::session::Session;
+use crate::tables::{Kept, Tables};
+use crate::{answers, digits, lent, session};
+use image::Loaded;
+use limiter::Limiter;
+use peers::peer_demand::PeerDemand;
+use questions::Refusal;
 
 // Saves limiter and peers.
 pub(crate) fn save_to(
-    s: Session,
-    keys: &KeyTable,
-    hot_keys: &HotKeyTable,
-    shadows: &ShadowTable,
-    peer_table: &PeerTable,
-    snapshots: &SnapshotTable,
-    contested: &ContestedTable,
+    limiter: Limiter,
+    peers: PeerDemand,
+    lent: Lent,
+    t: &Tables,
     out: &mut [u8],
-) -> LenAnswer {
-    let node = s.node;
-    let state = s.peers;
-    let limiter = node.value;
-    let peers = state.value;
-    let lent = s.lent;
+) -> Result<usize, Refusal> {
     image::save(
         limiter,
-        lent::part(keys, lent.keys),
-        lent::part(hot_keys, lent.hot),
-        lent::part(shadows, lent.shadows),
+        lent::part(&t.keys, lent.keys),
+        lent::part(&t.hot_keys, lent.hot),
+        lent::part(&t.shadows, lent.shadows),
         peers,
-        lent::part(peer_table, lent.peers),
-        lent::part(snapshots, lent.snapshots),
-        lent::part(contested, lent.contested),
+        lent::part(&t.peers, lent.peers),
+        lent::part(&t.snapshots, lent.snapshots),
+        lent::part(&t.contested, lent.contested),
         out,
     )
 }
 
-// The length of an image and its hash.
-fn image_of(bytes: &[u8]) -> Answer {
-    Answer {
-        first: Value::Image,
-        second: Value::Whole(bytes.len() as u64),
-        third: Value::Hash(digits::hash(bytes)),
-        fourth: Value::Nothing,
-    }
-}
-
-// After a save into the image that is kept.
-fn of_save(answer: LenAnswer, s: Session, kept: &[u8]) -> Done {
+// After a save into the image that is kept: its length and its hash.
+fn of_save(answer: Result<usize, Refusal>, s: Session, kept: &[u8]) -> Done<Session> {
     match answer {
-        LenAnswer::No(n) => session::refused(n, s),
-        LenAnswer::Is(len) => {
-            let image = lent::bytes(kept, len as u64);
+        Err(question) => Done::said(Value::Refused(question), s),
+        Ok(len) => {
+            let image = lent::part(kept, len);
             Done {
-                answer: image_of(image),
-                session: session::keeping(s, image.len()),
+                answer: answers::three(
+                    Value::Image,
+                    Value::from(image.len()),
+                    Value::Hash(digits::hash(image)),
+                ),
+                state: session::keeping(s, image.len()),
             }
         }
     }
 }
 
 // After a load.
-fn of_load(answer: LoadAnswer, s: Session) -> Done {
+fn of_load(answer: Result<Loaded, Refusal>, s: Session) -> Done<Session> {
     match answer {
-        LoadAnswer::No(n) => session::refused(n, s),
-        LoadAnswer::Is(loaded) => {
-            let limiter = loaded.limiter;
-            let peers = loaded.peers;
-            session::made(limiter, peers, s)
-        }
+        Err(question) => Done::said(Value::Refused(question), s),
+        Ok(loaded) => session::made(loaded.limiter, loaded.peers, s),
     }
 }
 
 // Loads an image.
-fn load(
-    from: &[u8],
-    s: Session,
-    keys: &mut [u64],
-    hot_keys: &mut [u64],
-    shadows: &mut [u64],
-    peer_table: &mut [u64],
-    snapshots: &mut [u64],
-    contested: &mut [u64],
-) -> Done {
+fn load(from: &[u8], s: Session, t: &mut Tables) -> Done<Session> {
     let lent = s.lent;
+    let Tables {
+        keys,
+        hot_keys,
+        shadows,
+        peers,
+        snapshots,
+        contested,
+        ..
+    } = t;
     let answer = image::load(
         from,
         lent::part_mut(keys, lent.keys),
         lent::part_mut(hot_keys, lent.hot),
         lent::part_mut(shadows, lent.shadows),
-        lent::part_mut(peer_table, lent.peers),
+        lent::part_mut(peers, lent.peers),
         lent::part_mut(snapshots, lent.snapshots),
         lent::part_mut(contested, lent.contested),
     );
@@ -102,159 +86,96 @@ fn load(
 // What a call comes to: its answer; or, where it loads, an image of so many bytes that is still to be
 // loaded.
 #[derive(Clone, Copy)]
-struct Step {
-    loads: bool,
-    len: usize,
-    done: Done,
+enum Step {
+    Answered(Done<Session>),
+    Loading(usize, Session),
 }
 
-fn answered(done: Done) -> Step {
-    Step {
-        loads: false,
-        len: 0,
-        done,
-    }
-}
-
-fn loading(len: usize, s: Session) -> Step {
-    Step {
-        loads: true,
-        len,
-        done: session::said(Value::Done, s),
-    }
+fn answered(value: Value, s: Session) -> Step {
+    Step::Answered(Done::said(value, s))
 }
 
 // The bytes that a line spells from there to its end are put at its front, to be loaded.
 fn spelled(line: &mut [u8], from: usize, s: Session) -> Step {
-    let bytes = digits::decode(line, from);
-    if bytes.good {
-        loading(bytes.len, s)
-    } else {
-        answered(session::said(Value::Unknown, s))
+    match digits::decode(line, from) {
+        None => answered(Value::Unknown, s),
+        Some(len) => Step::Loading(len, s),
     }
 }
 
 // The image that a save kept is to be loaded.
-fn saved(answer: LenAnswer, s: Session) -> Step {
+fn saved(answer: Result<usize, Refusal>, s: Session) -> Step {
     match answer {
-        LenAnswer::No(n) => answered(session::refused(n, s)),
-        LenAnswer::Is(len) => loading(len, session::keeping(s, len)),
+        Err(question) => answered(Value::Refused(question), s),
+        Ok(len) => Step::Loading(len, session::keeping(s, len)),
     }
 }
 
 // The room that a save has in the image that is kept.
-fn room_of(place: usize, args: Args) -> u64 {
-    if place == calls::SAVE {
-        args.first
+fn room_of(name: Name, args: Args) -> usize {
+    if name == Name::Save {
+        args.first as usize
     } else {
-        u64::MAX
+        usize::MAX
     }
 }
 
-// A call that saves into the image that is kept.
-fn save(
-    place: usize,
-    args: Args,
-    s: Session,
-    keys: &KeyTable,
-    hot_keys: &HotKeyTable,
-    shadows: &ShadowTable,
-    peer_table: &PeerTable,
-    snapshots: &SnapshotTable,
-    contested: &ContestedTable,
-    kept: &mut [u8],
-) -> Step {
+// A call that saves into the image that is kept, or shows it. A dump is written with its answer.
+fn save(name: Name, args: Args, s: Session, t: &Tables, kept: &mut [u8]) -> Step {
+    let Some((limiter, peers)) = session::both(s) else {
+        return answered(Value::NoState, s);
+    };
+    if name == Name::Dump {
+        return answered(Value::Dump, s);
+    }
     let answer = save_to(
-        s,
-        keys,
-        hot_keys,
-        shadows,
-        peer_table,
-        snapshots,
-        contested,
-        lent::bytes_mut(kept, room_of(place, args)),
+        limiter,
+        peers,
+        s.lent,
+        t,
+        lent::part_mut(kept, room_of(name, args)),
     );
-    if place == calls::RELOAD {
+    if name == Name::Reload {
         return saved(answer, s);
     }
-    answered(of_save(answer, s, kept))
+    Step::Answered(of_save(answer, s, kept))
 }
 
-// A call up to its load. A dump is written with its answer.
+// A call up to its load.
 fn step_of(
     line: &mut [u8],
-    place: usize,
+    name: Name,
     args: Args,
     s: Session,
-    keys: &KeyTable,
-    hot_keys: &HotKeyTable,
-    shadows: &ShadowTable,
-    peer_table: &PeerTable,
-    snapshots: &SnapshotTable,
-    contested: &ContestedTable,
+    t: &Tables,
     kept: &mut Kept,
 ) -> Step {
-    if place == calls::LOAD {
-        return loading(s.kept, s);
+    if name == Name::Load {
+        return Step::Loading(s.kept, s);
     }
-    if place == calls::LOADHEX {
+    if name == Name::LoadHex {
         return spelled(line, args.next, s);
     }
-    if !session::has_both(s) {
-        return answered(session::said(Value::NoState, s));
-    }
-    if place == calls::DUMP {
-        return answered(session::said(Value::Dump, s));
-    }
-    save(
-        place, args, s, keys, hot_keys, shadows, peer_table, snapshots, contested, kept,
-    )
+    save(name, args, s, t, kept)
 }
 
 // A call on images. The line may be overwritten. The load is called from two places, so that the compiler
 // keeps its large frame out of those of the callers.
 pub(crate) fn change(
     line: &mut [u8],
-    place: usize,
+    name: Name,
     args: Args,
     s: Session,
-    keys: &mut KeyTable,
-    hot_keys: &mut HotKeyTable,
-    shadows: &mut ShadowTable,
-    peer_table: &mut PeerTable,
-    snapshots: &mut SnapshotTable,
-    contested: &mut ContestedTable,
+    t: &mut Tables,
     kept: &mut Kept,
-) -> Done {
-    let step = step_of(
-        line, place, args, s, keys, hot_keys, shadows, peer_table, snapshots, contested, kept,
-    );
-    let done = step.done;
-    if !step.loads {
-        return done;
+) -> Done<Session> {
+    let step = step_of(line, name, args, s, t, kept);
+    let (len, after) = match step {
+        Step::Answered(done) => return done,
+        Step::Loading(len, after) => (len, after),
+    };
+    if name == Name::LoadHex {
+        return load(lent::part(line, len), after, t);
     }
-    let after = done.session;
-    let len = step.len as u64;
-    if place == calls::LOADHEX {
-        return load(
-            lent::bytes(line, len),
-            after,
-            keys,
-            hot_keys,
-            shadows,
-            peer_table,
-            snapshots,
-            contested,
-        );
-    }
-    load(
-        lent::bytes(kept, len),
-        after,
-        keys,
-        hot_keys,
-        shadows,
-        peer_table,
-        snapshots,
-        contested,
-    )
+    load(lent::part(kept, len), after, t)
 }

@@ -1,27 +1,12 @@
 // The calls that change the limiter, which `new` makes.
-use crate::answers::{Answer, Value};
+use crate::answers::{Answer, Done, Value};
+use crate::calls::Name;
 use crate::fields::Args;
-use crate::{answers, calls, fields, lent, meter};
-use gcra::CheckAnswer;
-use limiter::{
-    Cap, Changed, Checked, Config, LastTick, Limit, Limiter, Shadow, ShadowDecision, Tally, Traced,
-    TracedAnswer, TracedCheck,
-};
-use peers::peer_demand::ChangeAnswer;
+use crate::{answers, fields, lent};
+use limiter::{Changed, Checked, Config, Limit, Limiter, Tally, Traced, TracedCheck};
 
 // The limiter of the script, once one is made.
-#[derive(Clone, Copy)]
-pub(crate) struct Node {
-    pub(crate) made: bool,
-    pub(crate) value: Limiter,
-}
-
-// What a call that changes the limiter answers, and the limiter after it.
-#[derive(Clone, Copy)]
-pub(crate) struct Done {
-    pub(crate) answer: Answer,
-    pub(crate) node: Node,
-}
+pub(crate) type Node = Option<Limiter>;
 
 // Settings by nine fields.
 pub(crate) fn config_of(args: Args) -> Config {
@@ -37,42 +22,10 @@ pub(crate) fn config_of(args: Args) -> Config {
     }
 }
 
-// No limiter is made yet.
-pub(crate) fn nothing() -> Node {
-    Node {
-        made: false,
-        value: Limiter {
-            config: Config {
-                limit: limit_of(0, 0),
-                alpha: 0.0,
-                floor_factor: 0.0,
-                cooldown: 0,
-                hot_set_size: 0,
-                max_tracked_keys: 0,
-                demand_time_constant: 0,
-                table_size: 0,
-            },
-            cap: Cap::Unset,
-            last_tick: LastTick::Unset,
-            keys: 0,
-            hot: 0,
-            shadows: 0,
-        },
-    }
-}
-
 pub(crate) fn limit_of(rate: u64, burst: u64) -> Limit {
     Limit {
         rate: float::from_bits(rate),
         burst: fields::low32(burst),
-    }
-}
-
-fn cap_of(args: Args) -> Cap {
-    if args.none {
-        Cap::Unset
-    } else {
-        Cap::At(float::from_bits(args.first))
     }
 }
 
@@ -84,110 +37,51 @@ fn tally_of(args: Args) -> Tally {
     }
 }
 
-// What the limiter answers, as the script writes it.
-pub(crate) fn of_changed(changed: Changed, value: Value) -> Done {
-    let answer = changed.answer;
-    let limiter = changed.limiter;
-    let node = Node {
-        made: true,
-        value: limiter,
-    };
-    match answer {
-        ChangeAnswer::No(n) => Done {
-            answer: answers::refused(n),
-            node,
-        },
-        ChangeAnswer::Done => Done {
-            answer: answers::one(value),
-            node,
-        },
+// What the limiter answers to a change that is answered with the value where it is not refused.
+pub(crate) fn of_changed(changed: Changed, value: Value) -> Done<Node> {
+    Done {
+        answer: answers::one(changed.answer.map_or_else(Value::Refused, |_| value)),
+        state: Some(changed.limiter),
     }
 }
 
-fn of_checked(checked: Checked) -> Done {
-    let answer = checked.answer;
-    let limiter = checked.limiter;
-    let node = Node {
-        made: true,
-        value: limiter,
-    };
-    match answer {
-        CheckAnswer::No(n) => Done {
-            answer: answers::refused(n),
-            node,
-        },
-        CheckAnswer::Is(decision) => Done {
-            answer: answers::one(meter::of_decision(decision)),
-            node,
-        },
-    }
-}
-
-fn of_shadow(shadow: ShadowDecision) -> Value {
-    match shadow {
-        ShadowDecision::Unset => Value::Missing,
-        ShadowDecision::Is(decision) => meter::of_decision(decision),
+fn of_checked(checked: Checked) -> Done<Node> {
+    Done {
+        answer: answers::of(checked.answer),
+        state: Some(checked.limiter),
     }
 }
 
 // The decision and the shadow's, parted by a slash.
-fn of_both(traced: Traced) -> Answer {
-    let decision = traced.decision;
-    let shadow = traced.shadow;
-    Answer {
-        first: meter::of_decision(decision),
-        second: Value::Slash,
-        third: of_shadow(shadow),
-        fourth: Value::Nothing,
+impl From<Traced> for Answer {
+    fn from(traced: Traced) -> Self {
+        answers::three(
+            Value::from(traced.decision),
+            Value::Slash,
+            traced.shadow.map_or(Value::Missing, Value::Decided),
+        )
     }
 }
 
-fn of_traced(traced: TracedCheck) -> Done {
-    let answer = traced.answer;
-    let limiter = traced.limiter;
-    let node = Node {
-        made: true,
-        value: limiter,
-    };
-    match answer {
-        TracedAnswer::No(n) => Done {
-            answer: answers::refused(n),
-            node,
-        },
-        TracedAnswer::Is(both) => Done {
-            answer: of_both(both),
-            node,
-        },
-    }
-}
-
-// What is no call.
-fn no_call(node: Node) -> Done {
+fn of_traced(traced: TracedCheck) -> Done<Node> {
     Done {
-        answer: answers::unknown(),
-        node,
-    }
-}
-
-fn no_state(node: Node) -> Done {
-    Done {
-        answer: answers::one(Value::NoState),
-        node,
+        answer: answers::several(traced.answer),
+        state: Some(traced.limiter),
     }
 }
 
 // A check or a record of one key.
 fn checked(
-    place: usize,
+    name: Name,
     args: Args,
-    value: Limiter,
+    limiter: Limiter,
     keys: &mut [u64],
     hot: &[u64],
     shadows: &[u64],
-) -> Done {
+) -> Done<Node> {
     let key = args.first;
-    match place {
-        calls::CHECK => of_checked(value.check(
+    match name {
+        Name::Check => of_checked(limiter.check(
             keys,
             hot,
             shadows,
@@ -195,7 +89,7 @@ fn checked(
             args.second,
             args.third as usize,
         )),
-        calls::CHECKIN => of_checked(value.check_in(
+        Name::CheckIn => of_checked(limiter.check_in(
             keys,
             hot,
             shadows,
@@ -205,7 +99,7 @@ fn checked(
             args.fifth as usize,
         )),
         _ => of_changed(
-            value.record(
+            limiter.record(
                 keys,
                 hot,
                 shadows,
@@ -222,52 +116,51 @@ fn checked(
 
 // The cap, a tick, or a call on one key.
 fn change_one(
-    place: usize,
+    name: Name,
     args: Args,
-    value: Limiter,
+    limiter: Limiter,
     keys: &mut [u64],
     hot: &mut [u64],
     shadows: &mut [u64],
-) -> Done {
-    if place == calls::CAP {
-        return of_changed(value.set_cap(keys, hot, shadows, cap_of(args)), Value::Done);
+) -> Done<Node> {
+    if name == Name::Cap {
+        let cap = args.given(args.first).map(float::from_bits);
+        return of_changed(limiter.set_cap(keys, hot, shadows, cap), Value::Done);
     }
-    if place == calls::TICK {
+    if name == Name::Tick {
         return of_changed(
-            value.tick(keys, hot, shadows, args.first, args.second as usize),
+            limiter.tick(keys, hot, shadows, args.first, args.second as usize),
             Value::Done,
         );
     }
-    checked(place, args, value, keys, hot, shadows)
+    checked(name, args, limiter, keys, hot, shadows)
 }
 
 // What follows the limit of a traced check: the shadow's limit or `none`, the reading and the size
 // of the cluster, to the line's end.
 #[derive(Clone, Copy)]
 struct Trace {
-    shadow: Shadow,
+    shadow: Option<Limit>,
     reading: u64,
-    cluster_size: u64,
-    good: bool,
+    cluster_size: usize,
 }
 
-fn trace_of(line: &[u8], at: usize) -> Trace {
-    let with_none = fields::args_of(line, at, b"euu");
-    if with_none.good && with_none.none {
-        return Trace {
-            shadow: Shadow::Unset,
-            reading: with_none.second,
-            cluster_size: with_none.third,
-            good: line.len() < with_none.next,
-        };
+fn trace_of(line: &[u8], at: usize) -> Option<Trace> {
+    if let Some(args) = fields::all_of(line, at, b"euu") {
+        if args.none {
+            return Some(Trace {
+                shadow: None,
+                reading: args.second,
+                cluster_size: args.third as usize,
+            });
+        }
     }
-    let with = fields::args_of(line, at, b"diuu");
-    Trace {
-        shadow: Shadow::Of(limit_of(with.first, with.second)),
-        reading: with.third,
-        cluster_size: with.fourth,
-        good: with.good && line.len() < with.next,
-    }
+    let args = fields::all_of(line, at, b"diuu")?;
+    Some(Trace {
+        shadow: Some(limit_of(args.first, args.second)),
+        reading: args.third,
+        cluster_size: args.fourth as usize,
+    })
 }
 
 // A check with a shadow's.
@@ -278,54 +171,26 @@ fn check_traced(
     keys: &mut [u64],
     hot: &[u64],
     shadows: &mut [u64],
-) -> Done {
-    let trace = trace_of(line, args.next);
-    let shadow = trace.shadow;
-    let value = node.value;
-    if !trace.good {
-        return no_call(node);
-    }
-    if !node.made {
-        return no_state(node);
-    }
-    of_traced(value.check_in_traced(
+) -> Done<Node> {
+    let Some(trace) = trace_of(line, args.next) else {
+        return Done::said(Value::Unknown, node);
+    };
+    let Some(limiter) = node else {
+        return Done::said(Value::NoState, node);
+    };
+    of_traced(limiter.check_in_traced(
         keys,
         hot,
         shadows,
         args.first,
         limit_of(args.second, args.third),
-        shadow,
+        trace.shadow,
         trace.reading,
-        trace.cluster_size as usize,
+        trace.cluster_size,
     ))
 }
 
-// The checks of so many pairs; their answers are left in the list.
-fn check_pairs(
-    args: Args,
-    pairs: &[u64],
-    value: Limiter,
-    keys: &mut [u64],
-    hot: &[u64],
-    shadows: &[u64],
-    list: &mut [u64],
-) -> Done {
-    let count = args.third;
-    of_changed(
-        value.check_each(
-            keys,
-            hot,
-            shadows,
-            pairs,
-            count as usize,
-            args.first as usize,
-            lent::part_mut(list, lent::three_each(args.second)),
-        ),
-        Value::Checks(count),
-    )
-}
-
-// Many checks in one call.
+// Many checks in one call; their answers are left in the list.
 fn check_each(
     line: &[u8],
     args: Args,
@@ -334,39 +199,48 @@ fn check_each(
     hot: &[u64],
     shadows: &[u64],
     list: &mut [u64],
-) -> Done {
-    let pairs = fields::words_of(line, args.next, lent::two_each(args.third));
-    if !pairs.good {
-        return no_call(node);
-    }
-    if !node.made {
-        return no_state(node);
-    }
-    let words = pairs.words;
-    let value = node.value;
-    check_pairs(args, &words, value, keys, hot, shadows, list)
+) -> Done<Node> {
+    let count = args.third as usize;
+    let Some(pairs) = fields::words_of(line, args.next, lent::words_for(count, 2)) else {
+        return Done::said(Value::Unknown, node);
+    };
+    let Some(limiter) = node else {
+        return Done::said(Value::NoState, node);
+    };
+    let room = lent::words_for(args.second as usize, 3);
+    of_changed(
+        limiter.check_each(
+            keys,
+            hot,
+            shadows,
+            &pairs,
+            count,
+            args.first as usize,
+            lent::part_mut(list, room),
+        ),
+        Value::Checks(count),
+    )
 }
 
 // A call that changes the limiter alone.
 pub(crate) fn change(
     line: &[u8],
-    place: usize,
+    name: Name,
     args: Args,
     node: Node,
     keys: &mut [u64],
     hot: &mut [u64],
     shadows: &mut [u64],
     list: &mut [u64],
-) -> Done {
-    if place == calls::TRACED {
+) -> Done<Node> {
+    if name == Name::Traced {
         return check_traced(line, args, node, keys, hot, shadows);
     }
-    if place == calls::CHECKS {
+    if name == Name::Checks {
         return check_each(line, args, node, keys, hot, shadows, list);
     }
-    if !node.made {
-        return no_state(node);
+    match node {
+        None => Done::said(Value::NoState, node),
+        Some(limiter) => change_one(name, args, limiter, keys, hot, shadows),
     }
-    let value = node.value;
-    change_one(place, args, value, keys, hot, shadows)
 }

@@ -1,64 +1,32 @@
 // The calls that read the limiter.
 use crate::answers::{Answer, Value};
+use crate::calls::Name;
 use crate::fields::Args;
 use crate::limiter_calls::Node;
-use crate::{answers, calls, hot_set, lent, limiter_calls, meter, peer_calls};
-use demand::answers::LenAnswer;
-use limiter::{Config, ConfigAnswer, KeyQuotaAnswer, LimitAnswer, Limiter, RatesAnswer};
+use crate::{answers, lent, limiter_calls};
+use limiter::{Config, KeyRates, Limit, Limiter};
+use questions::Refusal;
 
-// What the limiter answers, as the script writes it.
-fn of_rates(answer: RatesAnswer) -> Answer {
-    match answer {
-        RatesAnswer::No(n) => answers::refused(n),
-        RatesAnswer::Untracked => answers::one(Value::Missing),
-        RatesAnswer::Is(rates) => Answer {
-            first: Value::Float64(rates.requests_per_sec),
-            second: Value::Float64(rates.denied_per_sec),
-            third: Value::Float64(rates.shadow_denied_per_sec),
-            fourth: Value::Nothing,
-        },
+impl From<KeyRates> for Answer {
+    fn from(rates: KeyRates) -> Self {
+        answers::three(
+            Value::from(rates.requests_per_sec),
+            Value::from(rates.denied_per_sec),
+            Value::from(rates.shadow_denied_per_sec),
+        )
     }
 }
 
-fn of_quota(answer: KeyQuotaAnswer) -> Answer {
-    match answer {
-        KeyQuotaAnswer::No(n) => answers::refused(n),
-        KeyQuotaAnswer::Untracked => answers::one(Value::Missing),
-        KeyQuotaAnswer::Is(quota) => answers::two(
-            Value::Whole(quota.interval),
-            Value::Whole(quota.burst as u64),
-        ),
-    }
-}
-
-fn of_limit(answer: LimitAnswer) -> Answer {
-    match answer {
-        LimitAnswer::No(n) => answers::refused(n),
-        LimitAnswer::Untracked => answers::one(Value::Missing),
-        LimitAnswer::Is(limit) => answers::two(
-            Value::Float64(limit.rate),
-            Value::Whole(limit.burst as u64),
-        ),
-    }
-}
-
-// Words, in the list.
-fn list_words(words: &[u64], list: &mut [u64]) {
-    let mut i = 0;
-    while i < words.len() {
-        if list.len() <= i {
-            return;
-        }
-        list[i] = words[i];
-        i += 1;
+impl From<Limit> for Answer {
+    fn from(limit: Limit) -> Self {
+        answers::two(Value::from(limit.rate), Value::from(limit.burst))
     }
 }
 
 // The settings behind the limit's rate.
 fn settings_words(config: Config) -> [u64; 8] {
-    let limit = config.limit;
     [
-        limit.burst as u64,
+        config.limit.burst as u64,
         float::to_bits(config.alpha),
         float::to_bits(config.floor_factor),
         config.cooldown,
@@ -69,123 +37,98 @@ fn settings_words(config: Config) -> [u64; 8] {
     ]
 }
 
-fn of_config(answer: ConfigAnswer, list: &mut [u64]) -> Answer {
+// The settings, those behind the limit's rate in the list.
+fn of_config(answer: Result<Config, Refusal>, list: &mut [u64]) -> Answer {
     match answer {
-        ConfigAnswer::No(n) => answers::refused(n),
-        ConfigAnswer::Is(config) => {
-            let limit = config.limit;
-            let words = settings_words(config);
-            list_words(&words, list);
-            answers::one(Value::Settings(limit.rate))
+        Err(question) => answers::one(Value::Refused(question)),
+        Ok(config) => {
+            for (word, setting) in list.iter_mut().zip(settings_words(config)) {
+                *word = setting;
+            }
+            answers::one(Value::Settings(config.limit.rate))
         }
     }
 }
 
 // The answer to a call on a key.
 fn answer_key(
-    place: usize,
+    name: Name,
     key: u64,
-    value: Limiter,
+    limiter: Limiter,
     keys: &[u64],
     hot: &[u64],
     shadows: &[u64],
 ) -> Answer {
-    match place {
-        calls::RATES => of_rates(value.key_rates(keys, hot, shadows, key)),
-        calls::QUOTA => of_quota(value.quota(keys, hot, shadows, key)),
-        calls::LIMIT => of_limit(value.limit(keys, hot, shadows, key)),
-        calls::HOTSINCE => {
-            answers::one(hot_set::of_since(value.hot_since(keys, hot, shadows, key)))
-        }
-        calls::ISHOT => peer_calls::of_flag(value.is_hot(keys, hot, shadows, key)),
-        _ => peer_calls::of_flag(value.tracked(keys, hot, shadows, key)),
+    match name {
+        Name::Rates => answers::found(limiter.key_rates(keys, hot, shadows, key)),
+        Name::Quota => answers::found(limiter.quota(keys, hot, shadows, key)),
+        Name::Limit => answers::found(limiter.limit(keys, hot, shadows, key)),
+        Name::HotSince => answers::of(limiter.hot_since(keys, hot, shadows, key)),
+        Name::IsHot => answers::of(limiter.is_hot(keys, hot, shadows, key)),
+        _ => answers::of(limiter.tracked(keys, hot, shadows, key)),
     }
 }
 
 // The answer to a call on new keys or on the counts.
 fn answer_whole(
-    place: usize,
+    name: Name,
     args: Args,
-    value: Limiter,
+    limiter: Limiter,
     keys: &[u64],
     hot: &[u64],
     shadows: &[u64],
 ) -> Answer {
-    match place {
-        calls::NEWQUOTA => meter::of_quota(value.new_key_quota(
+    match name {
+        Name::NewQuota => answers::several(limiter.new_key_quota(
             keys,
             hot,
             shadows,
             limiter_calls::limit_of(args.first, args.second),
             args.third as usize,
         )),
-        calls::NEWFACTOR => {
-            meter::of_rate(value.new_key_factor(keys, hot, shadows, args.first as usize))
+        Name::NewFactor => {
+            answers::of(limiter.new_key_factor(keys, hot, shadows, args.first as usize))
         }
-        calls::NTRACKED => peer_calls::of_len(value.tracked_keys(keys, hot, shadows)),
-        _ => peer_calls::of_len(value.hot_keys(keys, hot, shadows)),
-    }
-}
-
-// Keys of a list: how many, as the value that they follow.
-fn of_hot_keys(answer: LenAnswer) -> Answer {
-    match answer {
-        LenAnswer::No(n) => answers::refused(n),
-        LenAnswer::Is(n) => answers::one(Value::HotKeys(n as u64)),
-    }
-}
-
-fn of_keys(answer: LenAnswer) -> Answer {
-    match answer {
-        LenAnswer::No(n) => answers::refused(n),
-        LenAnswer::Is(n) => answers::one(Value::KeysWithRates(n as u64)),
+        Name::TrackedKeys => answers::of(limiter.tracked_keys(keys, hot, shadows)),
+        _ => answers::of(limiter.hot_keys(keys, hot, shadows)),
     }
 }
 
 // As many words for the list as the script gives room for entries.
-fn list_room(place: usize, args: Args) -> u64 {
-    if place == calls::HOTDEMAND {
-        lent::three_each(args.first)
+fn list_room(name: Name, args: Args) -> usize {
+    if name == Name::HotDemand {
+        lent::words_for(args.first as usize, 3)
     } else {
-        lent::four_each(args.second)
+        lent::words_for(args.second as usize, 4)
     }
 }
 
-// The answer to a call that lists keys; they are left in the output.
+// The answer to a call that lists keys; they are left in the part of the list that the script gives.
 fn answer_list(
-    place: usize,
-    k: usize,
-    value: Limiter,
-    keys: &[u64],
-    hot: &[u64],
-    shadows: &[u64],
-    out: &mut [u64],
-) -> Answer {
-    match place {
-        calls::HOTDEMAND => of_hot_keys(value.hot_demand(keys, hot, shadows, out)),
-        calls::MOSTDENIED => of_keys(value.most_denied(keys, hot, shadows, k, out)),
-        _ => of_keys(value.most_shadow_denied(keys, hot, shadows, k, out)),
-    }
-}
-
-// The same, with the part of the list that the script gives.
-fn answer_lent(
-    place: usize,
+    name: Name,
     args: Args,
-    value: Limiter,
+    limiter: Limiter,
     keys: &[u64],
     hot: &[u64],
     shadows: &[u64],
     list: &mut [u64],
 ) -> Answer {
     let k = args.first as usize;
-    let room = lent::part_mut(list, list_room(place, args));
-    answer_list(place, k, value, keys, hot, shadows, room)
+    let out = lent::part_mut(list, list_room(name, args));
+    let keys_with_rates = match name {
+        Name::HotDemand => {
+            let hot_keys = limiter.hot_demand(keys, hot, shadows, out);
+            return answers::one(hot_keys.map_or_else(Value::Refused, Value::HotKeys));
+        }
+        Name::MostDenied => limiter.most_denied(keys, hot, shadows, k, out),
+        _ => limiter.most_shadow_denied(keys, hot, shadows, k, out),
+    };
+    answers::one(keys_with_rates.map_or_else(Value::Refused, Value::KeysWithRates))
 }
 
 // The answer to a call that reads the limiter.
 pub(crate) fn answer(
-    place: usize,
+    name: Name,
     args: Args,
     node: Node,
     keys: &[u64],
@@ -193,18 +136,16 @@ pub(crate) fn answer(
     shadows: &[u64],
     list: &mut [u64],
 ) -> Answer {
-    if !node.made {
+    let Some(limiter) = node else {
         return answers::one(Value::NoState);
+    };
+    match name {
+        Name::Rates | Name::Quota | Name::Limit | Name::HotSince | Name::IsHot | Name::Tracked =>
+            answer_key(name, args.first, limiter, keys, hot, shadows),
+        Name::NewQuota | Name::NewFactor | Name::TrackedKeys | Name::HotKeys => answer_whole(
+            name, args, limiter, keys, hot, shadows,
+        ),
+        Name::Config => of_config(limiter.config(keys, hot, shadows), list),
+        _ => answer_list(name, args, limiter, keys, hot, shadows, list),
     }
-    let value = node.value;
-    if place < calls::NEWQUOTA {
-        return answer_key(place, args.first, value, keys, hot, shadows);
-    }
-    if place < calls::CONFIG {
-        return answer_whole(place, args, value, keys, hot, shadows);
-    }
-    if place == calls::CONFIG {
-        return of_config(value.config(keys, hot, shadows), list);
-    }
-    answer_lent(place, args, value, keys, hot, shadows, list)
 }

@@ -3,11 +3,11 @@ use Prim.Native.Nat.{ℕ}
 use mathlib.Core.Path.{◌≡◌, refl, sym, ap, ◌∙◌, subst}
 use mathlib.Core.Bool.{Bool, true, false, cond, not, false≢true}
 use mathlib.Core.List.{List, [], ◌∷◌, ◌++◌, map, append_assoc}
-use mathlib.Core.Option.{Option, none, some}
 use borrow.Author.Tests.{eqb-true}
 use lib.Dec.{eqb}
 use lib.ListN.{get_or, drop}
 use Rattle.records.specs.Records.{records, flat, table}
+use Rattle.std.proofs.lemmas.Bool.{not-true}
 use Rattle.questions.proofs.Tests.{split, both}
 use Rattle.gcra.specs.declared.Quota.{Quota}
 use Rattle.gcra.specs.declared.Gcra.{Gcra}
@@ -25,7 +25,7 @@ use Rattle.limiter.specs.declared.Tally.{Tally}
 use Rattle.limiter.specs.State.{KeyRecord, LimiterState, key_with, put_key, units_of}
 use Rattle.limiter.specs.Checks.{new_key, found_or, entry, checked_key, tallied_key, key_decision, shadow_decision, check_in, check_traced, record_tally, own_limit, has_place, counters_fit, check_key_questions, check_one, after_one, check_each}
 use Rattle.limiter.specs.Readers.{of_key}
-use Rattle.limiter.specs.Calls.{Decisions, answer_words}
+use Rattle.limiter.specs.Calls.{answer_words}
 use Rattle.image.specs.Image.{State}
 use Rattle.run.specs.Run.{Memory, Lent, Change, What, Resume, Move, Shown, GoesOn, Resumes}
 use Rattle.run.specs.Trace.{new_states, asked, made, after, state_after, meters, meter_in}
@@ -36,20 +36,23 @@ use Rattle.limiter.proofs.Calls.BetweenTickLaws.{entry_key}
 use Rattle.limiter.proofs.LimiterTheorems.{one-settings}
 use Rattle.run.proofs.Count.TraceTurns.{taken, done-passed}
 use Rattle.run.proofs.Standing.Stands.{Stands}
-use Rattle.run.proofs.Standing.AnswerCases.{check-back, traced-back, change-back}
+use Rattle.run.proofs.Standing.KnownLaws.{asked-back}
 use Rattle.run.proofs.Standing.Replied.{replied_to, replied}
 use Rattle.run.proofs.Standing.Began.{started-stands}
 use Rattle.run.proofs.Standing.Shows.{next, shown_by, goes_on, run-shows}
 use Rattle.run.proofs.Standing.ResumedSame.{resumes-stand}
+use Rattle.std.specs.declared.option.Option.{Option}
+use Rattle.std.specs.declared.option.Option.TheVariants.{None, Some}
+use Rattle.limiter.specs.declared.Traced.{Traced}
 
 -- ---- a meter followed through checks
 
 -- from the meter m, checks decided by it alone, to the meter m'; a key may be made, with a meter without a TAT
 data Follows : Option Gcra → List Decided → Option Gcra → Type 0 where
   nothing : {m : Option Gcra} → Follows m [] m
-  made_new : {q : Quota} {ds : List Decided} {m : Option Gcra} → Follows (some (fresh q)) ds m → Follows none ds m
-  checks : {g : Gcra} {t : ℕ} {ds : List Decided} {m : Option Gcra} → Follows (some (check g t)) ds m
-      → Follows (some g) (record { at = t; decision = decision g t } ∷ ds) m
+  made_new : {q : Quota} {ds : List Decided} {m : Option Gcra} → Follows (Some (fresh q)) ds m → Follows None ds m
+  checks : {g : Gcra} {t : ℕ} {ds : List Decided} {m : Option Gcra} → Follows (Some (check g t)) ds m
+      → Follows (Some g) (record { at = t; decision = decision g t } ∷ ds) m
 
 -- one after the other
 follows_then : {m m' m'' : Option Gcra} {xs ys : List Decided} → Follows m xs m' → Follows m' ys m'' → Follows m (xs ++ ys) m''
@@ -58,7 +61,7 @@ follows_then (made_new x) y = made_new (follows_then x y)
 follows_then (checks x) y = checks (follows_then x y)
 
 -- a tracked key's are its meter's decisions
-by-meter : {g : Gcra} {ds : List Decided} {m : Option Gcra} → Follows (some g) ds m → ds ≡ by_meter g ds
+by-meter : {g : Gcra} {ds : List Decided} {m : Option Gcra} → Follows (Some g) ds m → ds ≡ by_meter g ds
 unfolding by_meter
 by-meter nothing = refl
 by-meter (checks {g} {t} x) = ap (λ (l : List Decided). record { at = t; decision = decision g t } ∷ l) (by-meter x)
@@ -95,20 +98,20 @@ module _ (key : ℕ) where
   meter k = k.gcra
 
   found-or-new : (new : KeyRecord) {q : Quota} (x : Limit) (o : Option KeyRecord) {ds : List Decided} {m : Option Gcra} → new.gcra ≡ fresh q
-      → Follows (some (found_or new x o).gcra) ds m → Follows (of_key meter o) ds m
-  found-or-new new {q} x none {ds} {m} e f = made_new {q = q} (subst (λ (g : Gcra). Follows (some g) ds m) e f)
-  found-or-new new x (some y) e f = f
+      → Follows (Some (found_or new x o).gcra) ds m → Follows (of_key meter o) ds m
+  found-or-new new {q} x None {ds} {m} e f = made_new {q = q} (subst (λ (g : Gcra). Follows (Some g) ds m) e f)
+  found-or-new new x (Some y) e f = f
 
   enters : (s : LimiterState) (k : ℕ) (x : Limit) (now n : ℕ) (r : KeyRecord) (ds : List Decided) → r.key ≡ k
-      → Follows (some (entry (units_of s.settings) s k x now n).gcra) ds (some r.gcra)
+      → Follows (Some (entry (units_of s.settings) s k x now n).gcra) ds (Some r.gcra)
       → Follows (meter_in key s) (if_own key k ds) (of_key meter (key_with key (put_key r s.keys)))
   unfolding entry
   enters s k x now n r ds e f =
       split (eqb k key)
       (λ h.
       let z = eqb-true k key h in
-      let f' = subst (λ (j : ℕ). Follows (some (found_or (new_key (units_of s.settings) s.settings j x now n) x (key_with j s.keys)).gcra) ds
-      (some r.gcra)) z f in
+      let f' = subst (λ (j : ℕ). Follows (Some (found_or (new_key (units_of s.settings) s.settings j x now n) x (key_with j s.keys)).gcra) ds
+      (Some r.gcra)) z f in
       rw (h, put-own key r s.keys (e ∙ z)) (found-or-new (new_key (units_of s.settings) s.settings key x now n) x (key_with key s.keys) refl f'))
       (λ h. rw (h, put_other key r s.keys (ap (λ (j : ℕ). eqb j key) e ∙ h)) nothing)
 
@@ -122,7 +125,7 @@ module _ (key : ℕ) where
       → Follows (meter_in key s) (if_own key k (record { at = now; decision = key_decision (units_of s.settings) s k x now n } ∷ []))
       (meter_in key (check_in (units_of s.settings) s k x now n))
   unfolding check_in
-  check-follows s k x now n = enters s k x now n (checked_key now none (entry (units_of s.settings) s k x now n)) _ (entry_key (units_of s.settings) s k x now n) (checks nothing)
+  check-follows s k x now n = enters s k x now n (checked_key now None (entry (units_of s.settings) s k x now n)) _ (entry_key (units_of s.settings) s k x now n) (checks nothing)
 
   -- the words of one of many answers say it. A 'no' is 8 or 9.
   words-say : (a b : Bool) (d : Decision) (ws : List ℕ) → let qs = (8 asks a) ∷ (9 asks b) ∷ [] in let out = answer_words (answer qs d) ++ ws in
@@ -144,7 +147,7 @@ module _ (key : ℕ) where
       let now = get_or r 1 0 in
       let s' = after_one (units_of s.settings) n s k now in
       let more = flat (map answer_words (check_each (units_of s.settings) n rs s').answers) in
-      let x = checked_key now none (entry (units_of s.settings) s k (own_limit s) now n) in
+      let x = checked_key now None (entry (units_of s.settings) s k (own_limit s) now n) in
       let w = words-say (has_place s x.key) (counters_fit x) (key_decision (units_of s.settings) s k (own_limit s) now n) (more ++ out) in
       rw (append_assoc (answer_words (check_one (units_of s.settings) n s k now)) more out, w.1)
       (follows_then
@@ -157,7 +160,7 @@ module _ (key : ℕ) where
   meter_of s = meter_in key s.limiter
 
   -- the meter's answer of two
-  meters-answer : (qs : List Question) (d : Decisions) → meters (answer qs d) ≡ answer qs d.decision
+  meters-answer : (qs : List Question) (d : Traced) → meters (answer qs d) ≡ answer qs d.decision
   unfolding answer
   meters-answer [] d = refl
   meters-answer (q ∷ qs) d = split q.passed (λ e. rw e (meters-answer qs d)) (λ e. rw e)
@@ -186,7 +189,7 @@ module _ (key : ℕ) where
       (meter_of (after n (What.changes x) s))
   unfolding asked made replied_to table
   many-follows n list count m out s =
-      rw (done-passed (asked n (Change.check-each list count m out) s) _ (change-back _))
+      rw (done-passed (asked n (Change.check-each list count m out) s) _ (asked-back n (Change.check-each list count m out) s tt))
       (split (passes (asked n (Change.check-each list count m out) s)) (λ p. rw p (each-follows m (records 2 count list) s.limiter _))
       (λ p. rw p nothing))
 
@@ -194,12 +197,12 @@ module _ (key : ℕ) where
       → Follows (meter_of s) (decided_in key (What.changes x) (replied_to n x s)) (meter_of (after n (What.changes x) s))
   unfolding asked made replied_to
   call-follows n (Change.check k now m) s w =
-      one-call meter_of (asked n (Change.check k now m) s) k now _ _ (check-back _) (λ p. check-follows s.limiter k (own_limit s.limiter) now m)
+      one-call meter_of (asked n (Change.check k now m) s) k now _ _ (asked-back n (Change.check k now m) s _) (λ p. check-follows s.limiter k (own_limit s.limiter) now m)
   call-follows n (Change.check-in k z now m) s w =
-      one-call meter_of (asked n (Change.check-in k z now m) s) k now _ _ (check-back _) (λ p. check-follows s.limiter k z now m)
+      one-call meter_of (asked n (Change.check-in k z now m) s) k now _ _ (asked-back n (Change.check-in k z now m) s _) (λ p. check-follows s.limiter k z now m)
   call-follows n (Change.check-traced k z y now m) s w =
       one-call meter_of (asked n (Change.check-traced k z y now m) s) k now _ _
-      (ap meters (traced-back _)
+      (ap meters (asked-back n (Change.check-traced k z y now m) s _)
       ∙ meters-answer (asked n (Change.check-traced k z y now m) s)
       (record { decision = key_decision (units_of s.limiter.settings) s.limiter k z now m; shadow = shadow_decision (units_of s.limiter.settings) s.limiter k z y now m }))
       (λ p. traced-follows s.limiter k z y now m)
@@ -233,29 +236,25 @@ module _ (key : ℕ) where
 
 -- the first of some: there is a meter that decides it
 first : {m m' : Option Gcra} {d : Decided} {ds : List Decided} → Follows m (d ∷ ds) m'
-    → (g : Gcra) × (d.decision ≡ decision g d.at) × Follows (some (check g d.at)) ds m'
+    → (g : Gcra) × (d.decision ≡ decision g d.at) × Follows (Some (check g d.at)) ds m'
 first (made_new f) = first f
 first (checks {g} f) = (g, refl, f)
 
 -- the checks after some
 later : {m m' : Option Gcra} (us ds : List Decided) → Follows m (us ++ ds) m' → (n : Option Gcra) × Follows n ds m'
 later {m} [] ds f = (m, f)
-later {m = m} (u ∷ us) ds f = later {m = some (check (first f).0 u.at)} us ds (first f).2
+later {m = m} (u ∷ us) ds f = later {m = Some (check (first f).0 u.at)} us ds (first f).2
 
 -- denied checks leave the meter
-denied-stay : {g : Gcra} {m : Option Gcra} (vs ds : List Decided) → all is_denied vs ≡ true → Follows (some g) (vs ++ ds) m → Follows (some g) ds m
+denied-stay : {g : Gcra} {m : Option Gcra} (vs ds : List Decided) → all is_denied vs ≡ true → Follows (Some g) (vs ++ ds) m → Follows (Some g) ds m
 unfolding all
 denied-stay [] ds w f = f
 denied-stay {g} {m} (v ∷ vs) ds w (checks {t = t} f) =
     let b = both (not (is_allow (decision g t))) (all is_denied vs) w in
-    denied-stay vs ds b.1 (subst (λ (k : Gcra). Follows (some k) (vs ++ ds) m) (check-deny g t (not-true (is_allow (decision g t)) b.0)) f)
-  where
-    not-true : (a : Bool) → not a ≡ true → a ≡ false
-    not-true false e = refl
-    not-true true e = absurd (false≢true e)
+    denied-stay vs ds b.1 (subst (λ (k : Gcra). Follows (Some k) (vs ++ ds) m) (check-deny g t (not-true (is_allow (decision g t)) b.0)) f)
 
 -- a meter that is asked
-asked_by : {g : Gcra} {m : Option Gcra} {d : Decided} {ds : List Decided} → Follows (some g) (d ∷ ds) m → d.decision ≡ decision g d.at
+asked_by : {g : Gcra} {m : Option Gcra} {d : Decided} {ds : List Decided} → Follows (Some g) (d ∷ ds) m → d.decision ≡ decision g d.at
 asked_by (checks f) = refl
 
 -- it allows at its retry time
@@ -275,7 +274,7 @@ retry {m} {m'} ds us d vs e ws f same denied between =
     let y = first x.1 in
     let g = y.0 in
     let h : decision g d.at ≡ Deny e.at = sym y.1 ∙ denied in
-    let z = subst (λ (k : Gcra). Follows (some k) (vs ++ (e ∷ ws)) m') (check-deny g d.at (ap is_allow h)) y.2 in
+    let z = subst (λ (k : Gcra). Follows (Some k) (vs ++ (e ∷ ws)) m') (check-deny g d.at (ap is_allow h)) y.2 in
     asked_by (denied-stay vs (e ∷ ws) between z) ∙ allowed-at-retry g d.at e.at h
 
 -- ---- the two sentences

@@ -1,22 +1,21 @@
 -- Two sentences of 01, over lists of calls without a tick: what a key's checks are answered depends on its own record and the readings alone, and the
 -- retry time. Definitions only.
 use Rattle.std.specs.Prelude.{ℕ, ◌≡◌, Bool, true, false, cond, not, List, [], ◌∷◌, ◌++◌, eqb, get_or, drop}
-use Rattle.std.proofs.Math.Option.{some}
 use Rattle.gcra.specs.declared.Gcra.{Gcra}
 use Rattle.gcra.specs.declared.Decision.{Decision}
 use Rattle.gcra.specs.declared.Decision.TheVariants.{Allow, Deny}
 use Rattle.questions.specs.Questions.{Answer, refused, given}
-use Rattle.gcra.specs.Calls.{check_answer}
 use Rattle.gcra.specs.Meter as meter
 use Rattle.gcra.specs.Meter.{is_allow}
 use Rattle.questions.specs.Lists.{all}
 use Rattle.limiter.specs.declared.Config.{Config}
 use Rattle.limiter.specs.State.{KeyRecord, key_with}
-use Rattle.limiter.specs.Calls.{traced_answer}
 use Rattle.image.specs.Image.{State}
 use Rattle.run.specs.Run.{Change, What, Reply, Memory, Resume, Move, Shown, Runs, GoesOn, Resumes, Started}
 use Rattle.run.specs.Typed.{typed_config, typed_move}
 use Rattle.run.specs.Trace.{Sort, sort, meters, is_done, output_of, new_states, state_after}
+use Rattle.std.specs.declared.option.Option.TheVariants.{Some}
+use Rattle.questions.specs.Refusals.{answer_of}
 
 -- a check that is not refused: its reading, and what the program answered
 pub record Decided : Type 0 where
@@ -28,8 +27,8 @@ decided_at at (refused n) = []
 decided_at at (given d) = record { at = at; decision = d } ∷ []
 
 abbrev pub decision_in : Reply → Answer Decision
-decision_in (Reply.decided r) = check_answer r
-decision_in (Reply.traced r) = meters (traced_answer r)
+decision_in (Reply.decided r) = answer_of r
+decision_in (Reply.traced r) = meters (answer_of r)
 decision_in (Reply.decided-each r out) = refused 0
 decision_in (Reply.done r) = refused 0
 decision_in (Reply.tells r) = refused 0
@@ -97,7 +96,7 @@ by_meter g (d ∷ ds) = record { at = d.at; decision = meter.decision g d.at } �
 -- limits, cluster sizes and settings are
 abbrev pub OwnRecord : State → List Move → List Shown → Type 0
 OwnRecord s ms xs =
-    (key : ℕ) (k : KeyRecord) → key_with key s.limiter.keys ≡ some k → decided key ms xs ≡ by_meter k.gcra (decided key ms xs)
+    (key : ℕ) (k : KeyRecord) → key_with key s.limiter.keys ≡ Some k → decided key ms xs ≡ by_meter k.gcra (decided key ms xs)
 
 -- ---- 'A denied key checked at its retry time, with no tick and no other allowed check of it between, is allowed unless the call is refused'
 

@@ -9,22 +9,21 @@
 -- outputs and images' `Shown`, all in Run. 'Stretch', 'spell', 'interval', 'burst in force' and 'change of quota' are in Seen, and what a run shows
 -- of a key, `trace`, in Trace.
 use Rattle.std.specs.Prelude.{ℕ, ◌≤◌, ◌≡◌, true, ◌&&◌, List, length, take}
-use Rattle.std.proofs.Math.Option.{none}
-use Rattle.demand.specs.declared.answers.LenAnswer.{LenAnswer}
-use Rattle.demand.specs.declared.answers.LenAnswer.TheVariants as len-answer
 use Rattle.questions.specs.Lists.{all}
 use Rattle.peers.specs.Peers.State as peer-state
 use Rattle.peers.specs.Peers.State.{PeerTables}
 use Rattle.limiter.specs.declared.Config.{Config}
 use Rattle.limiter.specs.State.{LimiterTables, lengths, have_room}
 use Rattle.image.specs.declared.Loaded.{Loaded}
-use Rattle.image.specs.declared.LoadAnswer.{LoadAnswer}
-use Rattle.image.specs.declared.LoadAnswer.TheVariants as load-answer
 use Rattle.image.specs.Calls.{Loads}
 use Rattle.run.specs.Seen.{KeepsToTheBound, Premises, NeverLowered}
 use Rattle.run.specs.Run.{Memory, Call, Reply, Step, Resume, Move, Shown, lend, lent_by, image_of, SavesAt, Resumes, Unbroken, Resumed, Started}
 use Rattle.run.specs.Typed.{typed_config, typed_what, typed_move}
 use Rattle.run.specs.Trace.{new_states, trace}
+use Rattle.std.specs.declared.option.Option.TheVariants.{None}
+use Rattle.std.specs.declared.result.Result.{Result}
+use Rattle.std.specs.declared.result.Result.TheVariants.{Ok}
+use Rattle.questions.specs.declared.Refusal.{Refusal}
 
 -- ---- 'The resumed run's save and load get no "no" where there is room (1, 16)'
 
@@ -37,11 +36,11 @@ pub record Room (h : Memory) (w : Resume) : Type 0 where
 
 -- each answer that keeps the promise is no 'no'
 pub record Served (h : Memory) (w : Resume) : Type 0 where
-  pub saved : (r : LenAnswer) (out : List ℕ) → SavesAt h w r out → (size : ℕ) × (r ≡ len-answer.Is size)
+  pub saved : (r : Result ℕ Refusal) (out : List ℕ) → SavesAt h w r out → (size : ℕ) × (r ≡ Ok size)
   pub loaded :
-      (size : ℕ) (out : List ℕ) → SavesAt h w (len-answer.Is size) out
-      → (r : LoadAnswer) (t : LimiterTables) (pt : PeerTables) → Loads (take size out) w.tables w.peer_tables r t pt
-      → (x : Loaded) × (r ≡ load-answer.Is x)
+      (size : ℕ) (out : List ℕ) → SavesAt h w (Ok size) out
+      → (r : Result Loaded Refusal) (t : LimiterTables) (pt : PeerTables) → Loads (take size out) w.tables w.peer_tables r t pt
+      → (x : Loaded) × (r ≡ Ok x)
   -- and a save and a load that keep their promises exist
   pub resumed : (h' : Memory) × Resumes h w h'
 
@@ -58,7 +57,7 @@ pub record Counted (c : Config) (ms : List Move) (xs : List Shown) : Type 0 wher
   -- under the count's premises (01, 'The meter (001)')
   pub bound : (key : ℕ) → Premises (trace key (new_states c) ms xs) → KeepsToTheBound (trace key (new_states c) ms xs)
   -- 'a tick that by rounding lowers a TAT ahead of its reading, the quota the same, counts as one too': there is none
-  pub never_lowered : (key : ℕ) → NeverLowered none (trace key (new_states c) ms xs)
+  pub never_lowered : (key : ℕ) → NeverLowered None (trace key (new_states c) ms xs)
 
 -- of what the program holds at the start, h, and a list of calls with places of resumption, ms
 pub record Claim (c : Config) (h : Memory) (ms : List Move) : Type 0 where

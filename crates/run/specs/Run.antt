@@ -1,42 +1,30 @@
 -- A whole run (01, 'A whole run'): the calls, what the program holds, and what each call does by its promise. Definitions only.
 use Rattle.std.specs.Prelude.{ℕ, ◌≡◌, Bool, List, [], ◌∷◌, ◌++◌, Float, length, take, drop}
-use Rattle.std.proofs.Math.Option.{Option}
-use Rattle.gcra.specs.declared.CheckAnswer.{CheckAnswer}
-use Rattle.gcra.specs.declared.QuotaAnswer.{QuotaAnswer}
-use Rattle.gcra.specs.declared.RateAnswer.{RateAnswer}
-use Rattle.hot.specs.declared.hot_set.SinceAnswer.{SinceAnswer}
 use Rattle.peers.specs.declared.peer_demand.DemandReport.{DemandReport}
 use Rattle.peers.specs.declared.peer_demand.PeerDemand.{PeerDemand}
 use Rattle.peers.specs.declared.peer_demand.PeersChanged.{PeersChanged}
-use Rattle.peers.specs.declared.peer_demand.PeersAnswer.TheVariants as peers-answer
-use Rattle.peers.specs.declared.peer_demand.ChangeAnswer.{ChangeAnswer}
-use Rattle.demand.specs.declared.answers.FlagAnswer.{FlagAnswer}
-use Rattle.demand.specs.declared.answers.LenAnswer.{LenAnswer}
-use Rattle.demand.specs.declared.answers.LenAnswer.TheVariants as len-answer
-use Rattle.peers.specs.declared.peer_demand.HeardAnswer.{HeardAnswer}
-use Rattle.peers.specs.declared.peer_demand.TotalAnswer.{TotalAnswer}
 use Rattle.peers.specs.Peers.State as peer-state
 use Rattle.peers.specs.Peers.State.{PeerTables, PeerLengths}
 use Rattle.peers.specs.Peers.Calls as peers
 use Rattle.limiter.specs.declared.Limit.{Limit}
 use Rattle.limiter.specs.declared.Config.{Config}
 use Rattle.limiter.specs.declared.Limiter.{Limiter}
-use Rattle.limiter.specs.declared.LimiterAnswer.TheVariants as limiter-answer
 use Rattle.limiter.specs.declared.Tally.{Tally}
-use Rattle.limiter.specs.declared.TracedAnswer.{TracedAnswer}
-use Rattle.limiter.specs.declared.RatesAnswer.{RatesAnswer}
-use Rattle.limiter.specs.declared.KeyQuotaAnswer.{KeyQuotaAnswer}
-use Rattle.limiter.specs.declared.LimitAnswer.{LimitAnswer}
-use Rattle.limiter.specs.declared.ConfigAnswer.{ConfigAnswer}
-use Rattle.limiter.specs.declared.Checked.{Checked}
-use Rattle.limiter.specs.declared.TracedCheck.{TracedCheck}
-use Rattle.limiter.specs.declared.Changed.{Changed}
+use Rattle.limiter.specs.Answered.{Checked, TracedCheck, Changed}
 use Rattle.limiter.specs.State.{LimiterTables, Lengths, lengths}
 use Rattle.limiter.specs.Calls as limiter
 use Rattle.image.specs.declared.Loaded.{Loaded}
-use Rattle.image.specs.declared.LoadAnswer.TheVariants as load-answer
 use Rattle.image.specs.Image.{image}
 use Rattle.image.specs.Calls.{here, Saves, Loads}
+use Rattle.std.specs.declared.option.Option.{Option}
+use Rattle.std.specs.declared.result.Result.{Result}
+use Rattle.std.specs.declared.result.Result.TheVariants.{Ok}
+use Rattle.questions.specs.declared.Refusal.{Refusal}
+use Rattle.gcra.specs.declared.Quota.{Quota}
+use Rattle.gcra.specs.declared.Decision.{Decision}
+use Rattle.limiter.specs.declared.KeyRates.{KeyRates}
+use Rattle.limiter.specs.declared.Traced.{Traced}
+use Rattle.peers.specs.declared.peer_demand.Heard.{Heard}
 
 -- ---- calls: 'all that take the limiter's or the peers' state'
 
@@ -87,27 +75,27 @@ pub record Call : Type 0 where
 -- ---- answers, each with what was written to a lent output
 
 pub data Told : Type 0 where
-  rates : RatesAnswer → Told
-  quota : KeyQuotaAnswer → Told
-  limit : LimitAnswer → Told
-  new_quota : QuotaAnswer → Told
-  factor : RateAnswer → Told
-  config : ConfigAnswer → Told
-  since : SinceAnswer → Told
-  flag : FlagAnswer → Told
-  size : LenAnswer → Told
-  listed : LenAnswer → List ℕ → Told
-  heard : HeardAnswer → Told
-  total : TotalAnswer → Told
-  totals : ChangeAnswer → List Float → Told
-  flags : ChangeAnswer → List Bool → Told
+  rates : Result (Option KeyRates) Refusal → Told
+  quota : Result (Option Quota) Refusal → Told
+  limit : Result (Option Limit) Refusal → Told
+  new_quota : Result Quota Refusal → Told
+  factor : Result Float Refusal → Told
+  config : Result Config Refusal → Told
+  since : Result (Option ℕ) Refusal → Told
+  flag : Result Bool Refusal → Told
+  size : Result ℕ Refusal → Told
+  listed : Result ℕ Refusal → List ℕ → Told
+  heard : Result (Option Heard) Refusal → Told
+  total : Result Float Refusal → Told
+  totals : Result Unit Refusal → List Float → Told
+  flags : Result Unit Refusal → List Bool → Told
   number : ℕ → Told
 
 pub data Reply : Type 0 where
-  decided : CheckAnswer → Reply
-  traced : TracedAnswer → Reply
-  decided-each : ChangeAnswer → List ℕ → Reply
-  done : ChangeAnswer → Reply
+  decided : Result Decision Refusal → Reply
+  traced : Result Traced Refusal → Reply
+  decided-each : Result Unit Refusal → List ℕ → Reply
+  done : Result Unit Refusal → Reply
   tells : Told → Reply
 
 -- ---- what the program holds: 'the limiter's state, the peers' state and the tables'
@@ -165,41 +153,41 @@ pub data Does (h : Memory) : Change → Reply → Memory → Type 0 where
       → Does h (expire now max_age) (done r.answer) (with_peers h r.peers t)
 
 pub data Tells (h : Memory) : Query → Told → Type 0 where
-  tells_rates : {key : ℕ} {r : RatesAnswer} → limiter.TellsRates h.limiter h.tables key r → Tells h (key_rates key) (rates r)
-  tells_quota : {key : ℕ} {r : KeyQuotaAnswer} → limiter.TellsQuota h.limiter h.tables key r → Tells h (quota key) (quota r)
-  tells_limit : {key : ℕ} {r : LimitAnswer} → limiter.TellsLimit h.limiter h.tables key r → Tells h (limit key) (limit r)
-  tells_since : {key : ℕ} {r : SinceAnswer} → limiter.TellsHotSince h.limiter h.tables key r → Tells h (hot_since key) (since r)
-  tells_hot : {key : ℕ} {r : FlagAnswer} → limiter.TellsHot h.limiter h.tables key r → Tells h (is-hot key) (flag r)
-  tells_tracked : {key : ℕ} {r : FlagAnswer} → limiter.TellsTracked h.limiter h.tables key r → Tells h (is-tracked key) (flag r)
-  tells_new_quota : {x : Limit} {n : ℕ} {r : QuotaAnswer} → limiter.TellsNewKeyQuota h.limiter h.tables x n r
+  tells_rates : {key : ℕ} {r : Result (Option KeyRates) Refusal} → limiter.TellsRates h.limiter h.tables key r → Tells h (key_rates key) (rates r)
+  tells_quota : {key : ℕ} {r : Result (Option Quota) Refusal} → limiter.TellsQuota h.limiter h.tables key r → Tells h (quota key) (quota r)
+  tells_limit : {key : ℕ} {r : Result (Option Limit) Refusal} → limiter.TellsLimit h.limiter h.tables key r → Tells h (limit key) (limit r)
+  tells_since : {key : ℕ} {r : Result (Option ℕ) Refusal} → limiter.TellsHotSince h.limiter h.tables key r → Tells h (hot_since key) (since r)
+  tells_hot : {key : ℕ} {r : Result Bool Refusal} → limiter.TellsHot h.limiter h.tables key r → Tells h (is-hot key) (flag r)
+  tells_tracked : {key : ℕ} {r : Result Bool Refusal} → limiter.TellsTracked h.limiter h.tables key r → Tells h (is-tracked key) (flag r)
+  tells_new_quota : {x : Limit} {n : ℕ} {r : Result Quota Refusal} → limiter.TellsNewKeyQuota h.limiter h.tables x n r
       → Tells h (new_key_quota x n) (new_quota r)
-  tells_factor : {n : ℕ} {r : RateAnswer} → limiter.TellsNewKeyFactor h.limiter h.tables n r → Tells h (new-key-factor n) (factor r)
-  tells_config : {r : ConfigAnswer} → limiter.TellsConfig h.limiter h.tables r → Tells h config (config r)
-  counts_keys : {r : LenAnswer} → limiter.CountsKeys h.limiter h.tables r → Tells h tracked_keys (size r)
-  counts_hot : {r : LenAnswer} → limiter.CountsHot h.limiter h.tables r → Tells h hot_keys (size r)
-  lists_hot : {out out' : List ℕ} {r : LenAnswer} → limiter.ListsHotDemand h.limiter h.tables out r out'
+  tells_factor : {n : ℕ} {r : Result Float Refusal} → limiter.TellsNewKeyFactor h.limiter h.tables n r → Tells h (new-key-factor n) (factor r)
+  tells_config : {r : Result Config Refusal} → limiter.TellsConfig h.limiter h.tables r → Tells h config (config r)
+  counts_keys : {r : Result ℕ Refusal} → limiter.CountsKeys h.limiter h.tables r → Tells h tracked_keys (size r)
+  counts_hot : {r : Result ℕ Refusal} → limiter.CountsHot h.limiter h.tables r → Tells h hot_keys (size r)
+  lists_hot : {out out' : List ℕ} {r : Result ℕ Refusal} → limiter.ListsHotDemand h.limiter h.tables out r out'
       → Tells h (hot-demand out) (listed r out')
   lists_denied :
-      {k : ℕ} {out out' : List ℕ} {r : LenAnswer} → limiter.ListsMostDenied h.limiter h.tables k out r out'
+      {k : ℕ} {out out' : List ℕ} {r : Result ℕ Refusal} → limiter.ListsMostDenied h.limiter h.tables k out r out'
       → Tells h (most-denied k out) (listed r out')
   lists_shadow_denied :
-      {k : ℕ} {out out' : List ℕ} {r : LenAnswer} → limiter.ListsMostShadowDenied h.limiter h.tables k out r out'
+      {k : ℕ} {out out' : List ℕ} {r : Result ℕ Refusal} → limiter.ListsMostShadowDenied h.limiter h.tables k out r out'
       → Tells h (most_shadow_denied k out) (listed r out')
-  gets : {peer key : ℕ} {r : HeardAnswer} → peers.Gets h.peers h.peer_tables peer key r → Tells h (get peer key) (heard r)
-  tells_total : {key : ℕ} {r : TotalAnswer} → peers.Totals h.peers h.peer_tables key r → Tells h (total key) (total r)
-  tells_elsewhere : {key : ℕ} {r : FlagAnswer} → peers.TellsHotElsewhere h.peers h.peer_tables key r → Tells h (hot-elsewhere key) (flag r)
+  gets : {peer key : ℕ} {r : Result (Option Heard) Refusal} → peers.Gets h.peers h.peer_tables peer key r → Tells h (get peer key) (heard r)
+  tells_total : {key : ℕ} {r : Result Float Refusal} → peers.Totals h.peers h.peer_tables key r → Tells h (total key) (total r)
+  tells_elsewhere : {key : ℕ} {r : Result Bool Refusal} → peers.TellsHotElsewhere h.peers h.peer_tables key r → Tells h (hot-elsewhere key) (flag r)
   tells_totals :
-      {w n : ℕ} {keys : List ℕ} {out out' : List Float} {r : ChangeAnswer} → peers.TotalsEach h.peers h.peer_tables w n keys out r out'
+      {w n : ℕ} {keys : List ℕ} {out out' : List Float} {r : Result Unit Refusal} → peers.TotalsEach h.peers h.peer_tables w n keys out r out'
       → Tells h (totals w n keys out) (totals r out')
   tells_elsewheres :
-      {w n : ℕ} {keys : List ℕ} {out out' : List Bool} {r : ChangeAnswer} → peers.TellsHotElsewhereEach h.peers h.peer_tables w n keys out r out'
+      {w n : ℕ} {keys : List ℕ} {out out' : List Bool} {r : Result Unit Refusal} → peers.TellsHotElsewhereEach h.peers h.peer_tables w n keys out r out'
       → Tells h (hot_elsewheres w n keys out) (flags r out')
-  counts_peer_keys : {r : LenAnswer} → peers.Counts h.peers h.peer_tables r → Tells h peer-keys (size r)
-  tells_no_peer_keys : {r : FlagAnswer} → peers.TellsEmpty h.peers h.peer_tables r → Tells h no-peer-keys (flag r)
+  counts_peer_keys : {r : Result ℕ Refusal} → peers.Counts h.peers h.peer_tables r → Tells h peer-keys (size r)
+  tells_no_peer_keys : {r : Result Bool Refusal} → peers.TellsEmpty h.peers h.peer_tables r → Tells h no-peer-keys (flag r)
   asks_limiter : {r : ℕ} → limiter.Asks h.limiter h.tables r → Tells h ask-limiter (number r)
   asks_peers : {r : ℕ} → peers.Asks h.peers h.peer_tables r → Tells h ask-peers (number r)
   saves :
-      {out out' : List ℕ} {r : LenAnswer} → Saves h.limiter h.tables h.peers h.peer_tables out r out'
+      {out out' : List ℕ} {r : Result ℕ Refusal} → Saves h.limiter h.tables h.peers h.peer_tables out r out'
       → Tells h (save out) (listed r out')
 
 pub data Acts (h : Memory) : What → Reply → Memory → Type 0 where
@@ -298,14 +286,14 @@ abbrev pub GoesOn : Memory → Resume → Memory → Type 0
 GoesOn h w h' = h' ≡ h
 
 -- a save of what is lent there
-abbrev pub SavesAt : Memory → Resume → LenAnswer → List ℕ → Type 0
+abbrev pub SavesAt : Memory → Resume → Result ℕ Refusal → List ℕ → Type 0
 SavesAt h w r out = Saves h.limiter (lend w.lent h).tables h.peers (lend w.lent h).peer_tables w.out r out
 
 -- 'The resumed run's load gets the image its save wrote, and tables whatever they hold'
 pub data Resumes (h : Memory) (w : Resume) : Memory → Type 0 where
   saved_and_loaded :
-      {size : ℕ} {out : List ℕ} {x : Loaded} {t : LimiterTables} {pt : PeerTables} → SavesAt h w (len-answer.Is size) out
-      → Loads (take size out) w.tables w.peer_tables (load-answer.Is x) t pt
+      {size : ℕ} {out : List ℕ} {x : Loaded} {t : LimiterTables} {pt : PeerTables} → SavesAt h w (Ok size) out
+      → Loads (take size out) w.tables w.peer_tables (Ok x) t pt
       → Resumes h w (record { limiter = x.limiter; tables = t; peers = x.peers; peer_tables = pt })
 
 abbrev pub Unbroken : Memory → List Move → List Shown → Memory → Type 0
@@ -318,5 +306,5 @@ Resumed = Runs Resumes
 pub record Started (c : Config) (h : Memory) : Type 0 where
   pub tables : LimiterTables
   pub peer_tables : PeerTables
-  pub limiter : limiter.IsNew c tables (limiter-answer.Is h.limiter)
-  pub peers : peers.IsNew peer_tables (peers-answer.Is h.peers)
+  pub limiter : limiter.IsNew c tables (Ok h.limiter)
+  pub peers : peers.IsNew peer_tables (Ok h.peers)

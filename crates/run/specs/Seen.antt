@@ -1,10 +1,11 @@
 -- What a run shows of one key, by each call that has a reading, and what demand 3 counts in it (01, 'The meter (001)'). Nothing here knows how the
 -- limiter works. Definitions only.
 use Rattle.std.specs.Prelude.{ℕ, ◌+◌, ◌-◌, ◌*◌, ◌/◌, ◌^◌, ◌≤◌, ◌<◌, max, ◌≡◌, Bool, true, false, cond, ◌&&◌, List, [], ◌∷◌, ◌++◌, ltb}
-use Rattle.std.proofs.Math.Option.{Option, none, some}
 use Rattle.gcra.specs.declared.Gcra.{Gcra}
 use Rattle.gcra.specs.Rate.{same_quota}
 use Rattle.gcra.specs.Meter.{tat_word}
+use Rattle.std.specs.declared.option.Option.{Option}
+use Rattle.std.specs.declared.option.Option.TheVariants.{None, Some}
 
 pub record Seen : Type 0 where
   -- the call's reading
@@ -18,10 +19,10 @@ pub record Seen : Type 0 where
 
 -- 'A spell is the part of a stretch in which a tracked key keeps one quota; it ends when the key is dropped'
 abbrev pub goes_on : Option Gcra → Option Gcra → Bool
-goes_on none none = true
-goes_on none (some b) = false
-goes_on (some a) none = false
-goes_on (some a) (some b) = same_quota b.quota a.quota
+goes_on None None = true
+goes_on None (Some b) = false
+goes_on (Some a) None = false
+goes_on (Some a) (Some b) = same_quota b.quota a.quota
 
 -- 'lowers a TAT ahead of its reading': of a TAT a at the reading `at`, which becomes b
 abbrev pub lowered : (at a b : ℕ) → ℕ
@@ -30,9 +31,9 @@ lowered at a b = cond (ltb at a && ltb b a) 1 0
 -- 'A change of quota is a call that ends one spell and starts the next, the key tracked throughout; a tick that by rounding lowers a TAT ahead of its
 -- reading, the quota the same, counts as one too'
 abbrev pub change : ℕ → Option Gcra → Option Gcra → ℕ
-change at none b = 0
-change at (some a) none = 0
-change at (some a) (some b) = cond (same_quota b.quota a.quota) (lowered at (tat_word a.tat) (tat_word b.tat)) 1
+change at None b = 0
+change at (Some a) None = 0
+change at (Some a) (Some b) = cond (same_quota b.quota a.quota) (lowered at (tat_word a.tat) (tat_word b.tat)) 1
 
 -- No call does the last: with the quota the same no TAT is lowered, so the sentence's second half never counts
 abbrev pub NeverLowered : Option Gcra → List Seen → Type 0
@@ -46,8 +47,8 @@ changes m (x ∷ xs) = change x.at m x.meter + changes x.meter xs
 
 -- a spell's 'length divided by its interval, rounded down'; nothing where the key is not tracked
 abbrev pub share : Option Gcra → ℕ → ℕ → ℕ
-share none from to = 0
-share (some a) from to = (to - from) / a.quota.interval
+share None from to = 0
+share (Some a) from to = (to - from) / a.quota.interval
 
 -- those of the spell of `m` that began at `from` and of the spells after it. 'A spell's length is the reading of the call that ends it less that of
 -- the one that starts it'; the last spell ends with the last call, whose reading is `to` where no call is left
@@ -67,8 +68,8 @@ allowed_in [] = 0
 allowed_in (x ∷ xs) = x.allowed + allowed_in xs
 
 abbrev pub burst_of : Option Gcra → ℕ
-burst_of none = 0
-burst_of (some a) = a.quota.burst
+burst_of None = 0
+burst_of (Some a) = a.quota.burst
 
 -- 'the burst in force at the last of them, plus each spell's length divided by its interval, rounded down, plus two for each change of quota'
 abbrev pub bound : Seen → List Seen → ℕ
@@ -90,9 +91,9 @@ Onward latest (x ∷ xs) = (latest ≤ x.at) × (x.at < 2 ^ 62) × Onward x.at x
 
 -- not removed while its TAT is later than the latest reading. The sentence asks more, that the tracked-key cap never removes it.
 abbrev pub stays : ℕ → Option Gcra → Option Gcra → Type 0
-stays at none b = Unit
-stays at (some a) none = tat_word a.tat ≤ at
-stays at (some a) (some b) = Unit
+stays at None b = Unit
+stays at (Some a) None = tat_word a.tat ≤ at
+stays at (Some a) (Some b) = Unit
 
 abbrev pub Kept : Option Gcra → List Seen → Type 0
 Kept m [] = Unit
@@ -104,8 +105,8 @@ largest_burst [] = 0
 largest_burst (x ∷ xs) = max (burst_of x.meter) (largest_burst xs)
 
 abbrev pub IsSmall : ℕ → Option Gcra → Type 0
-IsSmall burst none = Unit
-IsSmall burst (some a) = a.quota.interval * burst ≤ 2 ^ 61
+IsSmall burst None = Unit
+IsSmall burst (Some a) = a.quota.interval * burst ≤ 2 ^ 61
 
 abbrev pub Small : ℕ → List Seen → Type 0
 Small burst [] = Unit
@@ -114,5 +115,5 @@ Small burst (x ∷ xs) = IsSmall burst x.meter × Small burst xs
 -- of what a whole run shows. 'its quota changes fewer than 2^32 times' is not asked: the bound holds without it.
 pub record Premises (all : List Seen) : Type 0 where
   pub onward : Onward 0 all
-  pub kept : Kept none all
+  pub kept : Kept None all
   pub small : Small (largest_burst all) all

@@ -1,16 +1,12 @@
 -- What a run shows of one key. 'Tracked, TAT, quota and drop are what demand 2's definitions give for the settings and calls so far, not what the
 -- program stored': the calls are run on the definitions' state, and only the answers are the program's. Definitions only.
 use Rattle.std.specs.Prelude.{ℕ, Bool, true, false, cond, ◌&&◌, List, [], ◌∷◌, ◌++◌, eqb, length, get_or, drop}
-use Rattle.std.proofs.Math.Option.{Option}
 use Rattle.records.specs.Records.{records, fits}
 use Rattle.gcra.specs.declared.Units.{Units}
 use Rattle.gcra.specs.declared.Gcra.{Gcra}
 use Rattle.gcra.specs.declared.Decision.{Decision}
 use Rattle.questions.specs.Questions.{Question, ◌asks◌, Answer, refused, given, changed}
 use Rattle.gcra.specs.Meter.{is_allow}
-use Rattle.gcra.specs.Calls.{check_answer}
-use Rattle.peers.specs.declared.peer_demand.ChangeAnswer.{ChangeAnswer}
-use Rattle.peers.specs.declared.peer_demand.ChangeAnswer.TheVariants as change-answer
 use Rattle.peers.specs.Peers.State as peer-state
 use Rattle.peers.specs.Peers.Changes as peer-changes
 use Rattle.peers.specs.Peers.Calls as peer-calls
@@ -21,10 +17,16 @@ use Rattle.limiter.specs.State.{KeyRecord, LimiterState, parameters_of, units_of
 use Rattle.limiter.specs.Checks as checks
 use Rattle.limiter.specs.Ticks as ticks
 use Rattle.limiter.specs.Readers.{of_key}
-use Rattle.limiter.specs.Calls.{Decisions, traced_answer, new_state, each_questions}
+use Rattle.limiter.specs.Calls.{new_state, each_questions}
 use Rattle.image.specs.Image.{State, valid}
 use Rattle.run.specs.Seen.{Seen}
 use Rattle.run.specs.Run.{Change, What, Lent, Reply, Move, Shown}
+use Rattle.std.specs.declared.option.Option.{Option}
+use Rattle.std.specs.declared.result.Result.{Result}
+use Rattle.std.specs.declared.result.Result.TheVariants.{Ok, Err}
+use Rattle.questions.specs.declared.Refusal.{Refusal}
+use Rattle.questions.specs.Refusals.{answer_of}
+use Rattle.limiter.specs.declared.Traced.{Traced}
 
 -- ---- the calls on the definitions' state
 
@@ -124,13 +126,13 @@ abbrev pub allows : Answer Decision → ℕ
 allows (refused n) = 0
 allows (given d) = cond (is_allow d) 1 0
 
-abbrev pub meters : Answer Decisions → Answer Decision
+abbrev pub meters : Answer Traced → Answer Decision
 meters (refused n) = refused n
 meters (given d) = given d.decision
 
 abbrev pub allowed_by : Reply → ℕ
-allowed_by (Reply.decided r) = allows (check_answer r)
-allowed_by (Reply.traced r) = allows (meters (traced_answer r))
+allowed_by (Reply.decided r) = allows (answer_of r)
+allowed_by (Reply.traced r) = allows (meters (answer_of r))
 allowed_by (Reply.decided-each r out) = 0
 allowed_by (Reply.done r) = 0
 allowed_by (Reply.tells r) = 0
@@ -144,9 +146,9 @@ output_of (Reply.done r) = []
 output_of (Reply.tells r) = []
 
 -- whether a call on many was done, by its answer
-abbrev pub was_done : ChangeAnswer → Bool
-was_done (change-answer.No n) = false
-was_done change-answer.Done = true
+abbrev pub was_done : Result Unit Refusal → Bool
+was_done (Err x) = false
+was_done (Ok x) = true
 
 abbrev pub is_done : Reply → Bool
 is_done (Reply.decided r) = false

@@ -5,18 +5,22 @@ use mathlib.Core.Logic.{inl, inr, ⊎_elim}
 use mathlib.Core.Bool.{Bool, true, false, cond, not, ◌&&◌, ◌||◌, true≢false}
 use mathlib.Core.List.{List, [], ◌∷◌, ◌++◌, append_assoc, append-nil}
 use native.Mathlib.Omega.{arith}
-use borrow.Author.Tests.{ltb-true, ltb-false, le-leb, eqb-true, eqb-false}
-use lib.Dec.{eqb, leb, ltb}
-use lib.ListN.{length, take, drop, get_or, set, length-set, length-append, take-append-drop}
+use borrow.Author.Tests.{ltb-true, ltb-false, le-leb, eqb-true}
+use lib.Dec.{eqb, ltb}
+use lib.ListN.{length, take, drop, get_or, length-append, take-append-drop}
 use native.Mathlib.Numerals.{add-one}
-use lib.Seq.{take-add, drop_at, take_at, take_all, take-take, take-length, drop-append-le, length-take-le, get_or-take, get_or-drop, ext_get_or}
-use lib.Seq.{slice, slice-cons, length-slice, get_or-set_same, get_or-set_other}
+use lib.Seq.{take_at, take_all, take-take, drop-append-le, length-take-le, get_or-take, get_or-drop}
+use lib.Seq.{slice, slice-cons, length-slice}
+use Rattle.std.proofs.Common.{Option, Some, None}
+use Rattle.std.specs.List.{copy_within}
+use Rattle.std.proofs.lemmas.List.{drop-take}
+use Rattle.std.proofs.Common.{length-drop}
 use Rattle.text.specs.declared.lines.Kind.TheVariants as kind
 use Rattle.text.specs.declared.lines.Line.{Line}
 use Rattle.text.specs.declared.lines.Lines.{Lines}
 use Rattle.text.specs.declared.lines.Window.{Window}
-use Rattle.text.specs.Input.{index_of, feed, has_no_feed, in_hand, line_in_hand, Parted, Told, Came}
-use Rattle.text.specs.Steps.{seen, Held, NoFeed, Roomy, LineRead, line_of, no_line, last_line}
+use Rattle.text.specs.Input.{index_of, feed, has_no_feed, in_hand, Parted, Told, Came}
+use Rattle.text.specs.Steps.{seen, NoFeed, Roomy, More, LineRead, line_of, last_line}
 
 split : {P : Type 0} (b : Bool) → (b ≡ true → P) → (b ≡ false → P) → P
 split true y n = y refl
@@ -30,7 +34,7 @@ neither : (a b : Bool) → (a || b) ≡ false → (a ≡ false) × (b ≡ false)
 neither true b e = absurd (true≢false e)
 neither false b e = (refl, e)
 
-pub strictly : (a b : ℕ) → a ≤ b → (b ≡ a → ⊥) → a < b
+strictly : (a b : ℕ) → a ≤ b → (b ≡ a → ⊥) → a < b
 strictly a b h n = omega arith
 
 -- ---- parts of a list
@@ -40,15 +44,6 @@ slice-parts {A = A} a b c l h k m =
     ∙ drop-append-le a (take b (take c l)) (drop b (take c l))
     (omega (arith, h, k, length-take-le b (take c l) (omega (arith, k, length-take-le c l m))))
     ∙ ap (λ (z : List A). drop a z ++ slice b c l) (take-take b c l k)
-
--- a lent part of a list
-pub part_slice : {A : Type 0} (a e : ℕ) (l : List A) → a ≤ e → e ≤ length l → take (e - a) (drop a l) ≡ slice a e l
-part_slice {A = A} a e l h k =
-    let n : a + (e - a) ≡ e = omega (arith, h) in
-    sym
-    (ap (λ (m : ℕ). drop a (take m l)) (sym n)
-    ∙ ap (drop a) (take-add a (e - a) l)
-    ∙ drop_at (take a l) (take (e - a) (drop a l)) a (length-take-le a l (omega (arith, h, k))))
 
 -- ---- line feeds
 nil-clear : has_no_feed [] ≡ true
@@ -83,40 +78,6 @@ feed-there (x ∷ xs) h = feed-or x xs
     (λ e k. ap (λ (n : ℕ). get_or (x ∷ xs) n 0) k ∙ e)
     (λ e k. ap (λ (n : ℕ). get_or (x ∷ xs) n 0) k ∙ feed-there xs (omega (arith, h, k)))
 
--- ---- bytes moved to the front, one by one
-pub record Moved (from i : ℕ) (xs ys : List ℕ) : Type 0 where
-  pub as_long : length ys ≡ length xs
-  pub moved : (j : ℕ) → j < i - from → get_or ys j 0 ≡ get_or xs (from + j) 0
-  pub kept : (j : ℕ) → i ≤ j → get_or ys j 0 ≡ get_or xs j 0
-
-pub none-moved : (from : ℕ) (xs : List ℕ) → Moved from from xs xs
-none-moved from xs = record { as_long = refl; moved = λ j h. absurd (omega (arith, h)); kept = λ j h. refl }
-
-pub one-moved : (from i : ℕ) (xs ys : List ℕ) → from ≤ i → i < length ys → Moved from i xs ys
-    → Moved from (i + 1) xs (set ys (i - from) (get_or ys i 0))
-one-moved from i xs ys h k m = record {
-  as_long = length-set ys (i - from) (get_or ys i 0) ∙ m.as_long;
-  moved = λ j l. split (eqb j (i - from))
-      (λ e.
-      let q : j ≡ i - from = eqb-true j (i - from) e in
-      let p : from + j ≡ i = omega (arith, q, h) in
-      ap (λ (n : ℕ). get_or (set ys (i - from) (get_or ys i 0)) n 0) q
-      ∙ get_or-set_same ys (i - from) (get_or ys i 0) 0 (omega (arith, h, k))
-      ∙ m.kept i (omega arith) ∙ ap (λ (n : ℕ). get_or xs n 0) (sym p))
-      (λ e.
-      get_or-set_other ys (i - from) j (get_or ys i 0) 0 (eqb-false j (i - from) e)
-      ∙ m.moved j (strictly j (i - from) (omega (arith, l, h)) (λ q. eqb-false j (i - from) e (sym q))));
-  kept = λ j l. get_or-set_other ys (i - from) j (get_or ys i 0) 0 (λ e. omega (arith, e, l)) ∙ m.kept j (omega (arith, l));
-}
-
-pub all_moved : (from to : ℕ) (xs ys : List ℕ) → from ≤ to → to ≤ length xs → Moved from to xs ys → take (to - from) ys ≡ slice from to xs
-all_moved from to xs ys h k m =
-    ext_get_or 0 (take (to - from) ys) (slice from to xs)
-    (length-take-le (to - from) ys (omega (arith, k, m.as_long)) ∙ sym (length-slice from to xs k))
-    (λ j l.
-    let n : j < to - from = omega (arith, l, length-take-le (to - from) ys (omega (arith, k, m.as_long))) in
-    get_or-take (to - from) ys j 0 n ∙ m.moved j n ∙ sym (get_or-drop from (take to xs) j 0 ∙ get_or-take to xs (from + j) 0 (omega (arith, n, h))))
-
 -- ---- a line that is looked for: what was in hand and read is what was passed over and what is seen
 pub record Looking (h₀ buf : List ℕ) (w : Window) : Type 0 where
   pub ordered : w.from ≤ w.to
@@ -135,20 +96,6 @@ in-hand from to xs h k = (λ i. cond (le-leb from to h i && le-leb to (length xs
 
 no_bytes : (xs : List ℕ) → in_hand (record { from = 0; to = 0 }) xs ≡ []
 no_bytes xs = in-hand 0 0 xs (omega arith) (omega arith)
-
-module _ (s : Lines) (xs : List ℕ) where
-  pub held : s.from ≤ s.to → s.to ≤ length xs → Held s xs (record { from = s.from; to = s.to; given_up = false })
-  held h k = record { ordered = h; inside = k; bytes = sym (in-hand s.from s.to xs h k); none_given_up = refl; place = inl (refl, refl) }
-
-  pub none-held : (leb s.from s.to && leb s.to (length xs)) ≡ false → Held s xs (record { from = 0; to = 0; given_up = false })
-  unfolding in_hand
-  none-held e = record {
-    ordered = omega arith;
-    inside = omega arith;
-    bytes = sym (ap (λ (b : Bool). cond b (slice s.from s.to xs) []) e);
-    none_given_up = refl;
-    place = inr (ap (λ (b : Bool). cond b (slice s.from s.to xs) []) e);
-  }
 
 pub looks : (w : Window) (xs : List ℕ) → NoFeed w xs → Looking (seen w xs) xs w
 looks w xs h = record {
@@ -176,7 +123,7 @@ told_of {bytes = bytes} {line = line} {rest = rest} long false none many fits p 
     }
 
 -- the line itself for one that equals it
-pub same_line : {hand xs : List ℕ} {l r : Line} {ys : List ℕ} → r ≡ l → LineRead hand xs l ys → LineRead hand xs r ys
+pub same_line : {hand xs : List ℕ} {l r : Option Line} {ys : List ℕ} → r ≡ l → LineRead hand xs l ys → LineRead hand xs r ys
 same_line q k = rw q k
 
 -- ---- a line feed is seen
@@ -228,14 +175,16 @@ module _ (h₀ buf : List ℕ) (w : Window) (g : Looking h₀ buf w) (e : ℕ) (
     omega (arith, length-slice w.from e buf (omega (arith, h, g.inside)), h, g.inside),
   )
 
-  pub found : (xs : List ℕ) → length buf ≡ length xs → LineRead h₀ xs (line_of w.from e w.given_up (e + 1) w.to) buf
+  pub found : (xs : List ℕ) → length buf ≡ length xs → LineRead h₀ xs (Some (line_of w.from e w.given_up (e + 1) w.to)) buf
   found xs as_long = record {
     placed = record {
       as_long = as_long;
-      ordered = omega (arith, at);
-      inside = omega (arith, h, g.inside);
-      rest_ordered = omega (arith, h);
-      rest_inside = g.inside;
+      within = record {
+        ordered = omega (arith, at);
+        inside = omega (arith, h, g.inside);
+        rest_ordered = omega (arith, h);
+        rest_inside = g.inside;
+      };
     };
     from_input = record { input = g.input; told = told_of (length buf) w.given_up g.none_passed g.many (λ b. found-fits) parted };
   }
@@ -244,23 +193,20 @@ module _ (h₀ buf : List ℕ) (w : Window) (g : Looking h₀ buf w) (e : ℕ) (
 pub none_seen : (ys : List ℕ) → length ys ≤ index_of feed ys → has_no_feed ys ≡ true
 none_seen ys h = ap has_no_feed (sym (take_all (index_of feed ys) ys h)) ∙ no-feed-before ys
 
--- room by the place of the window
-module _ (w : Window) (xs ys : List ℕ) (front : w.from ≡ 0) where
-  pub full-roomy : w.to ≡ length xs → ys ≡ xs → Roomy w xs (record { from = 0; to = 0; given_up = true }) ys
-  full-roomy h e = record {
-    front = refl;
-    inside = omega arith;
-    kept = inr (refl, refl, (λ i. slice (front i) (h i) xs) ∙ take-length xs);
-  }
+-- bytes that `copy_within` moves to the front
+moved : (from to : ℕ) (xs : List ℕ) → from ≤ to → to ≤ length xs → take (to - from) (copy_within xs from to 0) ≡ slice from to xs
+moved from to xs h k =
+    let n : from + (to - from) ≡ to = omega (arith, h) in
+    let part : take (to - from) (drop from xs) ≡ slice from to xs = sym (drop-take from (to - from) xs) ∙ ap (λ (m : ℕ). drop from (take m xs)) n in
+    take_at (take (to - from) (drop from xs)) (drop (0 + (to - from)) xs) (to - from) (length-take-le (to - from) (drop from xs) (omega (arith, length-drop from xs, h, k))) ∙ part
 
-  pub same-roomy : w.to < length xs → ys ≡ xs → Roomy w xs w ys
-  same-roomy h e =
-      record { front = front; inside = omega (arith, h, ap length e); kept = inl (refl, omega (arith, h, ap length e), ap (seen w) e) }
-
-pub moved-roomy : (w : Window) (xs ys : List ℕ) → 0 < w.from → w.from ≤ w.to → w.to ≤ length xs → length ys ≡ length xs
-    → take (w.to - w.from) ys ≡ slice w.from w.to xs
+pub moved-roomy : (w : Window) (xs ys : List ℕ) → 0 < w.from → w.from ≤ w.to → w.to ≤ length xs → ys ≡ copy_within xs w.from w.to 0 → length ys ≡ length xs
     → Roomy w xs (record { from = 0; to = w.to - w.from; given_up = w.given_up }) ys
-moved-roomy w xs ys f o h l e = record { front = refl; inside = omega (arith, h, l); kept = inl (refl, omega (arith, f, o, h, l), e) }
+moved-roomy w xs ys f o h e l = record {
+  front = refl;
+  inside = omega (arith, h, l);
+  kept = inl (refl, omega (arith, f, o, h, l), ap (take (w.to - w.from)) e ∙ moved w.from w.to xs o h);
+}
 
 -- where nothing is given up, there is room
 pub has_room : {w : Window} {xs : List ℕ} {r : Window} {ys : List ℕ} → Roomy w xs r ys → r.given_up ≡ false → r.to < length ys
@@ -347,14 +293,16 @@ module _ (h₀ ys zs : List ℕ) (r : Window) (g : Looking h₀ ys r) (same_leng
     pub ended : (xs : List ℕ) → length zs ≡ length xs → LineRead h₀ xs (last_line r) zs
     ended xs as_long = by (r.given_up || ltb 0 r.to) refl
       where
-        by : (b : Bool) → (r.given_up || ltb 0 r.to) ≡ b → LineRead h₀ xs (cond b (line_of 0 r.to r.given_up 0 0) no_line) zs
+        by : (b : Bool) → (r.given_up || ltb 0 r.to) ≡ b → LineRead h₀ xs (cond b (Some (line_of 0 r.to r.given_up 0 0)) None) zs
         by true e = record {
           placed = record {
             as_long = as_long;
-            ordered = omega arith;
-            inside = omega (arith, same_length, g.inside);
-            rest_ordered = omega arith;
-            rest_inside = omega arith;
+            within = record {
+              ordered = omega arith;
+              inside = omega (arith, same_length, g.inside);
+              rest_ordered = omega arith;
+              rest_inside = omega arith;
+            };
           };
           from_input = record {
             input = g.input;
@@ -365,76 +313,29 @@ module _ (h₀ ys zs : List ℕ) (r : Window) (g : Looking h₀ ys r) (same_leng
             let n = neither r.given_up (ltb 0 r.to) e in
             let z : r.to ≡ 0 = omega (arith, ltb-false 0 r.to n.1) in
             record {
-              placed = record {
-                as_long = as_long;
-                ordered = omega arith;
-                inside = omega arith;
-                rest_ordered = omega arith;
-                rest_inside = omega arith;
-              };
+              placed = record { as_long = as_long; within = tt };
               from_input = record {
                 input = g.input;
-                told = (g.whole ∙ (λ i. g.none_passed n.0 i ++ (line-is ∙ ap (λ (m : ℕ). slice 0 m zs) z) i), refl, no_bytes zs);
+                told = g.whole ∙ (λ i. g.none_passed n.0 i ++ (line-is ∙ ap (λ (m : ℕ). slice 0 m zs) z) i);
               };
             }
 
--- ---- the line in hand, or one that the input is read for
-module _ (s : Lines) (xs : List ℕ) (w : Window) (h : Held s xs w) (e : ℕ) (at : e ≡ w.from + index_of feed (seen w xs)) where
-  seen-long : length (in_hand s xs) ≡ w.to - w.from
-  seen-long = ap length (sym h.bytes) ∙ length-slice w.from w.to xs h.inside
+-- ---- a turn of the loop: room is made, and a read brings more bytes, or none
+module _ {h₀ buf ys zs : List ℕ} {w r : Window} (g : Looking h₀ buf w) (clear : has_no_feed (seen w buf) ≡ true) (room : Roomy w buf r ys) (s : length ys ≡ length buf) (t : length zs ≡ length ys) where
+  pub read-on : {n : ℕ} → More r.to n ys zs → (n ≡ r.to → ⊥) → Looking h₀ zs (record { from = r.from; to = n; given_up = r.given_up })
+  read-on {n = n} d some = more-read h₀ ys zs r (roomed h₀ buf w g clear r ys room s).0 t d.kept n (strictly r.to n d.least some) (omega (arith, d.inside, t))
 
-  index_is : index_of feed (seen w xs) ≡ index_of feed (in_hand s xs)
-  index_is = ap (index_of feed) h.bytes
-
-  pub line-in-hand : e < w.to → (r : Line) → r ≡ line_of w.from e false (e + 1) w.to → Came s xs r xs
-  line-in-hand k r q = record {
-    placed =
-        rw q
-        (record {
-          as_long = refl;
-          ordered = omega (arith, at);
-          inside = omega (arith, k, h.inside);
-          rest_ordered = omega (arith, k);
-          rest_inside = h.inside;
-        });
-    in-hand = λ _. (q ∙ placed, refl);
-    from_input = λ n. absurd (omega (arith, n, k, at, index_is, seen-long, h.ordered));
-  }
-    where
-      end_is : (w.from ≡ s.from) → e ≡ s.from + index_of feed (in_hand s xs)
-      end_is p = at ∙ (λ i. p i + index_is i)
-
-      placed : line_of w.from e false (e + 1) w.to ≡ line_in_hand s xs
-      placed = ⊎_elim
-          (λ p. (λ i. line_of (p.0 i) (end_is p.0 i) false (end_is p.0 i + 1) (p.1 i)))
-          (λ p. absurd (omega (arith, k, at, seen-long, h.ordered, ap length p)))
-          h.place
-
-  pub no-feed-in-hand : w.to ≤ e → NoFeed w xs
-  no-feed-in-hand k = record {
-    ordered = h.ordered;
-    inside = h.inside;
-    none_seen = omega (arith, k, at, h.ordered, length-slice w.from w.to xs h.inside);
-    none_given_up = h.none_given_up;
-  }
-
-  pub line-from-input : w.to ≤ e → (r : Line) (ys : List ℕ) → LineRead (seen w xs) xs r ys → Came s xs r ys
-  line-from-input k r ys f = record {
-    placed = f.placed;
-    in-hand = λ n. absurd (omega (arith, n, k, at, index_is, seen-long, h.ordered));
-    from_input = λ _. rw h.bytes at f.from_input;
-  }
+  pub read-none : take r.to zs ≡ take r.to ys → (xs : List ℕ) → length zs ≡ length xs → LineRead h₀ xs (last_line r) zs
+  read-none kept xs e = let l = roomed h₀ buf w g clear r ys room s in ended h₀ ys zs r l.0 t kept room.front l.1 (has_room room) xs e
 
 -- ---- what the promise rules out
 -- With bytes in hand the end is never told.
-pub not-ended : (s : Lines) (xs : List ℕ) (l : Line) (ys : List ℕ) → Came s xs l ys → 0 < length (in_hand s xs) → l.kind ≡ kind.End → ⊥
-not-ended s xs l ys c some e =
+pub not-ended : (s : Lines) (xs : List ℕ) (ys : List ℕ) → Came s xs None ys → 0 < length (in_hand s xs) → ⊥
+not-ended s xs ys c some =
     split (ltb (index_of feed (in_hand s xs)) (length (in_hand s xs)))
     (λ h.
-    let k : l.kind ≡ kind.Whole = ap (λ (x : Line). x.kind) (c.in-hand (ltb-true _ _ h)).0 in
-    let z : ◌≡◌ {A = ℕ} 0 1 = cc in
-    omega arith)
+    let e = (c.in-hand (ltb-true _ _ h)).0 in
+    cc)
     (λ h.
     let f = c.from_input (ltb-false _ _ h) in
-    let t : Told kind.End (length ys) (in_hand s xs ++ f.input) (slice l.start l.end ys) (in_hand l.rest ys) = rw e at f.told in
-    omega (arith, ap length t.0, length-append (in_hand s xs) f.input, some))
+    omega (arith, ap length f.told, length-append (in_hand s xs) f.input, some))

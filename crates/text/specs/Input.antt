@@ -1,5 +1,5 @@
 -- Lines in a buffer.
-use Rattle.std.specs.Prelude.{ℕ, suc, ◌+◌, ◌≤◌, ◌<◌, ◌≡◌, ◌⊎◌, Bool, true, cond, not, ◌&&◌, List, [], ◌∷◌, ◌++◌, eqb, leb, length}
+use Rattle.std.specs.Prelude.{ℕ, suc, ◌+◌, ◌≤◌, ◌<◌, ◌≡◌, ◌⊎◌, Bool, true, cond, not, ◌&&◌, List, [], ◌∷◌, ◌++◌, eqb, leb, length, Option, Some, None, IfSome}
 use Rattle.std.proofs.Math.Seq.{slice}
 use Rattle.text.specs.declared.lines.Kind.{Kind}
 use Rattle.text.specs.declared.lines.Kind.TheVariants as kind
@@ -48,11 +48,15 @@ pub record TooLong (long : ℕ) (bytes line rest : List ℕ) : Type 0 where
   pub many : long ≤ length passed
   pub parts : Parted bytes passed line rest
 
--- What came, by its kind: there is no line only where there are no bytes, and a line is too long where it is not shorter than the buffer.
+-- a line by its kind: it is too long where it is not shorter than the buffer
 abbrev pub Told : Kind → ℕ → List ℕ → List ℕ → List ℕ → Type 0
 Told kind.Whole long bytes line rest = Fits long bytes line rest
 Told kind.TooLong long bytes line rest = TooLong long bytes line rest
-Told kind.End long bytes line rest = (bytes ≡ []) × (line ≡ []) × (rest ≡ [])
+
+-- what came: there is no line only where there are no bytes
+abbrev pub ToldOf : Option Line → List ℕ → List ℕ → Type 0
+ToldOf (Some l) bytes ys = Told l.kind (length ys) bytes (slice l.start l.end ys) (in_hand l.rest ys)
+ToldOf None bytes ys = bytes ≡ []
 
 -- the line that is in hand, where a line feed is
 abbrev pub line_in_hand : Lines → List ℕ → Line
@@ -60,22 +64,26 @@ line_in_hand s xs =
     let end = s.from + index_of feed (in_hand s xs) in
     record { start = s.from; end = end; kind = kind.Whole; rest = record { from = end + 1; to = s.to } }
 
--- The buffer keeps its length, and the line and what is in hand behind it lie within it.
-pub record Placed (xs : List ℕ) (l : Line) (ys : List ℕ) : Type 0 where
-  pub as_long : length ys ≡ length xs
+-- a line and what is in hand behind it lie within the buffer
+pub record Within (l : Line) (ys : List ℕ) : Type 0 where
   pub ordered : l.start ≤ l.end
   pub inside : l.end ≤ length ys
   pub rest_ordered : l.rest.from ≤ l.rest.to
   pub rest_inside : l.rest.to ≤ length ys
 
--- A line of the bytes in hand and of `input`, which the reads gave: the contract of a read leaves open which bytes it brings.
-pub record FromInput (hand : List ℕ) (l : Line) (ys : List ℕ) : Type 0 where
+-- The buffer keeps its length, and where there is a line, it lies within it.
+pub record Placed (xs : List ℕ) (o : Option Line) (ys : List ℕ) : Type 0 where
+  pub as_long : length ys ≡ length xs
+  pub within : IfSome o (λ l. Within l ys)
+
+-- What came of the bytes in hand and of `input`, which the reads gave: the contract of a read leaves open which bytes it brings.
+pub record FromInput (hand : List ℕ) (o : Option Line) (ys : List ℕ) : Type 0 where
   pub input : List ℕ
-  pub told : Told l.kind (length ys) (hand ++ input) (slice l.start l.end ys) (in_hand l.rest ys)
+  pub told : ToldOf o (hand ++ input) ys
 
 -- What `next_line` answers, and the buffer afterwards. Where a line feed is in hand, nothing is read and the buffer stays. Else the input is
 -- read: the line and what is in hand behind it are told; where they lie in the buffer, and its other bytes, are free.
-pub record Came (s : Lines) (xs : List ℕ) (l : Line) (ys : List ℕ) : Type 0 where
-  pub placed : Placed xs l ys
-  pub in-hand : index_of feed (in_hand s xs) < length (in_hand s xs) → (l ≡ line_in_hand s xs) × (ys ≡ xs)
-  pub from_input : length (in_hand s xs) ≤ index_of feed (in_hand s xs) → FromInput (in_hand s xs) l ys
+pub record Came (s : Lines) (xs : List ℕ) (o : Option Line) (ys : List ℕ) : Type 0 where
+  pub placed : Placed xs o ys
+  pub in-hand : index_of feed (in_hand s xs) < length (in_hand s xs) → (o ≡ Some (line_in_hand s xs)) × (ys ≡ xs)
+  pub from_input : length (in_hand s xs) ≤ index_of feed (in_hand s xs) → FromInput (in_hand s xs) o ys

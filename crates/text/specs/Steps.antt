@@ -1,5 +1,5 @@
 -- While a line is looked for: what the private functions of `lines` promise. No public promise cites these definitions.
-use Rattle.std.specs.Prelude.{ℕ, ◌≤◌, ◌<◌, ◌≡◌, ◌⊎◌, Bool, true, false, cond, ◌||◌, List, [], ltb, length, take}
+use Rattle.std.specs.Prelude.{ℕ, ◌≤◌, ◌<◌, ◌≡◌, ◌⊎◌, Bool, true, false, cond, ◌||◌, List, [], ltb, length, take, Option, Some, None}
 use Rattle.std.proofs.Math.Seq.{slice}
 use Rattle.text.specs.declared.lines.Kind.TheVariants as kind
 use Rattle.text.specs.declared.lines.Line.{Line}
@@ -34,27 +34,22 @@ pub record Roomy (w : Window) (xs : List ℕ) (r : Window) (ys : List ℕ) : Typ
       ((r.given_up ≡ w.given_up) × (r.to < length ys) × (seen r ys ≡ seen w xs))
       ⊎ ((r.given_up ≡ true) × (r.to ≡ 0) × (seen w xs ≡ xs))
 
--- One read into the buffer from `to` on, which then has bytes up to r. Where no turn is left, nothing is read.
-pub record More (turns to r : ℕ) (xs ys : List ℕ) : Type 0 where
+-- one read into the buffer from `to` on, which then has bytes up to r
+pub record More (to r : ℕ) (xs ys : List ℕ) : Type 0 where
   pub least : to ≤ r
   pub inside : r ≤ length xs
   pub kept : take to ys ≡ take to xs
-  pub turn_left : to < r → 0 < turns
 
 -- a line start..end, too long where its first bytes were given up, with bytes from..to in hand behind it
 abbrev pub line_of : (start end : ℕ) → Bool → ℕ → ℕ → Line
 line_of start end given_up from to =
     record { start = start; end = end; kind = cond given_up kind.TooLong kind.Whole; rest = record { from = from; to = to } }
 
--- no line: the input ended
-abbrev pub no_line : Line
-no_line = record { start = 0; end = 0; kind = kind.End; rest = record { from = 0; to = 0 } }
-
 -- where the input ends: a last line of what is in hand, or none where nothing is and nothing was given up
-abbrev pub last_line : Window → Line
-last_line w = cond (w.given_up || ltb 0 w.to) (line_of 0 w.to w.given_up 0 0) no_line
+abbrev pub last_line : Window → Option Line
+last_line w = cond (w.given_up || ltb 0 w.to) (Some (line_of 0 w.to w.given_up 0 0)) None
 
 -- a line that the input was read for
-pub record LineRead (hand xs : List ℕ) (l : Line) (ys : List ℕ) : Type 0 where
+pub record LineRead (hand xs : List ℕ) (l : Option Line) (ys : List ℕ) : Type 0 where
   pub placed : Placed xs l ys
   pub from_input : FromInput hand l ys

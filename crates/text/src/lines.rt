@@ -1,28 +1,28 @@
 // Lines of a reader, as of standard input, however many, through a buffer that the caller lends.
-ghost use Rattle.std.specs.Prelude.{◌≡◌, ◌+◌, ◌-◌, ◌≤◌, length, take};
+ghost use Rattle.std.specs.Prelude.{◌≡◌, ◌+◌, ◌-◌, ◌≤◌, length};
 ghost use Rattle.std.proofs.Math.Seq.{slice};
 ghost use Rattle.text.specs.Input.{index_of, feed, Came};
-ghost use Rattle.text.specs.Steps.{seen, Held, NoFeed, Roomy, More, LineRead, line_of, no_line, last_line};
+ghost use Rattle.text.specs.Steps.{seen, Held, NoFeed, Roomy, More, LineRead, line_of, last_line};
 
 use std::io::Read;
 
-// Bytes from..to of the buffer are read and not yet handed out.
-#[derive(Clone, Copy)]
+// Bytes from..to of the buffer are read and not yet handed out. The buffer is the caller's, so the
+// places stand beside it: input of any length goes through it.
+#[derive(Clone, Copy, Debug, PartialEq, Eq)]
 pub struct Lines {
     pub from: usize,
     pub to: usize,
 }
 
-// What came: a line, one that did not fit the buffer and was passed over, or the end of the input.
-#[derive(Clone, Copy)]
+// Whether a line came whole, or did not fit the buffer and was passed over.
+#[derive(Clone, Copy, Debug, PartialEq, Eq)]
 pub enum Kind {
     Whole,
     TooLong,
-    End,
 }
 
-// A line is bytes start..end of the buffer, without its line feed.
-#[derive(Clone, Copy)]
+// A line is bytes start..end of the buffer, without its line feed; of one that is too long, its end.
+#[derive(Clone, Copy, Debug, PartialEq, Eq)]
 pub struct Line {
     pub start: usize,
     pub end: usize,
@@ -30,39 +30,11 @@ pub struct Line {
     pub rest: Lines,
 }
 
-// The index of the first line feed from `from` on, or `to` where there is none before it.
-fn line_end(buf: &[u8], from: usize, to: usize) -> usize
-    requires { (from ≤ to) × (to ≤ length buf.now) }
-    ensures { (result ≡ from + index_of feed (slice from to buf.now)) × (result ≤ to) }
+// What stands in the buffer before the first line is read.
+pub fn start() -> Lines
+    ensures { (result.from ≡ 0) × (result.to ≡ 0) }
 {
-    from + crate::index_of(&buf[from..to], b'\n')
-}
-
-// Moves bytes from..to to the front.
-fn to_front(buf: &mut [u8], from: usize, to: usize)
-    requires { (from ≤ to) × (to ≤ length buf.old) }
-    ensures { take (to - from) buf.new ≡ slice from to buf.old }
-{
-    let mut i = from;
-    while i < to {
-        buf[i - from] = buf[i];
-        i += 1;
-    }
-}
-
-// Reads once into the buffer from `to` on, where a turn is left, and answers where the bytes end
-// then. A read that fails counts as the end of the input.
-fn read_more(input: &mut impl Read, buf: &mut [u8], to: usize, turns: u64) -> usize
-    requires { to ≤ length buf.old }
-    ensures { More turns to result buf.old buf.new }
-{
-    if turns == 0 {
-        return to;
-    }
-    match input.read(&mut buf[to..]) {
-        Ok(n) => to + n,
-        Err(_) => to,
-    }
+    Lines { from: 0, to: 0 }
 }
 
 // What is in hand while a line is looked for: bytes from..to, and whether the line's first bytes
@@ -74,129 +46,117 @@ struct Window {
     given_up: bool,
 }
 
+// The bytes in hand, none where the numbers do not lie within the buffer.
+#[tactic(auto, using(std::proofs::lemmas::Bool::Decides::nat_tests), unfolding(crate::specs::Input::in_hand))]
+fn in_hand(buf: &[u8], s: Lines) -> Window
+    ensures { Held s buf.now result }
+{
+    let Lines { from, to } = s;
+    let given_up = false;
+    if from <= to && to <= buf.len() {
+        Window { from, to, given_up }
+    } else {
+        Window {
+            from: 0,
+            to: 0,
+            given_up,
+        }
+    }
+}
+
 // Makes room behind what is in hand: it goes to the front, or is given up where it fills the buffer.
 fn make_room(buf: &mut [u8], w: Window) -> Window
     requires { (w.from ≤ w.to) × (w.to ≤ length buf.old) }
     ensures { Roomy w buf.old result buf.new }
 {
-    let from = w.from;
-    let to = w.to;
-    if from == 0 {
-        if to == buf.len() {
-            return Window {
-                from: 0,
-                to: 0,
-                given_up: true,
-            };
-        }
+    if 0 < w.from {
+        buf.copy_within(w.from..w.to, 0);
+        return Window {
+            from: 0,
+            to: w.to - w.from,
+            ..w
+        };
+    }
+    if w.to < buf.len() {
         return w;
     }
-    to_front(buf, from, to);
     Window {
         from: 0,
-        to: to - from,
-        given_up: w.given_up,
+        to: 0,
+        given_up: true,
     }
+}
+
+// Reads once into the buffer from `to` on, and answers where the bytes end then. A read that fails
+// counts as the end of the input.
+fn read_more(input: &mut impl Read, buf: &mut [u8], to: usize) -> usize
+    requires { to ≤ length buf.old }
+    ensures { More to result buf.old buf.new }
+{
+    to + input.read(&mut buf[to..]).unwrap_or(0)
+}
+
+// The index of the first line feed from `from` on, or `to` where there is none before it.
+fn line_end(buf: &[u8], from: usize, to: usize) -> usize
+    requires { (from ≤ to) × (to ≤ length buf.now) }
+    ensures { (result ≡ from + index_of feed (slice from to buf.now)) × (result ≤ to) }
+{
+    from + crate::index_of(&buf[from..to], b'\n')
 }
 
 // The line start..end, with what follows it.
 fn line_of(start: usize, end: usize, given_up: bool, from: usize, to: usize) -> Line
     ensures { result ≡ line_of start end given_up from to }
 {
-    let kind = if given_up { Kind::TooLong } else { Kind::Whole };
-    let rest = Lines { from, to };
     Line {
         start,
         end,
-        kind,
-        rest,
-    }
-}
-
-// No line: the input ended.
-fn no_line() -> Line
-    ensures { result ≡ no_line }
-{
-    Line {
-        start: 0,
-        end: 0,
-        kind: Kind::End,
-        rest: Lines { from: 0, to: 0 },
+        kind: if given_up { Kind::TooLong } else { Kind::Whole },
+        rest: Lines { from, to },
     }
 }
 
 // What is left where the input ends: a last line without its line feed, or nothing.
-fn last_line(w: Window) -> Line
+fn last_line(w: Window) -> Option<Line>
     ensures { result ≡ last_line w }
 {
     if w.given_up || 0 < w.to {
-        line_of(0, w.to, w.given_up, 0, 0)
+        Some(line_of(0, w.to, w.given_up, 0, 0))
     } else {
-        no_line()
+        None
     }
 }
 
-// What stands in the buffer before the first line is read.
-pub fn start() -> Lines
-    ensures { (result.from ≡ 0) × (result.to ≡ 0) }
-{
-    Lines { from: 0, to: 0 }
-}
-
-// The bytes in hand, none where the numbers do not lie within the buffer.
-fn in_hand(buf: &[u8], s: Lines) -> Window
-    ensures { Held s buf.now result }
-{
-    let from = s.from;
-    let to = s.to;
-    if from <= to && to <= buf.len() {
-        Window {
-            from,
-            to,
-            given_up: false,
-        }
-    } else {
-        Window {
-            from: 0,
-            to: 0,
-            given_up: false,
-        }
-    }
-}
-
-// The next line where none is in hand: the input is read as far as need be. The loop counts its
-// turns down from a number that no run uses up; where it did, the input would count as ended.
-fn read_line(input: &mut impl Read, buf: &mut [u8], hand: Window) -> Line
+// The next line where none is in hand: the input is read as far as need be. No run uses up the
+// reads of the loop; where it did, the input would count as ended.
+fn read_line(input: &mut impl Read, buf: &mut [u8], hand: Window) -> Option<Line>
     requires { NoFeed hand buf.old }
     ensures { LineRead (seen hand buf.old) buf.old result buf.new }
 {
     let mut w = hand;
-    let mut turns = u64::MAX;
-    loop {
+    for _ in 0..u64::MAX {
         w = make_room(buf, w);
-        let more = read_more(input, buf, w.to, turns);
+        let more = read_more(input, buf, w.to);
         if more == w.to {
             return last_line(w);
         }
-        turns -= 1;
         w.to = more;
         let e = line_end(buf, w.from, more);
         if e < more {
-            return line_of(w.from, e, w.given_up, e + 1, more);
+            return Some(line_of(w.from, e, w.given_up, e + 1, more));
         }
     }
+    last_line(make_room(buf, w))
 }
 
-// The next line: the one in hand, or one that the input is read for.
-pub fn next_line(input: &mut impl Read, buf: &mut [u8], s: Lines) -> Line
+// The next line: the one in hand, or one that the input is read for. None where the input ended.
+pub fn next_line(input: &mut impl Read, buf: &mut [u8], s: Lines) -> Option<Line>
     ensures { Came s buf.old result buf.new }
 {
     let w = in_hand(buf, s);
-    let from = w.from;
-    let to = w.to;
-    let e = line_end(buf, from, to);
-    if e < to {
-        return line_of(from, e, false, e + 1, to);
+    let e = line_end(buf, w.from, w.to);
+    if e < w.to {
+        return Some(line_of(w.from, e, false, e + 1, w.to));
     }
     read_line(input, buf, w)
 }

@@ -4,27 +4,28 @@ use mathlib.Core.Bool.{true, false}
 use Prim.Native.Nat.{ℕ, ◌-◌}
 use borrow.Author.Tests.{eq-eqb, ne_eqb}
 use lib.Ieee.{Float, binary64, eq, div}
-use Rattle.demand.specs.declared.demand.Times.{Times}
-use Rattle.demand.specs.declared.demand.Times.TheVariants.{Unset, At}
 use Rattle.demand.specs.declared.demand.Demand.{Demand}
 use Rattle.demand.specs.Estimators.Estimator.{whole, alpha, folded, ticked_from, unbiased_by, unbiased_from}
+use Rattle.std.specs.declared.option.Option.{Option}
+use Rattle.std.specs.declared.option.Option.TheVariants.{None, Some}
+use Rattle.demand.specs.declared.demand.Times.{Times}
 
-pub first-tick : (t : Times) (d : Demand) (now : ℕ) → t ≡ Unset
-    → record { current_rate = d.current_rate; attempts_since_tick = d.attempts_since_tick; times = At now now; time_constant = d.time_constant } ≡ ticked_from t d now
+pub first-tick : (t : Option Times) (d : Demand) (now : ℕ) → t ≡ None
+    → record { current_rate = d.current_rate; attempts_since_tick = d.attempts_since_tick; times = Some (record { last_tick = now; since = now }); time_constant = d.time_constant } ≡ ticked_from t d now
 unfolding ticked_from
 first-tick t d now e = rw e
 
 -- n is the time elapsed
-pub idle-tick : (t : Times) (d : Demand) (now last since n : ℕ) → t ≡ At last since → n ≡ now - last → n ≡ 0 → d ≡ ticked_from t d now
+pub idle-tick : (t : Option Times) (d : Demand) (k : Times) (now n : ℕ) → t ≡ Some k → n ≡ now - k.last_tick → n ≡ 0 → d ≡ ticked_from t d now
 unfolding ticked_from
-idle-tick t d now last since n e is h = rw e (simp (eq-eqb (now - last) 0 (sym is ∙ h)))
+idle-tick t d k now n e is h = rw e (simp (eq-eqb (now - k.last_tick) 0 (sym is ∙ h)))
 
-pub later-tick : (t : Times) (d : Demand) (now last since n : ℕ) (x : Float) → t ≡ At last since → n ≡ now - last → (n ≡ 0 → ⊥) → x ≡ folded d.current_rate d.attempts_since_tick n d.time_constant
-    → record { current_rate = x; attempts_since_tick = 0; times = At now since; time_constant = d.time_constant } ≡ ticked_from t d now
+pub later-tick : (t : Option Times) (d : Demand) (k : Times) (now n : ℕ) (x : Float) → t ≡ Some k → n ≡ now - k.last_tick → (n ≡ 0 → ⊥) → x ≡ folded d.current_rate d.attempts_since_tick n d.time_constant
+    → record { current_rate = x; attempts_since_tick = 0; times = Some (record { last_tick = now; since = k.since }); time_constant = d.time_constant } ≡ ticked_from t d now
 unfolding ticked_from
-later-tick t d now last since n x e is h f = rw (e, f, is) (simp (ne_eqb (now - last) 0 (λ z. h (is ∙ z))))
+later-tick t d k now n x e is h f = rw (e, f, is) (simp (ne_eqb (now - k.last_tick) 0 (λ z. h (is ∙ z))))
 
-pub unmeasured : (t : Times) (d : Demand) (x : Float) → x ≡ whole 0 → t ≡ Unset → x ≡ unbiased_from t d
+pub unmeasured : (t : Option Times) (d : Demand) (x : Float) → x ≡ whole 0 → t ≡ None → x ≡ unbiased_from t d
 unfolding unbiased_from
 unmeasured t d x z e = rw e z
 
@@ -41,10 +42,10 @@ pub weighted : (a rate : Float) (n : ℕ) (y : Float) → y ≡ whole 0 → (n �
 unfolding unbiased_by
 weighted a rate n y zy h k = simp (ne_eqb n 0 h, sym (ap (eq a) zy) ∙ k)
 
-pub measured : (t : Times) (d : Demand) (last since n : ℕ) (a x : Float) → t ≡ At last since → n ≡ last - since → a ≡ alpha n d.time_constant → x ≡ unbiased_by a d.current_rate n → x ≡ unbiased_from t d
+pub measured : (t : Option Times) (d : Demand) (k : Times) (n : ℕ) (a x : Float) → t ≡ Some k → n ≡ k.last_tick - k.since → a ≡ alpha n d.time_constant → x ≡ unbiased_by a d.current_rate n → x ≡ unbiased_from t d
 unfolding unbiased_from
-measured t d last since n a x e is ea k =
-    k
+measured t d k n a x e is ea m =
+    m
     ∙ ap (λ (v : Float). unbiased_by v d.current_rate n) ea
-    ∙ ap (λ (m : ℕ). unbiased_by (alpha m d.time_constant) d.current_rate m) is
-    ∙ sym (ap (λ (u : Times). unbiased_from u d) e)
+    ∙ ap (λ (l : ℕ). unbiased_by (alpha l d.time_constant) d.current_rate l) is
+    ∙ sym (ap (λ (u : Option Times). unbiased_from u d) e)

@@ -17,11 +17,12 @@ use Rattle.float.specs.Magnitude.{magnitude}
 use Rattle.float.proofs.Formats.Held.{fits-small, fits-top}
 use Rattle.demand.specs.Decay.Weight.{S, weight}
 use Rattle.demand.specs.Estimators.Estimator.{whole, alpha, folded, valid, ticked_from, ticked}
-use Rattle.demand.specs.declared.demand.Times.{Times}
-use Rattle.demand.specs.declared.demand.Times.TheVariants.{Unset, At}
 use Rattle.demand.specs.declared.demand.Demand.{Demand}
 use Rattle.demand.proofs.Estimating.Alpha.{weight-le, parts-exact, alpha-exact}
 use Rattle.demand.proofs.Estimating.Ranges.{AtMost, AtLeast, at_most, at_least, round-at-most, round-at-least, mul-at-most, add-at-most, div-at-most, div-at-least}
+use Rattle.std.specs.declared.option.Option.{Option}
+use Rattle.std.specs.declared.option.Option.TheVariants.{None, Some}
+use Rattle.demand.specs.declared.demand.Times.{Times}
 
 -- the largest f64, and the largest below it that a factor below 1 leaves of it
 abbrev largest : ℕ
@@ -202,12 +203,12 @@ pub tick-kept : (d : Demand) (now : ℕ) → InRange d → now < 2 ^ 64 → vali
 unfolding ticked_from
 tick-kept d now r h v = from d.times
   where
-    from : (t : Times) → valid (ticked_from t d now) ≡ true
-    from Unset = v
-    from (At last since) = by-elapsed (now - last) (eqb (now - last) 0) refl refl
+    from : (t : Option Times) → valid (ticked_from t d now) ≡ true
+    from None = v
+    from (Some k) = by-elapsed (now - k.last_tick) (eqb (now - k.last_tick) 0) refl refl
       where
-        by-elapsed : (e : ℕ) (b : Bool) → now - last ≡ e → eqb (now - last) 0 ≡ b
-            → valid (cond b d (record { current_rate = folded d.current_rate d.attempts_since_tick (now - last) d.time_constant; attempts_since_tick = 0; times = At now since; time_constant = d.time_constant })) ≡ true
+        by-elapsed : (e : ℕ) (b : Bool) → now - k.last_tick ≡ e → eqb (now - k.last_tick) 0 ≡ b
+            → valid (cond b d (record { current_rate = folded d.current_rate d.attempts_since_tick (now - k.last_tick) d.time_constant; attempts_since_tick = 0; times = Some (record { last_tick = now; since = k.since }); time_constant = d.time_constant })) ≡ true
         by-elapsed e true is t = v
         by-elapsed e false is t =
-            folded-kept d.current_rate d.attempts_since_tick (now - last) d.time_constant r.rate v r.attempts (pos_of_ne-zero (eqb-false (now - last) 0 t)) (omega arith)
+            folded-kept d.current_rate d.attempts_since_tick (now - k.last_tick) d.time_constant r.rate v r.attempts (pos_of_ne-zero (eqb-false (now - k.last_tick) 0 t)) (omega arith)

@@ -1,4 +1,4 @@
--- Times a sum of exp(x / c), a sum of exp(-x / c) up to an even term is at least 1, and one up to an odd term at most 1.
+-- Option Times a sum of exp(x / c), a sum of exp(-x / c) up to an even term is at least 1, and one up to an odd term at most 1.
 use mathlib.Core.Path.{◌≡◌, refl, sym, ap, ◌∙◌}
 use mathlib.Core.Bool.{Bool, true, false, not, cond}
 use Prim.Native.Nat.{ℕ, zero, suc, ◌+◌, ◌*◌, ◌≤◌, ◌<◌}

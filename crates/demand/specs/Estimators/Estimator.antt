@@ -4,9 +4,10 @@ use Rattle.std.specs.Float.{binary64}
 use Rattle.std.specs.Float.Ieee.{round, of_int, add, sub, mul, div, eq}
 use Rattle.float.specs.Magnitude.{magnitude}
 use Rattle.demand.specs.Decay.Weight.{S, weight}
-use Rattle.demand.specs.declared.demand.Times.{Times}
-use Rattle.demand.specs.declared.demand.Times.TheVariants.{Unset, At}
 use Rattle.demand.specs.declared.demand.Demand.{Demand}
+use Rattle.std.specs.declared.option.Option.{Option}
+use Rattle.std.specs.declared.option.Option.TheVariants.{None, Some}
+use Rattle.demand.specs.declared.demand.Times.{Times}
 
 -- a whole number as an f64
 abbrev pub whole : ℕ → Float
@@ -29,10 +30,10 @@ folded rate attempts e c = folded_by (alpha e c) rate attempts e
 
 -- 004, `new` and `starting_at`
 abbrev pub new : ℕ → Demand
-new c = record { current_rate = whole 0; attempts_since_tick = 0; times = Unset; time_constant = c }
+new c = record { current_rate = whole 0; attempts_since_tick = 0; times = None; time_constant = c }
 
 abbrev pub starting_at : (c now : ℕ) → Demand
-starting_at c now = record { current_rate = whole 0; attempts_since_tick = 0; times = At now now; time_constant = c }
+starting_at c now = record { current_rate = whole 0; attempts_since_tick = 0; times = Some (record { last_tick = now; since = now }); time_constant = c }
 
 -- 01, 'The saved image': estimator rates 'are finite with a clear sign bit'
 abbrev pub valid : Demand → Bool
@@ -48,20 +49,20 @@ recorded d n = record {
 }
 
 -- 004, `tick`: the first sets the times alone; one with no time elapsed changes nothing
-unfoldable pub ticked_from : Times → Demand → ℕ → Demand
+unfoldable pub ticked_from : Option Times → Demand → ℕ → Demand
 unfolding folded
-ticked_from Unset d now = record {
+ticked_from None d now = record {
   current_rate = d.current_rate;
   attempts_since_tick = d.attempts_since_tick;
-  times = At now now;
+  times = Some (record { last_tick = now; since = now });
   time_constant = d.time_constant;
 }
-ticked_from (At last since) d now =
-    cond (eqb (now - last) 0) d
+ticked_from (Some t) d now =
+    cond (eqb (now - t.last_tick) 0) d
     (record {
-      current_rate = folded d.current_rate d.attempts_since_tick (now - last) d.time_constant;
+      current_rate = folded d.current_rate d.attempts_since_tick (now - t.last_tick) d.time_constant;
       attempts_since_tick = 0;
-      times = At now since;
+      times = Some (record { last_tick = now; since = t.since });
       time_constant = d.time_constant;
     })
 
@@ -72,10 +73,10 @@ ticked d now = ticked_from d.times d now
 unfoldable pub unbiased_by : (a rate : Float) (measured : ℕ) → Float
 unbiased_by a rate measured = cond (eqb measured 0) (whole 0) (cond (eq a (whole 0)) (whole 0) (div binary64 rate a))
 
-unfoldable pub unbiased_from : Times → Demand → Float
+unfoldable pub unbiased_from : Option Times → Demand → Float
 unfolding alpha unbiased_by
-unbiased_from Unset d = whole 0
-unbiased_from (At last since) d = unbiased_by (alpha (last - since) d.time_constant) d.current_rate (last - since)
+unbiased_from None d = whole 0
+unbiased_from (Some t) d = unbiased_by (alpha (t.last_tick - t.since) d.time_constant) d.current_rate (t.last_tick - t.since)
 
 abbrev pub unbiased : Demand → Float
 unbiased d = unbiased_from d.times d

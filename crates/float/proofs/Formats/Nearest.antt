@@ -1,10 +1,9 @@
 -- The nearest whole number to a fraction, a tie to the even one: which of the two neighbours it is, and how far it lies from the fraction.
-use Rattle.std.proofs.Common.{◌≡◌, ℕ, zero, suc, ◌+◌, ◌*◌, ◌/◌, ◌%◌, ◌<◌, ◌≤◌, Bool, true, false, not, T, eqb, leb, ◌⊎◌, sym, refl, ◌∙◌, subst, inl, inr, le_of_eq, le_of_lt, mod-lt, suc-mul, div-add-mod', add-one, arith, eq-eqb, ne_eqb, eqb-true, le-leb, leb-false, leb-true}
+use Rattle.std.proofs.Common.{◌≡◌, ℕ, zero, suc, ◌+◌, ◌*◌, ◌/◌, ◌%◌, ◌<◌, ◌≤◌, Bool, true, false, not, T, eqb, leb, ◌⊎◌, sym, refl, ◌∙◌, subst, inl, inr, le_of_eq, le_of_lt, mod-lt, suc-mul, div-add-mod', arith, eqb-true, leb-false, leb-true}
 use Prim.Native.Nat.{compare, Ordering}
 use lib.Dec.{is_le, compare_is_eq}
 use lib.Ieee.{nearest}
 use lib.Ieee.Nearest.{closest}
-use borrow.Author.Tests.{lt-leb}
 
 -- what each answer of the comparison makes of q
 under : (q : ℕ) (o : Ordering) → is_le o ≡ true → compare_is_eq o ≡ false → nearest q o ≡ q
@@ -21,18 +20,6 @@ over : (q : ℕ) (o : Ordering) → is_le o ≡ false → nearest q o ≡ suc q
 over q Ordering.lt l = absurd (subst T l tt)
 over q Ordering.eq l = absurd (subst T l tt)
 over q Ordering.gt l = refl
-
-pub nearest-lt : (q a b : ℕ) → a < b → nearest q (compare a b) ≡ q
-nearest-lt q a b h = under q (compare a b) (le-leb a b (le_of_lt h)) (ne_eqb a b (λ (e : a ≡ b). apart a b h e))
-  where
-    apart : (x y : ℕ) → x < y → x ≡ y → ⊥
-    apart x y l e = omega arith
-
-pub nearest-gt : (q a b : ℕ) → b < a → nearest q (compare a b) ≡ q + 1
-nearest-gt q a b h = over q (compare a b) (lt-leb a b h) ∙ sym (add-one q)
-
-pub nearest-eq : (q a b : ℕ) → a ≡ b → nearest q (compare a b) ≡ q + q % 2
-nearest-eq q a b h = level q (compare a b) (eq-eqb a b h)
 
 -- the quotient where the rest is at most a half, or one more where it is at least a half
 pub closest-cases : (a b : ℕ) → ((closest a b ≡ a / b) × (a % b * 2 ≤ b)) ⊎ ((closest a b ≡ suc (a / b)) × (b ≤ a % b * 2))

@@ -1,50 +1,14 @@
--- Bit patterns, of either format: the NaNs among them, the sign bit, and which patterns are finite with a clear sign bit.
-use Rattle.std.proofs.Common.{◌≡◌, ℕ, zero, suc, ◌+◌, ◌*◌, ◌/◌, ◌%◌, ◌<◌, ◌≤◌, Bool, true, false, cond, not, ◌&&◌, T, eqb, ltb, leb, sym, refl, ap, ◌∙◌, zero-le, le_trans, le_of_eq, lt_of_lt_of_le, le_of_suc-le-suc, lt_of_le_of_lt, le_of_lt, mod-lt, mod-eq_of_lt, mul_comm, div-lt_iff_lt-mul, le-div_iff_mul-le, arith, pow_pos, ltb-true, le-ltb, lt-ltb, eqb-true, le-leb, leb-false, leb-true}
-use lib.Ieee.{Float, nan, inf, fin, Format, binary32, binary64, hid, ones, top, prec, low, odd, neg, ne, is_nan, fits, of_fields, of_bits, to_bits, nan_bits}
-use lib.Ieee.Fits.{neg-fits}
-use lib.Ieee.Bits.{is_true, nan_bits_is, nan_bits_above, of_bits-to_bits, to_bits-lt}
-use borrow.Author.Tests.{lt-leb, eqb-false}
+-- Bit patterns, of either format: which are finite with a clear sign bit.
+use Rattle.std.proofs.Common.{◌≡◌, ℕ, zero, suc, ◌+◌, ◌*◌, ◌/◌, ◌%◌, ◌<◌, ◌≤◌, Bool, true, false, cond, not, ◌&&◌, T, eqb, ltb, leb, sym, refl, ap, ◌∙◌, zero-le, le_trans, le_of_eq, lt_of_lt_of_le, le_of_suc-le-suc, lt_of_le_of_lt, le_of_lt, mod-lt, mod-eq_of_lt, mul_comm, div-lt_iff_lt-mul, le-div_iff_mul-le, arith, pow_pos, ltb-true, le-ltb, lt-ltb, eqb-true, leb-false, leb-true}
+use lib.Ieee.{Float, nan, inf, fin, Format, binary32, binary64, hid, ones, top, prec, low, odd, is_nan, fits, of_fields, of_bits, to_bits}
+use lib.Ieee.Bits.{is_true, of_bits-to_bits}
+use borrow.Author.Tests.{eqb-false}
 use Rattle.float.specs.Magnitude.{magnitude}
-use Rattle.float.specs.Order.{negative}
-use Rattle.float.proofs.Tests.{no, nan-test, nan_is}
 use Rattle.questions.proofs.Tests.{split, same-ltb}
 
--- ---- NaNs
-pub nan_pattern : (f : Format) (x : Float) → ne x x ≡ true → to_bits f nan ≡ to_bits f x
-nan_pattern f x h = sym (ap (to_bits f) (nan_is x (sym (nan-test x) ∙ h)))
-
-pub no_nan : (x : Float) → ne x x ≡ false → T (not (is_nan x))
-no_nan x h = no (sym (nan-test x) ∙ h)
-
-pub nan-read : (f : Format) (b : ℕ) → ones f * hid f < b % top f → nan ≡ of_bits f b
-nan-read f b h = sym (nan_is (of_bits f b) (sym (nan_bits_is f b) ∙ nan_bits_above f b ∙ lt-ltb (ones f * hid f) (b % top f) h))
-
-pub no-nan-read : (f : Format) (b : ℕ) → b % top f ≤ ones f * hid f → T (not (nan_bits f b))
-no-nan-read f b h = no (nan_bits_above f b ∙ le-ltb (ones f * hid f) (b % top f) h)
-
--- ---- the sign bit of a float that the format holds
 pub infinity-clear : (f : Format) → ones f * hid f < top f
 infinity-clear binary32 = omega arith
 infinity-clear binary64 = omega arith
-
-nan-clear : (f : Format) → to_bits f nan < top f
-unfolding to_bits
-nan-clear binary32 = omega arith
-nan-clear binary64 = omega arith
-
-less-top : (t a b : ℕ) → t + a + b < 2 * t → 0 + a + b < t
-less-top t a b h = omega arith
-
-set : (t a b : ℕ) → t ≤ t + a + b
-set t a b = omega arith
-
-pub sign_bit : (f : Format) (x : Float) → T (fits f x) → leb (top f) (to_bits f x) ≡ negative x
-unfolding to_bits neg
-sign_bit f nan F = lt-leb (top f) (to_bits f nan) (nan-clear f)
-sign_bit f (inf true) F = le-leb (top f) (to_bits f (inf true)) (omega arith)
-sign_bit f (inf false) F = lt-leb (top f) (to_bits f (inf false)) (omega (arith, infinity-clear f))
-sign_bit f (fin true m e) F = le-leb (top f) (to_bits f (fin true m e)) (set (top f) _ _)
-sign_bit f (fin false m e) F = lt-leb (top f) (to_bits f (fin false m e)) (less-top (top f) _ _ (to_bits-lt f (fin true m e) (neg-fits f (fin false m e) F)))
 
 -- ---- finite with a clear sign bit
 odd-magnitude : (d : ℕ) (s : Bool) (q k l : ℕ) → magnitude (odd d s q k l) ≡ not s
@@ -118,3 +82,8 @@ unfolding is_nan
 magnitude-no-nan nan p = absurd p
 magnitude-no-nan (inf s) p = tt
 magnitude-no-nan (fin s m e) p = tt
+
+-- a pattern of an f64 by its fields
+pub of_bits_is : (b : ℕ) → of_bits binary64 b ≡ of_fields binary64 (leb 9223372036854775808 b) (b % 9223372036854775808 / 4503599627370496) (b % 4503599627370496)
+unfolding of_bits
+of_bits_is b = refl

@@ -7,7 +7,7 @@ use borrow.Author.Tests.{lt-leb}
 use Rattle.float.specs.Order.{negative, place, total_less}
 use Rattle.questions.proofs.Tests.{split, same-ltb}
 use Rattle.float.proofs.Formats.Values.{neg-odd}
-use Rattle.float.proofs.Integers.FromInteger.{of_bits_is}
+use Rattle.float.proofs.Formats.Patterns.{of_bits_is}
 use Rattle.float.proofs.Formats.Magnitudes.{pattern-value, magnitudes-order}
 use Rattle.float.proofs.Orders.Order.{place-clear, place_set, total-less-clear}
 

@@ -7,16 +7,16 @@ use native.Mathlib.Omega.{arith}
 use borrow.Author.Tests.{lt-ltb, le-ltb, ltb-true, ltb-false}
 use lib.Dec.{ltb}
 use Rattle.gcra.specs.declared.Quota.{Quota}
-use Rattle.gcra.specs.declared.Tat.{Tat}
-use Rattle.gcra.specs.declared.Tat.TheVariants.{Unset, At}
 use Rattle.gcra.specs.declared.Gcra.{Gcra}
 use Rattle.gcra.specs.declared.Decision.TheVariants.{Allow, Deny}
-use Rattle.gcra.specs.declared.CheckAnswer.TheVariants.{Is}
 use Rattle.gcra.specs.declared.Pace.{Pace}
 use Rattle.gcra.specs.declared.Stepped.{Stepped}
 use Rattle.gcra.specs.Meter.{is_allow, earliest, decide, moved, attempt, tat_word, pace_of, tat_at, decision, check, has_debt, outcome, checked}
 use Rattle.gcra.specs.Run.{allowed}
 use Rattle.questions.proofs.Tests.{split}
+use Rattle.std.specs.declared.option.Option.{Option}
+use Rattle.std.specs.declared.option.Option.TheVariants.{None, Some}
+use Rattle.std.specs.declared.result.Result.TheVariants.{Ok}
 
 module _ (p : Pace) (tat now : ℕ) where
   pub decide-deny : now < earliest p tat → decide p tat now ≡ Deny (earliest p tat)
@@ -61,18 +61,18 @@ module _ (g : Gcra) (now : ℕ) (s : Stepped) (e : s ≡ attempt (pace_of g.quot
   stepped-decision = ap (λ (x : Stepped). x.decision) e
 
   pub checked-allow : is_allow s.decision ≡ true
-      → record { answer = Is s.decision; gcra = record { quota = g.quota; tat = At s.tat } } ≡ checked g now
+      → record { answer = Ok s.decision; gcra = record { quota = g.quota; tat = Some s.tat } } ≡ checked g now
   unfolding attempt decision check checked
   checked-allow h = let k : is_allow (decide (pace_of g.quota) (tat_at g.tat now) now) ≡ true = rw e at h in rw (e, k)
 
-  pub checked-deny : is_allow s.decision ≡ false → record { answer = Is s.decision; gcra = g } ≡ checked g now
+  pub checked-deny : is_allow s.decision ≡ false → record { answer = Ok s.decision; gcra = g } ≡ checked g now
   unfolding attempt decision check checked
   checked-deny h = let k : is_allow (decide (pace_of g.quota) (tat_at g.tat now) now) ≡ false = rw e at h in rw (e, k)
 
 -- what a check leaves, by how it was decided
 module _ (g : Gcra) (now : ℕ) where
   pub check-allow : is_allow (decision g now) ≡ true
-      → check g now ≡ record { quota = g.quota; tat = At (moved (pace_of g.quota) (tat_at g.tat now) now) }
+      → check g now ≡ record { quota = g.quota; tat = Some (moved (pace_of g.quota) (tat_at g.tat now) now) }
   unfolding check
   check-allow h = rw h
 
@@ -89,9 +89,9 @@ module _ (g : Gcra) (now : ℕ) where
   check-fits l = split (is_allow (decision g now)) (λ h. rw (check-allow h) (omega arith)) (λ h. rw (check-deny h) l)
 
 -- A missing TAT counts as no less than 0.
-pub tat-at-least : (tat : Tat) (now : ℕ) → tat_word tat ≤ tat_at tat now
-tat-at-least Unset now = omega arith
-tat-at-least (At t) now = omega arith
+pub tat-at-least : (tat : Option ℕ) (now : ℕ) → tat_word tat ≤ tat_at tat now
+tat-at-least None now = omega arith
+tat-at-least (Some t) now = omega arith
 
 -- A check does not lower a TAT that fits a u64.
 pub check-raises : (g : Gcra) (now : ℕ) → tat_word g.tat < 2 ^ 64 → tat_word g.tat ≤ tat_word (check g now).tat
@@ -101,27 +101,27 @@ check-raises g now l =
     (λ e. rw (check-deny g now e) (omega arith))
 
 -- A Gcra without debt has no TAT ahead of the reading.
-pub no-debt : (q : Quota) (tat : Tat) (now : ℕ) → has_debt (record { quota = q; tat = tat }) now ≡ false → tat_word tat ≤ now
+pub no-debt : (q : Quota) (tat : Option ℕ) (now : ℕ) → has_debt (record { quota = q; tat = tat }) now ≡ false → tat_word tat ≤ now
 unfolding has_debt
-no-debt q Unset now e = omega arith
-no-debt q (At t) now e = ltb-false now t e
+no-debt q None now e = omega arith
+no-debt q (Some t) now e = ltb-false now t e
 
 -- A missing TAT decides and moves as TAT 0 does.
-pub unset-is-zero : (p : Pace) (tat : Tat) (now : ℕ) → attempt p (tat_at tat now) now ≡ attempt p (tat_word tat) now
-unset-is-zero p Unset now =
+pub unset-is-zero : (p : Pace) (tat : Option ℕ) (now : ℕ) → attempt p (tat_at tat now) now ≡ attempt p (tat_word tat) now
+unset-is-zero p None now =
     attempt-allow p now now (omega arith)
     ∙ ap (λ (n : ℕ). record { decision = Allow; tat = min (n + p.t) (2 ^ 64 - 1) }) same
     ∙ sym (attempt-allow p 0 now (omega arith))
   where
     same : max now now ≡ max 0 now
     same = omega arith
-unset-is-zero p (At t) now = refl
+unset-is-zero p (Some t) now = refl
 
 -- A check is one attempt on its TAT, a missing one counting as the reading.
-pub check-attempts : (q : Quota) (tat : Tat) (now : ℕ) → attempt (pace_of q) (tat_at tat now) now ≡ outcome (record { quota = q; tat = tat }) now
+pub check-attempts : (q : Quota) (tat : Option ℕ) (now : ℕ) → attempt (pace_of q) (tat_at tat now) now ≡ outcome (record { quota = q; tat = tat }) now
 unfolding attempt decision check
-check-attempts q Unset now = let e : decide (pace_of q) now now ≡ Allow = decide-allow (pace_of q) now now (omega arith) in rw e
-check-attempts q (At t) now = split (is_allow (decide (pace_of q) t now)) (λ h. rw h) (λ h. rw h)
+check-attempts q None now = let e : decide (pace_of q) now now ≡ Allow = decide-allow (pace_of q) now now (omega arith) in rw e
+check-attempts q (Some t) now = split (is_allow (decide (pace_of q) t now)) (λ h. rw h) (λ h. rw h)
 
 -- And so with 0 for none.
 pub check-is-attempt : (g : Gcra) (now : ℕ) → attempt (pace_of g.quota) (tat_word g.tat) now ≡ outcome g now

@@ -12,8 +12,6 @@ use lib.Dec.{leb, ltb}
 use borrow.Author.Tests.{ltb-true, leb-true}
 use Rattle.gcra.specs.declared.Units.{Units}
 use Rattle.gcra.specs.declared.Quota.{Quota}
-use Rattle.gcra.specs.declared.Tat.{Tat}
-use Rattle.gcra.specs.declared.Tat.TheVariants.{Unset, At}
 use Rattle.gcra.specs.declared.Gcra.{Gcra}
 use Rattle.gcra.specs.Packed.{Accepted, valid_quota, tau, ceiling}
 use Rattle.gcra.specs.Meter.{is_allow, decide, moved, pace_of, tat_word, decision, check}
@@ -21,6 +19,8 @@ use Rattle.gcra.specs.Run.{allowed, count_in, all_below}
 use Rattle.questions.proofs.Tests.{split, both}
 use Rattle.gcra.proofs.Packed.Validity.{valid-quota}
 use Rattle.gcra.proofs.Meter.Checks.{allow-reaches, check-allow, allowed-first, denied-first}
+use Rattle.std.specs.declared.option.Option.{Option}
+use Rattle.std.specs.declared.option.Option.TheVariants.{None, Some}
 
 -- k checks are allowed in the window from TAT y on
 Owes : (T b s w y k : ℕ) → Type 0
@@ -65,40 +65,40 @@ module _ (T b s w : ℕ) (some : 1 ≤ b) where
   quotient y k p (inr h) = let e : s + w - s ≡ w = omega arith in rw e at (within k T s (s + w) b p (omega arith) (omega arith))
 
 -- ---- one allowed check
-abbrev at : Quota → Tat → Gcra
+abbrev at : Quota → Option ℕ → Gcra
 at q tat = record { quota = q; tat = tat }
 
 -- it finds TAT at most T * (burst - 1) ahead, and moves it by T, held at no limit
-pub record Allowed (q : Quota) (tat : Tat) (now : ℕ) : Type 0 where
+pub record Allowed (q : Quota) (tat : Option ℕ) (now : ℕ) : Type 0 where
   pub reached : tat_word tat ≤ now + q.interval * (q.burst - 1)
-  pub left : check (at q tat) now ≡ at q (At (max (tat_word tat) now + q.interval))
+  pub left : check (at q tat) now ≡ at q (Some (max (tat_word tat) now + q.interval))
 
-decision-at : (q : Quota) (t now : ℕ) → decision (at q (At t)) now ≡ decide (pace_of q) t now
+decision-at : (q : Quota) (t now : ℕ) → decision (at q (Some t)) now ≡ decide (pace_of q) t now
 unfolding decision
 decision-at q t now = refl
 
-pub allows : (q : Quota) (tat : Tat) (now : ℕ) → q.interval < 2 ^ 61 → now < 2 ^ 62 → is_allow (decision (at q tat) now) ≡ true → Allowed q tat now
-allows q Unset now short l h =
+pub allows : (q : Quota) (tat : Option ℕ) (now : ℕ) → q.interval < 2 ^ 61 → now < 2 ^ 62 → is_allow (decision (at q tat) now) ≡ true → Allowed q tat now
+allows q None now short l h =
     let e : moved (pace_of q) now now ≡ max 0 now + q.interval = omega arith in
-    record { reached = omega arith; left = check-allow (at q Unset) now h ∙ ap (λ (n : ℕ). at q (At n)) e }
-allows q (At t) now short l h =
+    record { reached = omega arith; left = check-allow (at q None) now h ∙ ap (λ (n : ℕ). at q (Some n)) e }
+allows q (Some t) now short l h =
     let r : t - tau q.interval q.burst ≤ now = allow-reaches (pace_of q) t now (rw (decision-at q t now) at h) in
     let m = tau-le q.interval q.burst in
     let e : moved (pace_of q) t now ≡ max t now + q.interval = omega arith in
-    record { reached = omega arith; left = check-allow (at q (At t)) now h ∙ ap (λ (n : ℕ). at q (At n)) e }
+    record { reached = omega arith; left = check-allow (at q (Some t)) now h ∙ ap (λ (n : ℕ). at q (Some n)) e }
 
 -- ---- a list of checks
 module _ (q : Quota) (short : q.interval < 2 ^ 61) (some : 1 ≤ q.burst) (s w : ℕ) where
-  abbrev Owed : Tat → List ℕ → Type 0
+  abbrev Owed : Option ℕ → List ℕ → Type 0
   Owed tat ts = Owes q.interval q.burst s w (tat_word tat) (count_in s w ts)
 
-  nothing : (tat : Tat) → Owed tat (allowed (at q tat) [])
+  nothing : (tat : Option ℕ) → Owed tat (allowed (at q tat) [])
   unfolding allowed count_in Owes
   nothing tat = inl refl
 
   -- one allowed check, in the window or not
-  first : (tat : Tat) (t : ℕ) (ts : List ℕ) → tat_word tat ≤ t + q.interval * (q.burst - 1)
-      → Owed (At (max (tat_word tat) t + q.interval)) ts → Owed tat (t ∷ ts)
+  first : (tat : Option ℕ) (t : ℕ) (ts : List ℕ) → tat_word tat ≤ t + q.interval * (q.burst - 1)
+      → Owed (Some (max (tat_word tat) t + q.interval)) ts → Owed tat (t ∷ ts)
   unfolding count_in
   first tat t ts r o =
       split (leb s t && leb t (s + w))
@@ -107,7 +107,7 @@ module _ (q : Quota) (short : q.interval < 2 ^ 61) (some : 1 ≤ q.burst) (s w :
       rw i (counted q.interval q.burst s w some (tat_word tat) t _ (leb-true s t p.0) (leb-true t (s + w) p.1) r o))
       (λ i. rw i (later q.interval q.burst s w some (tat_word tat) (max (tat_word tat) t + q.interval) _ (omega arith) o))
 
-  count : (tat : Tat) (ts : List ℕ) → all_below (2 ^ 62) (allowed (at q tat) ts) ≡ true → Owed tat (allowed (at q tat) ts)
+  count : (tat : Option ℕ) (ts : List ℕ) → all_below (2 ^ 62) (allowed (at q tat) ts) ≡ true → Owed tat (allowed (at q tat) ts)
   count tat [] h = nothing tat
   count tat (t ∷ ts) h =
       split (is_allow (decision (at q tat) t))
@@ -115,7 +115,7 @@ module _ (q : Quota) (short : q.interval < 2 ^ 61) (some : 1 ≤ q.burst) (s w :
       let f = allowed-first (at q tat) t ts e in
       let b = below-first (2 ^ 62) t (allowed (check (at q tat) t) ts) (rw f at h) in
       let c = allows q tat t short b.0 e in
-      let tat' = At (max (tat_word tat) t + q.interval) in
+      let tat' = Some (max (tat_word tat) t + q.interval) in
       rw (f, c.left) (first tat t (allowed (at q tat') ts) c.reached (count tat' ts (rw c.left at b.1))))
       (λ e.
       let f = denied-first (at q tat) t ts e in

@@ -2,12 +2,9 @@
 use Prim.Native.Nat.{ℕ, ◌+◌, ◌-◌, ◌*◌, ◌^◌, ◌≤◌, ◌<◌, max}
 use mathlib.Core.Path.{◌≡◌, refl, sym, ap, ◌∙◌}
 use mathlib.Core.Bool.{true, false}
-use mathlib.Core.Option.{Option, none, some}
 use native.Mathlib.Omega.{arith}
 use lib.Dec.{ltb}
 use borrow.Author.Tests.{ltb-true, ltb-false, lt-ltb, le-ltb}
-use Rattle.gcra.specs.declared.Tat.{Tat}
-use Rattle.gcra.specs.declared.Tat.TheVariants.{Unset, At}
 use Rattle.gcra.specs.declared.Gcra.{Gcra}
 use Rattle.gcra.specs.declared.Pace.{Pace}
 use Rattle.gcra.specs.declared.Stepped.{Stepped}
@@ -16,6 +13,8 @@ use Rattle.gcra.specs.Meter.{is_allow, earliest, decide, moved, attempt, pace_of
 use Rattle.gcra.specs.Schedule.{Cell, arrives, virtual_scheduling}
 use Rattle.questions.proofs.Tests.{split}
 use Rattle.gcra.proofs.Meter.Checks.{decide-allow, decide-deny, attempt-allow, attempt-deny, check-attempts}
+use Rattle.std.specs.declared.option.Option.{Option}
+use Rattle.std.specs.declared.option.Option.TheVariants.{None, Some}
 
 -- a check's outcome as a cell's
 abbrev pub cell : Stepped → Cell
@@ -47,14 +46,14 @@ attempt-arrives p L tat now most fits free =
     rw (attempt-allow p tat now l, f, le-ltb (now + L) tat (omega arith), m)))
 
 -- a TAT as I.371 has it: none before the first cell
-abbrev pub theoretical : Tat → Option ℕ
-theoretical Unset = none
-theoretical (At tat) = some tat
+abbrev pub theoretical : Option ℕ → Option ℕ
+theoretical None = None
+theoretical (Some tat) = Some tat
 
-first_cell : (I L : ℕ) (tat : Tat) (now : ℕ) → virtual_scheduling I L (theoretical tat) now ≡ arrives I L (tat_at tat now) now
+first_cell : (I L : ℕ) (tat : Option ℕ) (now : ℕ) → virtual_scheduling I L (theoretical tat) now ≡ arrives I L (tat_at tat now) now
 unfolding virtual_scheduling
-first_cell I L Unset now = refl
-first_cell I L (At t) now = refl
+first_cell I L None now = refl
+first_cell I L (Some t) now = refl
 
 -- A check decides and moves the TAT as virtual scheduling does: an allowed one where TAT is not held at its limit, a denied one where tau is not.
 pub check-schedules : (g : Gcra) (now : ℕ) → let q = g.quota in

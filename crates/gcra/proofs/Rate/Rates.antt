@@ -10,13 +10,13 @@ use lib.Ieee.Scale.{finite}
 use Rattle.gcra.specs.declared.Units.{Units}
 use Rattle.gcra.specs.Packed.{Accepted, max_interval, valid_burst, valid_quota}
 use Rattle.gcra.specs.declared.Quota.{Quota}
-use Rattle.gcra.specs.declared.Tat.{Tat}
-use Rattle.gcra.specs.declared.Tat.TheVariants.{Unset, At}
 use Rattle.gcra.specs.declared.Gcra.{Gcra}
 use Rattle.gcra.specs.Rate.{float, quotient_nanos, carry_tat, carried, same_quota, set_quota, per_second}
 use Rattle.gcra.specs.Meter.{tat_word}
 use Rattle.questions.proofs.Tests.{split, both, and_intro}
 use Rattle.gcra.proofs.Packed.Validity.{with-interval-valid}
+use Rattle.std.specs.declared.option.Option.{Option}
+use Rattle.std.specs.declared.option.Option.TheVariants.{None, Some}
 
 pub zero_is : of_bits binary64 0 ≡ float 0
 unfolding of_bits of_int
@@ -53,15 +53,15 @@ pub same-keeps : (g : Gcra) (q : Quota) (now : ℕ) → same_quota q g.quota ≡
 unfolding set_quota
 same-keeps g q now h = rw h
 
-pub other-carries : (g : Gcra) (q : Quota) (now : ℕ) {t : Tat} → same_quota q g.quota ≡ false
+pub other-carries : (g : Gcra) (q : Quota) (now : ℕ) {t : Option ℕ} → same_quota q g.quota ≡ false
     → t ≡ carried g.tat g.quota q now → record { quota = q; tat = t } ≡ set_quota g q now
 unfolding set_quota
 other-carries g q now h e = rw (h, e)
 
-pub carried-unset : (t : Tat) (old new : Quota) (now : ℕ) → t ≡ Unset → t ≡ carried t old new now
+pub carried-unset : (t : Option ℕ) (old new : Quota) (now : ℕ) → t ≡ None → t ≡ carried t old new now
 carried-unset t old new now e = rw e
 
-pub carried-at : (t : Tat) (n : ℕ) (old new : Quota) (now : ℕ) → t ≡ At n → At (carry_tat n old new now) ≡ carried t old new now
+pub carried-at : (t : Option ℕ) (n : ℕ) (old new : Quota) (now : ℕ) → t ≡ Some n → Some (carry_tat n old new now) ≡ carried t old new now
 carried-at t n old new now e = rw e
 
 -- The test finds two quotas the same exactly where they are equal.
@@ -93,9 +93,9 @@ pub carry-fits : (tat : ℕ) (old new : Quota) (now : ℕ) → carry_tat tat old
 unfolding carry_tat
 carry-fits tat old new now = omega arith
 
-pub carried-fits : (tat : Tat) (old new : Quota) (now : ℕ) → tat_word (carried tat old new now) < 2 ^ 64
-carried-fits Unset old new now = omega arith
-carried-fits (At tat) old new now = carry-fits tat old new now
+pub carried-fits : (tat : Option ℕ) (old new : Quota) (now : ℕ) → tat_word (carried tat old new now) < 2 ^ 64
+carried-fits None old new now = omega arith
+carried-fits (Some tat) old new now = carry-fits tat old new now
 
 -- So does the TAT after a change of quota.
 pub set-fits : (g : Gcra) (q : Quota) (now : ℕ) → tat_word g.tat < 2 ^ 64 → tat_word (set_quota g q now).tat < 2 ^ 64

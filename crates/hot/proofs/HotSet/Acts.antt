@@ -2,7 +2,6 @@
 use mathlib.Core.Path.{◌≡◌, refl, sym, ap, ◌∙◌, subst}
 use mathlib.Core.Bool.{Bool, true, false, cond, ◌||◌}
 use mathlib.Core.List.{List, map}
-use mathlib.Core.Option.{none, some}
 use mathlib.Core.Logic.{◌⊎◌, inl, inr}
 use Prim.Native.Nat.{ℕ, suc, ◌+◌, ◌-◌, ◌*◌, ◌≤◌, ◌<◌}
 use native.Mathlib.Omega.{arith}
@@ -26,6 +25,12 @@ use Rattle.hot.proofs.HotSet.EntryLaws.{all_remove, weakest-hot}
 use Rattle.hot.proofs.HotSet.Table.{ready-table, valid-entries, asc-entries, table_same, once}
 use Rattle.hot.proofs.HotSet.ValidLaws.{valid-fits}
 use Rattle.hot.proofs.HotSet.Answers.{Passed, passed-set}
+use Rattle.std.specs.declared.option.Option.{Option}
+use Rattle.std.specs.declared.option.Option.TheVariants.{None, Some}
+
+-- an entry that does not cool is as new at the time that it is hot since
+pub new-is : (e : HotEntry) → e.cooling_since ≡ None → e ≡ new_entry e.key e.demand e.primary e.since
+new-is e c = ap (λ (t : Option ℕ). record { key = e.key; demand = e.demand; primary = e.primary; cooling_since = t; since = e.since }) c
 
 pub acted : (s : HotSet) (xs : List ℕ) (o : Outcome) (b : Bool) (fs : List HotEntry) (n : ℕ) (r : Updated) (ys : List ℕ) → o ≡ record { hot = b; left = fs } → r ≡ counted s b n → n ≡ length fs → ys ≡ table (map words fs) xs → Acted s o xs r ys
 acted s xs o b fs n r ys e q l t =
@@ -42,7 +47,7 @@ module _ (s : HotSet) (xs : List ℕ) (p : passes (ask_set s xs) ≡ true) where
   count = length-entries s.len xs
 
   -- the key has an entry: it is put in its place
-  module _ (k : ℕ) (e x : HotEntry) (g : get k (entries_of s xs) ≡ some e) (q : x.key ≡ e.key) where
+  module _ (k : ℕ) (e x : HotEntry) (g : get k (entries_of s xs) ≡ Some e) (q : x.key ≡ e.key) where
     same_key : x.key ≡ k
     same_key = q ∙ get_key k (entries_of s xs) e g
 
@@ -60,14 +65,14 @@ module _ (s : HotSet) (xs : List ℕ) (p : passes (ask_set s xs) ≡ true) where
     gone-count = omega (arith, remove-count k (entries_of s xs), alone, count)
 
     -- `cool` of it
-    pub put-get : get k (put x (entries_of s xs)) ≡ some x
+    pub put-get : get k (put x (entries_of s xs)) ≡ Some x
     put-get = get-put x (entries_of s xs) k same_key
 
     pub put-remove : remove k (put x (entries_of s xs)) ≡ remove k (entries_of s xs)
     put-remove = remove-put x (entries_of s xs) k same_key
 
   -- the key has none
-  module _ (k : ℕ) (x : HotEntry) (g : get k (entries_of s xs) ≡ none) (q : x.key ≡ k) where
+  module _ (k : ℕ) (x : HotEntry) (g : get k (entries_of s xs) ≡ None) (q : x.key ≡ k) where
     pub more-count : s.len + 1 ≡ length (put x (entries_of s xs))
     more-count = omega (arith, put_count x (entries_of s xs), none-there x.key (entries_of s xs) (ap (λ (j : ℕ). is_hot j (entries_of s xs)) q ∙ ap present g), count)
 
@@ -75,7 +80,7 @@ module _ (s : HotSet) (xs : List ℕ) (p : passes (ask_set s xs) ≡ true) where
     more_room l = omega (arith, more-count, sound.space)
 
   -- ---- `evict`
-  module _ (x w : HotEntry) (full : s.len ≡ s.max_size) (g : get x.key (entries_of s xs) ≡ none) (m : some w ≡ weakest (entries_of s xs)) where
+  module _ (x w : HotEntry) (full : s.len ≡ s.max_size) (g : get x.key (entries_of s xs) ≡ None) (m : Some w ≡ weakest (entries_of s xs)) where
     abbrev pub others : List HotEntry
     others = remove w.key (entries_of s xs)
 
@@ -133,7 +138,11 @@ module _ (s : HotSet) (xs : List ℕ) (p : passes (ask_set s xs) ≡ true) where
 
   -- ---- `promote`
   module _ (margin : Float) (k : ℕ) (d : Float) (b : Bool) (now : ℕ) (r : Updated) (ys : List ℕ) where
-    pub promoted-there : (e x : HotEntry) → get k (entries_of s xs) ≡ some e → x ≡ renewed d b e → r ≡ counted s true s.len → ys ≡ table (map words (put x (entries_of s xs))) xs → Acted s (promote margin s.max_size k d b now (entries_of s xs)) xs r ys
+    -- of an entry that is new
+    pub promoted-of : (x : HotEntry) → x ≡ new_entry k d b now → Acted s (promote margin s.max_size x.key x.demand x.primary x.since (entries_of s xs)) xs r ys → Acted s (promote margin s.max_size k d b now (entries_of s xs)) xs r ys
+    promoted-of x e = subst (λ (y : HotEntry). Acted s (promote margin s.max_size y.key y.demand y.primary y.since (entries_of s xs)) xs r ys) e
+
+    pub promoted-there : (e x : HotEntry) → get k (entries_of s xs) ≡ Some e → x ≡ renewed d b e → r ≡ counted s true s.len → ys ≡ table (map words (put x (entries_of s xs))) xs → Acted s (promote margin s.max_size k d b now (entries_of s xs)) xs r ys
     unfolding promote promote_from
     promoted-there e x g y q t =
         acted s xs (promote margin s.max_size k d b now (entries_of s xs)) true (put x (entries_of s xs)) s.len r ys
@@ -142,7 +151,7 @@ module _ (s : HotSet) (xs : List ℕ) (p : passes (ask_set s xs) ≡ true) where
         (kept-count k e x g (ap (λ (z : HotEntry). z.key) y))
         t
 
-    pub promoted-new : (x : HotEntry) → get k (entries_of s xs) ≡ none → x ≡ new_entry k d b now → s.len < s.max_size → r ≡ counted s true (s.len + 1) → ys ≡ table (map words (put x (entries_of s xs))) xs → Acted s (promote margin s.max_size k d b now (entries_of s xs)) xs r ys
+    pub promoted-new : (x : HotEntry) → get k (entries_of s xs) ≡ None → x ≡ new_entry k d b now → s.len < s.max_size → r ≡ counted s true (s.len + 1) → ys ≡ table (map words (put x (entries_of s xs))) xs → Acted s (promote margin s.max_size k d b now (entries_of s xs)) xs r ys
     unfolding promote promote_from admit
     promoted-new x g y l q t =
         let size : ltb (length (entries_of s xs)) s.max_size ≡ true = lt-ltb (length (entries_of s xs)) s.max_size (omega (arith, count)) in
@@ -154,7 +163,7 @@ module _ (s : HotSet) (xs : List ℕ) (p : passes (ask_set s xs) ≡ true) where
         (more-count k x g (ap (λ (z : HotEntry). z.key) y))
         t
 
-    pub promoted-full : (x : HotEntry) → get k (entries_of s xs) ≡ none → x ≡ new_entry k d b now → s.max_size ≤ s.len → Acted s (evict margin x (entries_of s xs) (weakest (entries_of s xs))) xs r ys → Acted s (promote margin s.max_size k d b now (entries_of s xs)) xs r ys
+    pub promoted-full : (x : HotEntry) → get k (entries_of s xs) ≡ None → x ≡ new_entry k d b now → s.max_size ≤ s.len → Acted s (evict margin x (entries_of s xs) (weakest (entries_of s xs))) xs r ys → Acted s (promote margin s.max_size k d b now (entries_of s xs)) xs r ys
     unfolding promote promote_from admit
     promoted-full x g y l a =
         let size : ltb (length (entries_of s xs)) s.max_size ≡ false = le-ltb (length (entries_of s xs)) s.max_size (omega (arith, count)) in
@@ -169,7 +178,7 @@ module _ (s : HotSet) (xs : List ℕ) (p : passes (ask_set s xs) ≡ true) where
     abbrev pub lower : Outcome
     lower = below_threshold margin s.cooldown s.max_size k d now elsewhere (entries_of s xs)
 
-    module _ (e x : HotEntry) (g : get k (entries_of s xs) ≡ some e) (y : x ≡ cooled s.cooldown d now e) where
+    module _ (e x : HotEntry) (g : get k (entries_of s xs) ≡ Some e) (y : x ≡ cooled s.cooldown d now e) where
       key-kept : x.key ≡ e.key
       key-kept = ap (λ (z : HotEntry). z.key) y ∙ cooled-key s.cooldown d now e
 
@@ -177,7 +186,7 @@ module _ (s : HotSet) (xs : List ℕ) (p : passes (ask_set s xs) ≡ true) where
       unfolding cool
       cooler = ap (cool_from s.cooldown d now (entries_of s xs)) g ∙ ap (λ (z : HotEntry). put z (entries_of s xs)) (sym y)
 
-      lower-is : lower ≡ settle margin s.max_size k d now elsewhere (put x (entries_of s xs)) (some x)
+      lower-is : lower ≡ settle margin s.max_size k d now elsewhere (put x (entries_of s xs)) (Some x)
       unfolding below_threshold
       lower-is =
           (λ i. settle margin s.max_size k d now elsewhere (cooler i) (get k (cooler i)))
@@ -203,8 +212,8 @@ module _ (s : HotSet) (xs : List ℕ) (p : passes (ask_set s xs) ≡ true) where
           (omega (arith, gone-count k e x g key-kept))
           t
 
-    module _ (g : get k (entries_of s xs) ≡ none) where
-      lower-none : lower ≡ settle margin s.max_size k d now elsewhere (entries_of s xs) none
+    module _ (g : get k (entries_of s xs) ≡ None) where
+      lower-none : lower ≡ settle margin s.max_size k d now elsewhere (entries_of s xs) None
       unfolding below_threshold cool
       lower-none =
           let e : cool s.cooldown k d now (entries_of s xs) ≡ entries_of s xs = ap (cool_from s.cooldown d now (entries_of s xs)) g in

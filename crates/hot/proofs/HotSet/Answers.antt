@@ -1,40 +1,66 @@
 -- The questions of a call on the hot set, and what a hot set that passes them is.
-use Prim.Native.Nat.{ℕ, ◌*◌, ◌≤◌, ◌<◌}
+use Prim.Native.Nat.{ℕ, ◌*◌, ◌≤◌}
 use native.Mathlib.Omega.{arith}
-use mathlib.Core.Path.{◌≡◌, sym, ap, ◌∙◌}
+use mathlib.Core.Path.{◌≡◌, refl, sym, ap, ◌∙◌}
 use mathlib.Core.Bool.{Bool, true, false, ◌&&◌}
 use mathlib.Core.List.{List, [], ◌∷◌}
-use mathlib.Core.Option.{Option}
-use borrow.Author.Tests.{leb-true, le-leb, lt-leb}
+use borrow.Author.Tests.{leb-true}
 use lib.Dec.{leb}
 use lib.Ieee.{Float}
 use lib.ListN.{length}
 use Rattle.float.specs.Magnitude.{magnitude}
 use Rattle.records.specs.Records.{records, fits}
-use Rattle.questions.proofs.Tests.{both, and_first, and_second, and-skip}
+use Rattle.questions.proofs.Tests.{both, and_left, and-under, and-skip}
 use Rattle.records.proofs.Words.RecordLaws.{fits_intro}
-use Rattle.questions.specs.Questions.{Question, ◌asks◌, given, answer, passes}
-use Rattle.questions.proofs.Answers.{Numbered, answer-passed}
-use Rattle.hot.specs.HotSet.Set.{words, entry, entries, valid_entries, valid_size, valid, is_valid}
+use Rattle.questions.specs.Questions.{Question, ◌asks◌, refused, given, answer, passes, first_no}
+use Rattle.questions.specs.declared.Refusal.{Refusal}
+use Rattle.questions.specs.Refusals.{number, answer_of}
+use Rattle.questions.proofs.Answers.{answer-passed, given-passed, passed_none}
+use Rattle.questions.proofs.RefusalLaws.{handed, refused-any}
+use Rattle.std.specs.declared.result.Result.{Result}
+use Rattle.std.specs.Result.{IsErrAnd}
+use Rattle.questions.specs.Lists.{present}
+use Rattle.std.specs.Option.{MatchOption, IsSomeAnd, is_some}
+use Rattle.std.specs.declared.option.Option.TheVariants.{None, Some}
+use Rattle.hot.specs.HotSet.Set.{words, entry, entries, valid_entries, valid_size, valid, is_valid, since_of, primary_of}
 use Rattle.records.specs.Typed.{exact}
-use Rattle.hot.specs.HotSet.Steps.{EntriesReady, slot}
+use Rattle.hot.specs.HotSet.Steps.{EntriesReady}
 use Rattle.hot.specs.HotSet.Calls.{room, ask_set, ask_update}
 use Rattle.hot.specs.declared.hot_set.HotEntry.{HotEntry}
-use Rattle.hot.specs.declared.hot_set.Slot.{Slot}
 use Rattle.hot.specs.declared.hot_set.HotSet.{HotSet}
 use Rattle.records.proofs.Tables.TypedLaws.{words-of-exact}
+use Rattle.std.specs.declared.option.Option.{Option}
 
--- an answer that is read off a slot
-pub answer-slot : {A : Type 0} (f : Option HotEntry → A) (qs : List Question) (o : Slot) (x z : Option HotEntry) → passes qs ≡ true → slot o ≡ x → slot o ≡ z → given (f z) ≡ answer qs (f x)
-answer-slot f qs o x z p e q = ap (λ (y : Option HotEntry). given (f y)) (sym q ∙ e) ∙ answer-passed (f x) qs p
+-- what is read off an answer
+module _ {A B : Type 0} (qs : List Question) (x : A) (y : B) where
+  pub read-refused : (e : Refusal) → refused (number e) ≡ answer qs x → (r : Result B Refusal) → IsErrAnd r (λ z. z ≡ e) → answer_of r ≡ answer qs y
+  read-refused e f r i = rw (handed e r i) (refused-any qs (number e) x y f)
+
+  pub read-given : (u : A) (v : B) → given u ≡ answer qs x → (u ≡ x → v ≡ y) → given v ≡ answer qs y
+  read-given u v f g = let p = given-passed qs u x f in ap given (g p.1) ∙ answer-passed y qs p.0
+
+-- ---- what is read off an entry that may be missing
+pub some-present : {A : Type 0} (o : Option A) → is_some o ≡ present o
+some-present None = refl
+some-present (Some x) = refl
+
+pub since-read : (o : Option HotEntry) (r : Option ℕ) → MatchOption o (r ≡ None) (λ e. IsSomeAnd r (λ t. t ≡ e.since)) → r ≡ since_of o
+since-read None r h = h
+since-read (Some e) None h = absurd h
+since-read (Some e) (Some t) h = ap Some h
+
+pub primary-read : (o : Option HotEntry) (r : Bool) → MatchOption o (r ≡ false) (λ e. r ≡ e.primary) → r ≡ primary_of o
+primary-read None r h = h
+primary-read (Some e) r h = h
 
 -- ---- the questions of an update
-module _ (s : HotSet) (xs : List ℕ) (d : Float) where
-  pub numbered-set : Numbered (ask_set s xs)
-  numbered-set = (omega arith, (omega arith, tt))
+module _ (s : HotSet) (xs : List ℕ) where
+  pub set-passed : 0 ≡ first_no (ask_set s xs) → passes (ask_set s xs) ≡ true
+  set-passed e = passed_none (ask_set s xs) 0 (omega arith, (omega arith, tt)) e refl
 
-  pub numbered-update : Numbered (ask_update s xs d)
-  numbered-update = (omega arith, (omega arith, (omega arith, tt)))
+module _ (s : HotSet) (xs : List ℕ) (d : Float) where
+  pub update-passed : 0 ≡ first_no (ask_update s xs d) → passes (ask_update s xs d) ≡ true
+  update-passed e = passed_none (ask_update s xs d) 0 (omega arith, (omega arith, (omega arith, tt))) e refl
 
   -- the demand is asked about last
   abbrev pub asks-demand : List Question
@@ -83,20 +109,18 @@ module _ (s : HotSet) (xs : List ℕ) where
   abbrev es : List HotEntry
   es = entries s.len xs
 
-  pub bad-size : valid_size s.max_size ≡ false → false ≡ is_valid s xs
-  unfolding is_valid valid
-  bad-size e = sym (and_second is_exact (valid s es) (and_first (valid_size s.max_size) _ e))
-
-  pub bad-count : valid_size s.max_size ≡ true → s.max_size < s.len → false ≡ is_valid s xs
-  unfolding is_valid valid
-  bad-count e h =
-      sym (and_second is_exact (valid s es)
-      (and_second (valid_size s.max_size) _ (and_first (leb s.len s.max_size) (valid_entries es) (lt-leb s.len s.max_size h))))
-
-  pub by_entries : valid_size s.max_size ≡ true → s.len ≤ s.max_size → room s.max_size ≤ length xs → (fits (length xs) 6 s.len && (is_exact && valid_entries es)) ≡ is_valid s xs
-  unfolding is_valid valid valid_size
-  by_entries e h r =
+  -- entries that the size allows are within the words
+  within : valid_size s.max_size ≡ true → leb s.len s.max_size ≡ true → room s.max_size ≤ length xs → fits (length xs) 6 s.len ≡ true
+  unfolding valid_size
+  within e h r =
       let b = leb-true s.max_size 64 (both (leb 1 s.max_size) _ e).1 in
-      and-skip (fits (length xs) 6 s.len) (is_exact && valid_entries es) (fits_intro (length xs) 6 s.len (omega arith) (omega arith))
-      ∙ ap (λ (z : Bool). is_exact && z)
-      (sym (and-skip (valid_size s.max_size) _ e ∙ and-skip (leb s.len s.max_size) (valid_entries es) (le-leb s.len s.max_size h)))
+      let c = leb-true s.len s.max_size h in
+      fits_intro (length xs) 6 s.len (omega arith) (omega arith)
+
+  pub by_tests : room s.max_size ≤ length xs → is_valid s xs ≡ (valid_size s.max_size && (leb s.len s.max_size && (fits (length xs) 6 s.len && (is_exact && valid_entries es))))
+  unfolding is_valid valid
+  by_tests r =
+      and_left is_exact (valid_size s.max_size) _
+      ∙ and-under (valid_size s.max_size) _ _
+      (λ e. and_left is_exact (leb s.len s.max_size) (valid_entries es)
+      ∙ and-under (leb s.len s.max_size) _ _ (λ h. sym (and-skip (fits (length xs) 6 s.len) _ (within e h r))))

@@ -1,7 +1,7 @@
 -- Updates of many keys, one after the other: what is lent, their questions, and the loop over them.
 use Prim.Native.Nat.{ℕ, zero, suc, ◌+◌, ◌*◌, ◌≤◌, ◌<◌}
 use mathlib.Core.Path.{◌≡◌, refl, sym, ap, ◌∙◌}
-use mathlib.Core.Bool.{Bool, true, false}
+use mathlib.Core.Bool.{Bool, true, false, ◌&&◌}
 use mathlib.Core.List.{List, [], ◌∷◌, ◌++◌, map, append_assoc}
 use native.Mathlib.Nat.{le_of_suc-le-suc, not-suc-le-zero}
 use native.Mathlib.Numerals.{add-one}
@@ -11,24 +11,35 @@ use lib.Dec.{leb}
 use lib.Ieee.{Float}
 use lib.ListN.{length, get_or, take, drop, set, length-map, length-set, take-append-drop}
 use lib.Seq.{drop-length, take-suc-set, drop-set-lt, get_or-take, length-take-le}
+use Rattle.std.specs.List.{list_all}
 use Rattle.float.specs.Magnitude.{magnitude}
 use Rattle.records.specs.Records.{records, fits}
 use Rattle.questions.proofs.Tests.{both}
-use Rattle.records.proofs.Words.RecordLaws.{length-records, fits-pos}
+use Rattle.records.proofs.Words.RecordLaws.{length-records, row, fits-pos, fits_le}
 use Rattle.questions.specs.Questions.{Question, ◌asks◌, given, passes, first_no}
-use Rattle.questions.proofs.Answers.{Numbered, answer-no, answer-passed, kept-no, changed-passed, passed_none, first-no, first-yes, first-none, first_more, first_rest}
+use Rattle.questions.proofs.Answers.{Numbered, answer-no, answer-passed, kept-no, changed-passed, passed_none, first-no, first-yes, first-none, first_rest}
 use Rattle.questions.specs.Lists.{all}
+use Rattle.questions.specs.declared.Refusal.{Refusal}
+use Rattle.questions.specs.Refusals.{number}
+use Rattle.questions.proofs.RefusalLaws.{number-nonzero}
 use Rattle.hot.specs.HotSet.Set.{is_valid, update_with, Outcome, Update, updates_of, update_by, Outcomes, update_each}
 use Rattle.hot.specs.HotSet.Calls.{room, ask_set, eviction_margin, entries_of, updates_fit, ask_set_each, ask_each, lent_updates, rewritten, rewritten_each, sized, UpdatedEach}
 use Rattle.hot.specs.HotSet.Steps.{Acted, UpdatesEach}
 use Rattle.hot.specs.declared.hot_set.HotSet.{HotSet}
 use Rattle.hot.specs.declared.hot_set.Updated.{Updated}
-use Rattle.hot.specs.declared.hot_set.EachAnswer.TheVariants.{No, Is}
+use Rattle.hot.proofs.HotSet.Answers.{set-passed}
 use Rattle.hot.proofs.HotSet.Words.{length-entries}
 use Rattle.hot.proofs.HotSet.ValidLaws.{GoodUpdate}
 use Rattle.hot.proofs.HotSet.Theorems.{acted-long, acted-read, acted-again}
 use Rattle.questions.proofs.ListLaws.{map_at, all-index}
 use Rattle.records.proofs.Words.RowLaws.{first-at}
+use Rattle.std.specs.declared.result.Result.TheVariants.{Ok, Err}
+
+-- std's word for a test of each element
+pub all-is : {A : Type 0} (p : A → Bool) (xs : List A) → list_all p xs ≡ all p xs
+unfolding all
+all-is p [] = refl
+all-is p (x ∷ xs) = ap (λ (b : Bool). p x && b) (all-is p xs)
 
 -- ---- updates made of lists
 updates-next : (ks : List ℕ) (ds ts : List Float) (bs : List Bool) (x y : Float) (z : Bool) (i : ℕ) → i < length ks → i < length ds → i < length ts → i < length bs → drop i (updates_of ks ds ts bs) ≡ record { key = get_or ks i 0; demand = get_or ds i x; threshold = get_or ts i y; elsewhere = get_or bs i z } ∷ drop (suc i) (updates_of ks ds ts bs)
@@ -51,6 +62,10 @@ updates-length (k ∷ ks) (d ∷ ds) (t ∷ ts) (b ∷ bs) p q r =
     ap suc (updates-length ks ds ts bs (le_of_suc-le-suc p) (le_of_suc-le-suc q) (le_of_suc-le-suc r))
 
 -- ---- updates that are lent
+-- the key of an update is within its table
+pub key-within : (keys : List ℕ) (w n : ℕ) → fits (length keys) w n ≡ true → (i : ℕ) → i < n → i * w < length keys
+key-within keys w n f i h = omega (arith, row w n i h, fits-pos (length keys) w n f, fits_le (length keys) w n f)
+
 pub record FitUpdates (keys w n demands thresholds elsewhere : ℕ) : Type 0 where
   pub keys_fit : fits keys w n ≡ true
   pub demands_fit : n ≤ demands
@@ -70,22 +85,6 @@ module _ (keys w n demands thresholds elsewhere : ℕ) where
         thresholds_fit = leb-true n thresholds c.0;
         flags_fit = leb-true n elsewhere c.1;
       }
-
-  pub no_keys : fits keys w n ≡ false → false ≡ updates_fit keys w n demands thresholds elsewhere
-  unfolding updates_fit
-  no_keys e = rw e
-
-  pub no-demands : fits keys w n ≡ true → demands < n → false ≡ updates_fit keys w n demands thresholds elsewhere
-  unfolding updates_fit
-  no-demands e h = rw (e, lt-leb n demands h)
-
-  pub no-thresholds : fits keys w n ≡ true → n ≤ demands → thresholds < n → false ≡ updates_fit keys w n demands thresholds elsewhere
-  unfolding updates_fit
-  no-thresholds e h k = rw (e, le-leb n demands h, lt-leb n thresholds k)
-
-  pub by_flags : fits keys w n ≡ true → n ≤ demands → n ≤ thresholds → leb n elsewhere ≡ updates_fit keys w n demands thresholds elsewhere
-  unfolding updates_fit
-  by_flags e h k = rw (e, le-leb n demands h, le-leb n thresholds k)
 
 module _ (keys : List ℕ) (w n : ℕ) (demands thresholds : List Float) (elsewhere : List Bool) (fit : FitUpdates (length keys) w n (length demands) (length thresholds) (length elsewhere)) where
   abbrev firsts : List ℕ
@@ -233,21 +232,19 @@ module _ (s : HotSet) (xs : List ℕ) (n : ℕ) (demands : List Float) (places :
   pub set-each-numbered : Numbered (ask_set_each s xs n demands places)
   set-each-numbered = (omega arith, (omega arith, (omega arith, (omega arith, tt))))
 
-  module _ (m : ℕ) (asked : m ≡ first_no (ask_set s xs)) where
-    pub set-no : (m ≡ 0 → ⊥) → m ≡ first_no (ask_set_each s xs n demands places)
-    set-no h = first_more (ask_set s xs) _ m asked h
+  -- those of the set itself are passed
+  module _ (asked : 0 ≡ first_no (ask_set s xs)) where
+    set-yes : {k : ℕ} → k ≡ first_no ((11 asks all magnitude (take n demands)) ∷ (16 asks leb n places) ∷ []) → k ≡ first_no (ask_set_each s xs n demands places)
+    set-yes e = e ∙ first_rest (ask_set s xs) _ (set-passed s xs asked)
 
-    set-yes : m ≡ 0 → {k : ℕ} → k ≡ first_no ((11 asks all magnitude (take n demands)) ∷ (16 asks leb n places) ∷ []) → k ≡ first_no (ask_set_each s xs n demands places)
-    set-yes h e = e ∙ first_rest (ask_set s xs) _ (passed_none (ask_set s xs) m (omega arith, (omega arith, tt)) asked h)
+    pub demands-no : all magnitude (take n demands) ≡ false → 11 ≡ first_no (ask_set_each s xs n demands places)
+    demands-no e = set-yes (first-no 11 _ e)
 
-    pub demands-no : m ≡ 0 → all magnitude (take n demands) ≡ false → 11 ≡ first_no (ask_set_each s xs n demands places)
-    demands-no h e = set-yes h (first-no 11 _ e)
+    pub places-no : all magnitude (take n demands) ≡ true → places < n → 16 ≡ first_no (ask_set_each s xs n demands places)
+    places-no e k = set-yes (first-yes 11 _ e (first-no 16 _ (lt-leb n places k)))
 
-    pub places-no : m ≡ 0 → all magnitude (take n demands) ≡ true → places < n → 16 ≡ first_no (ask_set_each s xs n demands places)
-    places-no h e k = set-yes h (first-yes 11 _ e (first-no 16 _ (lt-leb n places k)))
-
-    pub places-yes : m ≡ 0 → all magnitude (take n demands) ≡ true → n ≤ places → 0 ≡ first_no (ask_set_each s xs n demands places)
-    places-yes h e k = set-yes h (first-yes 11 _ e (first-yes 16 _ (le-leb n places k) first-none))
+    pub places-yes : all magnitude (take n demands) ≡ true → n ≤ places → 0 ≡ first_no (ask_set_each s xs n demands places)
+    places-yes e k = set-yes (first-yes 11 _ e (first-yes 16 _ (le-leb n places k) first-none))
 
 -- what updates that pass them are
 pub record EachPassed (s : HotSet) (xs keys : List ℕ) (w n : ℕ) (demands thresholds : List Float) (elsewhere : List Bool) (places : ℕ) : Type 0 where
@@ -284,16 +281,22 @@ module _ (s : HotSet) (xs keys : List ℕ) (w n : ℕ) (demands thresholds : Lis
   pub each-fit : updates_fit (length keys) w n (length demands) (length thresholds) (length elsewhere) ≡ true → (m : ℕ) → m ≡ first_no (ask_set_each s xs n demands (length out)) → m ≡ first_no questions
   each-fit e m asked = first-yes 1 _ e asked
 
-  module _ (m : ℕ) (asked : m ≡ first_no questions) where
-    pub each-asked : m ≡ 0 → passes questions ≡ true
-    each-asked h = passed_none questions m (omega arith, set-each-numbered s xs n demands (length out)) asked h
+  pub each-refused : (e : Refusal) → number e ≡ first_no questions → UpdatedEach s xs keys w n demands thresholds elsewhere now out (Err e) xs out
+  each-refused e asked =
+      let h = number-nonzero e in
+      record {
+        answered = answer-no _ _ (number e) asked h;
+        left = kept-no _ xs _ (number e) asked h;
+        output = kept-no _ out _ (number e) asked h;
+      }
 
-    pub each-refused : (m ≡ 0 → ⊥) → UpdatedEach s xs keys w n demands thresholds elsewhere now out (No m) xs out
-    each-refused h = record { answered = answer-no _ _ m asked h; left = kept-no _ xs _ m asked h; output = kept-no _ out _ m asked h }
+  module _ (asked : 0 ≡ first_no questions) where
+    pub each-asked : passes questions ≡ true
+    each-asked = passed_none questions 0 (omega arith, set-each-numbered s xs n demands (length out)) asked refl
 
-    pub each-done : m ≡ 0 → (r : HotSet) (ys : List ℕ) (out' : List Bool) → UpdatesEach eviction_margin s xs (lent_updates keys w n demands thresholds elsewhere) now n out r ys out' → UpdatedEach s xs keys w n demands thresholds elsewhere now out (Is r) ys out'
-    each-done h r ys out' a =
-        let passed = each-asked h in
+    pub each-done : (r : HotSet) (ys : List ℕ) (out' : List Bool) → UpdatesEach eviction_margin s xs (lent_updates keys w n demands thresholds elsewhere) now n out r ys out' → UpdatedEach s xs keys w n demands thresholds elsewhere now out (Ok r) ys out'
+    each-done r ys out' a =
+        let passed = each-asked in
         record {
           answered = ap given a.says ∙ answer-passed _ _ passed;
           left = a.left ∙ changed-passed _ xs _ passed;

@@ -15,11 +15,10 @@ use Rattle.questions.proofs.Answers.{given-passed}
 use Rattle.questions.specs.Lists.{all}
 use Rattle.records.specs.Typed.{is_word}
 use Rattle.hot.specs.HotSet.Set.{words, entries, Outcome, update_with, Update, updates_of, update_by, update_each}
-use Rattle.hot.specs.HotSet.Calls.{room, ask_set, eviction_margin, entries_of, each_answer, ask_each, lent_updates, rewritten, rewritten_each, sized, updated, UpdatedEach}
+use Rattle.hot.specs.HotSet.Calls.{room, ask_set, eviction_margin, entries_of, ask_each, lent_updates, rewritten, rewritten_each, sized, updated, UpdatedEach}
 use Rattle.hot.specs.HotSet.Steps.{Acted}
 use Rattle.hot.specs.declared.hot_set.HotEntry.{HotEntry}
 use Rattle.hot.specs.declared.hot_set.HotSet.{HotSet}
-use Rattle.hot.specs.declared.hot_set.EachAnswer.{EachAnswer}
 use Rattle.hot.proofs.HotSet.Words.{length-entries, length-words}
 use Rattle.hot.proofs.HotSet.Table.{table_same}
 use Rattle.hot.proofs.HotSet.Answers.{passed-set}
@@ -28,6 +27,9 @@ use Rattle.hot.proofs.HotSet.Theorems.{kept, acted-long, acted-read, acted-again
 use Rattle.hot.proofs.HotSet.EachLaws.{EachPassed, each-passed, lent_length}
 use Rattle.questions.proofs.ListLaws.{map_at}
 use Rattle.records.proofs.Tables.TypedLaws.{record-words}
+use Rattle.std.specs.declared.result.Result.{Result}
+use Rattle.questions.specs.declared.Refusal.{Refusal}
+use Rattle.questions.specs.Refusals.{answer_of}
 
 -- updates with keys of 64 bits and demands that are finite with a clear sign bit, at a reading of 64 bits
 abbrev pub GoodUpdates : (now : ℕ) → List Update → Type 0
@@ -104,7 +106,7 @@ module _ (margin : Float) (s : HotSet) (now : ℕ) where
       record { asked = rest.asked; read = rest.read; long = rest.long ∙ one.long; past = rest.past ∙ one.past }
 
 -- ---- the same of the call
-module _ (s : HotSet) (xs keys : List ℕ) (w n : ℕ) (demands thresholds : List Float) (elsewhere : List Bool) (now : ℕ) (out : List Bool) (r : EachAnswer) (ys : List ℕ) (out' : List Bool) (c : UpdatedEach s xs keys w n demands thresholds elsewhere now out r ys out') (z : Float) (hk : all is_word keys ≡ true) (f : (i : ℕ) → i < n → fits binary64 (get_or demands i z) ≡ true) (hn : is_word now ≡ true) (t : HotSet) (e : each_answer r ≡ given t) where
+module _ (s : HotSet) (xs keys : List ℕ) (w n : ℕ) (demands thresholds : List Float) (elsewhere : List Bool) (now : ℕ) (out : List Bool) (r : Result HotSet Refusal) (ys : List ℕ) (out' : List Bool) (c : UpdatedEach s xs keys w n demands thresholds elsewhere now out r ys out') (z : Float) (hk : all is_word keys ≡ true) (f : (i : ℕ) → i < n → fits binary64 (get_or demands i z) ≡ true) (hn : is_word now ≡ true) (t : HotSet) (e : answer_of r ≡ given t) where
   abbrev pub all-updates : List Update
   all-updates = lent_updates keys w n demands thresholds elsewhere
 

@@ -2,7 +2,6 @@
 use mathlib.Core.Path.{◌≡◌, refl, sym, ap, ◌∙◌, subst}
 use mathlib.Core.Bool.{Bool, true, false, cond, ◌||◌, or-true}
 use mathlib.Core.List.{List, [], ◌∷◌}
-use mathlib.Core.Option.{Option, none, some}
 use Prim.Native.Nat.{ℕ}
 use native.Mathlib.Omega.{arith}
 use lib.Dec.{ltb, eqb}
@@ -16,6 +15,8 @@ use Rattle.questions.specs.Lists.{all, those}
 use Rattle.hot.proofs.HotSet.Tests.{cooled-key}
 use Rattle.hot.proofs.HotSet.Map.{all-hot}
 use Rattle.questions.proofs.OnlyLaws.{all-only, all-replaced, all-imply, first_passes}
+use Rattle.std.specs.declared.option.Option.{Option}
+use Rattle.std.specs.declared.option.Option.TheVariants.{None, Some}
 
 -- ---- a test that every entry passes
 module _ (p : HotEntry → Bool) where
@@ -27,7 +28,7 @@ module _ (p : HotEntry → Bool) where
   unfolding remove all
   all_remove k es a = all-replaced p entry_key k [] es refl a
 
-  pub all-get : (k : ℕ) (es : List HotEntry) → all p es ≡ true → (e : HotEntry) → get k es ≡ some e → p e ≡ true
+  pub all-get : (k : ℕ) (es : List HotEntry) → all p es ≡ true → (e : HotEntry) → get k es ≡ Some e → p e ≡ true
   unfolding get those
   all-get k es a e h = first_passes p (those entry_key k es) (all-only p (λ (x : HotEntry). eqb x.key k) es a) e h
 
@@ -41,7 +42,7 @@ module _ (p : HotEntry → Bool) where
       either true g = g
       either false g = h
 
-  all-weakest : (es : List HotEntry) (w : HotEntry) → some w ≡ weakest es → all p es ≡ true → p w ≡ true
+  all-weakest : (es : List HotEntry) (w : HotEntry) → Some w ≡ weakest es → all p es ≡ true → p w ≡ true
   unfolding weakest all
   all-weakest [] w q a = let z : ◌≡◌ {A = ℕ} 0 1 = cc in absurd (omega arith)
   all-weakest (e ∷ es) w q a =
@@ -49,7 +50,7 @@ module _ (p : HotEntry → Bool) where
       let b = both (p e) (all p es) a in
       subst (λ (y : HotEntry). p y ≡ true) (sym r) (weakest-passes e es b.0 b.1)
 
-pub weakest-hot : (es : List HotEntry) (w : HotEntry) → some w ≡ weakest es → is_hot w.key es ≡ true
+pub weakest-hot : (es : List HotEntry) (w : HotEntry) → Some w ≡ weakest es → is_hot w.key es ≡ true
 weakest-hot es w q = all-weakest (λ (e : HotEntry). is_hot e.key es) es w q (all-hot es)
 
 -- ---- an update
@@ -65,8 +66,8 @@ module _
 
     all-evict : (primary : Bool) (es : List HotEntry) (o : Option HotEntry) → all p es ≡ true → all p (evict margin (new_entry key demand primary now) es o).left ≡ true
     unfolding evict
-    all-evict primary es none a = a
-    all-evict primary es (some e) a =
+    all-evict primary es None a = a
+    all-evict primary es (Some e) a =
         either_left (lt (mul binary64 e.demand margin) demand) _ _ (all-put p (new_entry key demand primary now) (remove e.key es) (new primary) (all_remove p e.key es a)) a
 
     all-promote : (primary : Bool) (es : List HotEntry) → all p es ≡ true → all p (promote margin size key demand primary now es).left ≡ true
@@ -74,8 +75,8 @@ module _
     all-promote primary es a = by (get key es) refl
       where
         by : (o : Option HotEntry) → get key es ≡ o → all p (promote_from margin size key demand primary now es o).left ≡ true
-        by none h = either_left (ltb (length es) size) _ _ (all-put p (new_entry key demand primary now) es (new primary) a) (all-evict primary es (weakest es) a)
-        by (some e) h = all-put p (renewed demand primary e) es (renew primary e (all-get p key es a e h)) a
+        by None h = either_left (ltb (length es) size) _ _ (all-put p (new_entry key demand primary now) es (new primary) a) (all-evict primary es (weakest es) a)
+        by (Some e) h = all-put p (renewed demand primary e) es (renew primary e (all-get p key es a e h)) a
 
     -- an entry that cools
     all-cool : (es : List HotEntry) → all p es ≡ true → all p (cool cooldown key demand now es) ≡ true
@@ -83,14 +84,14 @@ module _
     all-cool es a = by (get key es) refl
       where
         by : (o : Option HotEntry) → get key es ≡ o → all p (cool_from cooldown demand now es o) ≡ true
-        by none h = a
-        by (some e) h = all-put p (cooled cooldown demand now e) es (cools e (all-get p key es a e h)) a
+        by None h = a
+        by (Some e) h = all-put p (cooled cooldown demand now e) es (cools e (all-get p key es a e h)) a
 
     -- what is left not above the threshold
     all-settle : (elsewhere : Bool) (es : List HotEntry) (o : Option HotEntry) → all p es ≡ true → all p (settle margin size key demand now elsewhere es o).left ≡ true
     unfolding settle
-    all-settle elsewhere es none a = either_left elsewhere _ _ (all-promote false es a) a
-    all-settle elsewhere es (some e) a = either_left (e.primary || elsewhere) _ _ a (all_remove p key es a)
+    all-settle elsewhere es None a = either_left elsewhere _ _ (all-promote false es a) a
+    all-settle elsewhere es (Some e) a = either_left (e.primary || elsewhere) _ _ a (all_remove p key es a)
 
     -- of every update
     pub all-updated : (s : HotSet) → s.cooldown ≡ cooldown → s.max_size ≡ size → (threshold : Float) (elsewhere : Bool) (es : List HotEntry) → all p es ≡ true → all p (update_with margin s key demand threshold now elsewhere es).left ≡ true

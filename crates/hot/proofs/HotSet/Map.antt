@@ -2,7 +2,6 @@
 use mathlib.Core.Path.{◌≡◌, refl, sym, ap, ◌∙◌, subst}
 use mathlib.Core.Bool.{true, false, not}
 use mathlib.Core.List.{List, [], ◌∷◌, map}
-use mathlib.Core.Option.{none, some}
 use Prim.Native.Nat.{ℕ, ◌+◌, ◌≤◌}
 use native.Mathlib.Omega.{arith}
 use borrow.Author.Tests.{ltb-true, ltb-false, eqb-true}
@@ -16,6 +15,7 @@ use Rattle.questions.proofs.OnlyLaws.{any-number, any-misses, only-passes, only-
 use Rattle.records.proofs.Order.AscendingLaws.{asc-numbered}
 use Rattle.hot.specs.HotSet.Set.{words, entry_key, get, put, remove, is_hot}
 use Rattle.hot.specs.declared.hot_set.HotEntry.{HotEntry}
+use Rattle.std.specs.declared.option.Option.TheVariants.{None, Some}
 
 -- the words of the entries ascend
 abbrev pub Asc : List HotEntry → Type 0
@@ -43,17 +43,17 @@ module _ (k : ℕ) (es : List HotEntry) where
   pub cold-misses : is_hot k es ≡ false → all (λ (e : HotEntry). not (eqb k e.key)) es ≡ true
   cold-misses h = (λ i. all (λ (e : HotEntry). not (eqb-turn k e.key i)) es) ∙ no_key h
 
-  pub get_key : (e : HotEntry) → get k es ≡ some e → e.key ≡ k
+  pub get_key : (e : HotEntry) → get k es ≡ Some e → e.key ≡ k
   unfolding get those
   get_key e h = eqb-true e.key k (first_passes (λ (x : HotEntry). eqb x.key k) (those entry_key k es) (only-passes (λ (x : HotEntry). eqb x.key k) es) e h)
 
   -- ---- `remove`
-  pub get-remove : get k (remove k es) ≡ none
+  pub get-remove : get k (remove k es) ≡ None
   unfolding get remove all
   get-remove = ap first (those-same entry_key k [] es refl)
 
   -- what is not there is not there after a removal
-  pub none-remove : (j : ℕ) → get k es ≡ none → get k (remove j es) ≡ none
+  pub none-remove : (j : ℕ) → get k es ≡ None → get k (remove j es) ≡ None
   unfolding get remove those all
   none-remove j h = ap first (only-nothing (λ (e : HotEntry). eqb e.key k) (remove j es) (all-replaced (λ (e : HotEntry). not (eqb e.key k)) entry_key j [] es refl (no_key (ap present h))))
 
@@ -75,9 +75,9 @@ module _ (x : HotEntry) (es : List HotEntry) where
   unfolding all
   own = and_intro (eqb x.key x.key) true (eqb-self x.key) refl
 
-  pub get-put : (k : ℕ) → x.key ≡ k → get k (put x es) ≡ some x
+  pub get-put : (k : ℕ) → x.key ≡ k → get k (put x es) ≡ Some x
   unfolding get put
-  get-put k e = subst (λ (j : ℕ). get j (put x es) ≡ some x) e (ap first (those-same entry_key x.key (x ∷ []) es own))
+  get-put k e = subst (λ (j : ℕ). get j (put x es) ≡ Some x) e (ap first (those-same entry_key x.key (x ∷ []) es own))
 
   pub remove-put : (k : ℕ) → x.key ≡ k → remove k (put x es) ≡ remove k es
   unfolding put remove

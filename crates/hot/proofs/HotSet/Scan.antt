@@ -2,7 +2,6 @@
 use mathlib.Core.Path.{◌≡◌, refl, sym, ap, ◌∙◌}
 use mathlib.Core.Bool.{Bool, true, false, cond, ◌&&◌, ◌||◌}
 use mathlib.Core.List.{List, [], ◌∷◌}
-use mathlib.Core.Option.{some}
 use Prim.Native.Nat.{ℕ, ◌+◌, ◌*◌, ◌≤◌, ◌<◌}
 use native.Mathlib.Nat.{not-suc-le-zero}
 use native.Mathlib.Numerals.{add-one}
@@ -29,6 +28,7 @@ use Rattle.hot.proofs.HotSet.Words.{demand_fits, is-entry-take, words-entry, is-
 use Rattle.questions.proofs.ListLaws.{map_at}
 use Rattle.hot.proofs.HotSet.Table.{nth, nth-is, key-rises, asc-entries}
 use Rattle.records.proofs.Words.RowLaws.{word-at}
+use Rattle.std.specs.declared.option.Option.TheVariants.{Some}
 
 -- ---- the words of a record are those of a valid entry where they pass
 demand-fits : (r : List ℕ) → demand_fits (entry r) ≡ true
@@ -80,9 +80,9 @@ weaker-later a b h = rw (le-ltb a.key b.key (omega arith)) (last (total_less (to
 pub record Weakest (n : ℕ) (xs : List ℕ) (m i : ℕ) : Type 0 where
   pub passed : m < i
   pub within : i ≤ n
-  pub least : weakest (entries n xs) ≡ some (weakest_of (nth (entries n xs) m) (drop i (entries n xs)))
+  pub least : weakest (entries n xs) ≡ Some (weakest_of (nth (entries n xs) m) (drop i (entries n xs)))
 
-first_of : (es : List HotEntry) → 0 < length es → weakest es ≡ some (weakest_of (nth es 0) (drop 1 es))
+first_of : (es : List HotEntry) → 0 < length es → weakest es ≡ Some (weakest_of (nth es 0) (drop 1 es))
 unfolding weakest
 first_of [] h = absurd (not-suc-le-zero h)
 first_of (e ∷ es) h = refl
@@ -109,31 +109,31 @@ module _ (n : ℕ) (xs : List ℕ) (h : EntriesReady n xs) where
   }
 
   -- one entry more
-  turn : (m i : ℕ) → Weakest n xs m i → i < n → weakest (entries n xs) ≡ some (weakest_of (cond (total_less (get_or xs (i * 6 + 1) 0) (get_or xs (m * 6 + 1) 0)) (nth (entries n xs) i) (nth (entries n xs) m)) (drop (i + 1) (entries n xs)))
+  turn : (m i : ℕ) → Weakest n xs m i → i < n → weakest (entries n xs) ≡ Some (weakest_of (cond (total_less (get_or xs (i * 6 + 1) 0) (get_or xs (m * 6 + 1) 0)) (nth (entries n xs) i) (nth (entries n xs) m)) (drop (i + 1) (entries n xs)))
   unfolding weakest_of
   turn m i w l =
       w.least
-      ∙ ap (λ (fs : List HotEntry). some (weakest_of (nth (entries n xs) m) fs)) (drop-cons (entries n xs) i (entry []) (omega (arith, length-entries n xs)))
-      ∙ (λ j. some (weakest_of (cond (weaker-is m i w.passed l j) (nth (entries n xs) i) (nth (entries n xs) m)) (drop (sym (add-one i) j) (entries n xs))))
+      ∙ ap (λ (fs : List HotEntry). Some (weakest_of (nth (entries n xs) m) fs)) (drop-cons (entries n xs) i (entry []) (omega (arith, length-entries n xs)))
+      ∙ (λ j. Some (weakest_of (cond (weaker-is m i w.passed l j) (nth (entries n xs) i) (nth (entries n xs) m)) (drop (sym (add-one i) j) (entries n xs))))
 
   pub weakest-next : (m i : ℕ) → Weakest n xs m i → i < n → total_less (get_or xs (i * 6 + 1) 0) (get_or xs (m * 6 + 1) 0) ≡ true → Weakest n xs i (i + 1)
   weakest-next m i w l e = record {
     passed = omega arith;
     within = omega arith;
-    least = turn m i w l ∙ ap (λ (b : Bool). some (weakest_of (cond b (nth (entries n xs) i) (nth (entries n xs) m)) (drop (i + 1) (entries n xs)))) e;
+    least = turn m i w l ∙ ap (λ (b : Bool). Some (weakest_of (cond b (nth (entries n xs) i) (nth (entries n xs) m)) (drop (i + 1) (entries n xs)))) e;
   }
 
   pub weakest-same : (m i : ℕ) → Weakest n xs m i → i < n → total_less (get_or xs (i * 6 + 1) 0) (get_or xs (m * 6 + 1) 0) ≡ false → Weakest n xs m (i + 1)
   weakest-same m i w l e = record {
     passed = omega (arith, w.passed);
     within = omega arith;
-    least = turn m i w l ∙ ap (λ (b : Bool). some (weakest_of (cond b (nth (entries n xs) i) (nth (entries n xs) m)) (drop (i + 1) (entries n xs)))) e;
+    least = turn m i w l ∙ ap (λ (b : Bool). Some (weakest_of (cond b (nth (entries n xs) i) (nth (entries n xs) m)) (drop (i + 1) (entries n xs)))) e;
   }
 
-  pub weakest-done : (m i : ℕ) (r : HotEntry) → Weakest n xs m i → n ≤ i → r ≡ entry (drop (m * 6) xs) → some r ≡ weakest (entries n xs)
+  pub weakest-done : (m i : ℕ) (r : HotEntry) → Weakest n xs m i → n ≤ i → r ≡ entry (drop (m * 6) xs) → Some r ≡ weakest (entries n xs)
   unfolding weakest_of
   weakest-done m i r w l e =
       let q : i ≤ n = w.within in
       sym (w.least
-      ∙ ap (λ (fs : List HotEntry). some (weakest_of (nth (entries n xs) m) fs)) (drop_of_length-le (entries n xs) {i = i} (omega (arith, length-entries n xs)))
-      ∙ ap some (nth-is n xs m (omega (arith, w.passed)) ∙ sym e))
+      ∙ ap (λ (fs : List HotEntry). Some (weakest_of (nth (entries n xs) m) fs)) (drop_of_length-le (entries n xs) {i = i} (omega (arith, length-entries n xs)))
+      ∙ ap Some (nth-is n xs m (omega (arith, w.passed)) ∙ sym e))

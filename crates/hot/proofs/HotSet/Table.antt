@@ -2,11 +2,11 @@
 use mathlib.Core.Path.{◌≡◌, refl, sym, ap, ◌∙◌}
 use mathlib.Core.Bool.{true}
 use mathlib.Core.List.{List, [], ◌∷◌, map}
-use mathlib.Core.Option.{none, some}
 use Prim.Native.Nat.{ℕ, ◌+◌, ◌*◌, ◌≤◌, ◌<◌}
 use native.Mathlib.Omega.{arith}
 use borrow.Author.Tests.{ltb-true}
 use lib.ListN.{length, get_or, drop, length-map, get_or-map}
+use Rattle.records.specs.declared.Found.{Found}
 use Rattle.records.specs.declared.Found.TheVariants.{At, Gap, Unfit}
 use Rattle.records.specs.Records.{records, table, before, key, ascending, find_in, inserted, removed, overwritten}
 use Rattle.records.specs.Typed.{exact}
@@ -25,6 +25,7 @@ use Rattle.hot.specs.declared.hot_set.HotEntry.{HotEntry}
 use Rattle.hot.proofs.HotSet.Words.{length-words, entry-take, records-table, entries-table, length-table}
 use Rattle.hot.proofs.HotSet.ValidLaws.{entry-back, valid-fits}
 use Rattle.hot.proofs.HotSet.Map.{Asc}
+use Rattle.std.specs.declared.option.Option.TheVariants.{None, Some}
 
 -- a record stands for an entry, by its key
 entry-kind : Kind words entry entry_key 6
@@ -90,13 +91,18 @@ module _ (n : ℕ) (xs : List ℕ) (h : EntriesReady n xs) where
     pub at-within : (i : ℕ) → At i ≡ find_in 6 1 n k 0 xs → (i < n) × (i * 6 + 6 ≤ length xs)
     at-within i e = typed.found_within words entry entry_key 6 n xs entry-kind in_table k i e
 
-    pub got-at : (i : ℕ) → At i ≡ find_in 6 1 n k 0 xs → some (entry (drop (i * 6) xs)) ≡ get k (entries n xs)
+    pub got-at : (i : ℕ) → At i ≡ find_in 6 1 n k 0 xs → Some (entry (drop (i * 6) xs)) ≡ get k (entries n xs)
     unfolding entries get
     got-at i e = ap first (sym (typed.those-found words entry entry_key 6 n xs entry-kind in_table k i e))
 
-    pub got-gap : (i : ℕ) → Gap i ≡ find_in 6 1 n k 0 xs → none ≡ get k (entries n xs)
+    pub got-gap : (i : ℕ) → Gap i ≡ find_in 6 1 n k 0 xs → None ≡ get k (entries n xs)
     unfolding entries get
     got-gap i e = ap first (sym (typed.those-none words entry entry_key 6 n xs entry-kind in_table k i e))
+
+    pub got-none : (f : Found) → f ≡ find_in 6 1 n k 0 xs → ((i : ℕ) → f ≡ At i → ⊥) → None ≡ get k (entries n xs)
+    got-none (At i) e h = absurd (h i refl)
+    got-none (Gap i) e h = got-gap i e
+    got-none Unfit e h = never-unfit e
 
     pub removed-at : (i : ℕ) → At i ≡ find_in 6 1 n k 0 xs → removed 6 n i xs ≡ table (map words (remove k (entries n xs))) xs
     unfolding entries remove
@@ -105,6 +111,11 @@ module _ (n : ℕ) (xs : List ℕ) (h : EntriesReady n xs) where
     pub removed-none : (i : ℕ) → Gap i ≡ find_in 6 1 n k 0 xs → xs ≡ table (map words (remove k (entries n xs))) xs
     unfolding entries remove
     removed-none i e = typed.removed-none words entry entry_key 6 n xs entry-kind in_table k i e
+
+    pub removed-not : (f : Found) → f ≡ find_in 6 1 n k 0 xs → ((i : ℕ) → f ≡ At i → ⊥) → xs ≡ table (map words (remove k (entries n xs))) xs
+    removed-not (At i) e h = absurd (h i refl)
+    removed-not (Gap i) e h = removed-none i e
+    removed-not Unfit e h = never-unfit e
 
   -- ---- an entry, by its words
   module _ (x : HotEntry) (r : List ℕ) (w : r ≡ words x) (i : ℕ) where

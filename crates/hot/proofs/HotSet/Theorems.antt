@@ -3,7 +3,6 @@
 use mathlib.Core.Path.{◌≡◌, refl, sym, ap, ◌∙◌, subst}
 use mathlib.Core.Bool.{Bool, true, false, cond, ◌||◌}
 use mathlib.Core.List.{List, [], map}
-use mathlib.Core.Option.{Option, none, some}
 use Prim.Native.Nat.{ℕ, ◌*◌, ◌≤◌}
 use native.Mathlib.Omega.{arith}
 use borrow.Author.Tests.{ltb-true, leb-true, le-leb}
@@ -19,11 +18,9 @@ use Rattle.questions.specs.Lists.{all, present}
 use Rattle.records.specs.Typed.{is_word, exact}
 use Rattle.hot.specs.HotSet.Set.{words, entry, entries, valid_entry, valid_entries, valid_size, valid, is_valid, get, put, remove, weakest, Outcome, hot_with, cold_with, new_entry, renewed, evict, admit, promote_from, promote, cooled, cool_from, cool, settle, below_threshold, update_with, is_hot}
 use Rattle.hot.specs.HotSet.Steps.{EntriesReady, Acted}
-use Rattle.hot.specs.HotSet.Calls.{room, ask_new, ask_set, ask_update, eviction_margin, entries_of, new_answer, update_answer, updated, rewritten, MadeNew, UpdatedWith}
+use Rattle.hot.specs.HotSet.Calls.{room, ask_new, ask_set, ask_update, eviction_margin, entries_of, updated, rewritten, MadeNew, UpdatedWith}
 use Rattle.hot.specs.declared.hot_set.HotEntry.{HotEntry}
 use Rattle.hot.specs.declared.hot_set.HotSet.{HotSet}
-use Rattle.hot.specs.declared.hot_set.NewAnswer.{NewAnswer}
-use Rattle.hot.specs.declared.hot_set.UpdateAnswer.{UpdateAnswer}
 use Rattle.hot.specs.declared.hot_set.Updated.{Updated}
 use Rattle.hot.proofs.HotSet.Tests.{cooled-key}
 use Rattle.hot.proofs.HotSet.Words.{length-entries, fits-entries, entries-table, length-table}
@@ -32,6 +29,11 @@ use Rattle.hot.proofs.HotSet.EntryLaws.{weakest-hot}
 use Rattle.hot.proofs.HotSet.Table.{ready-table, valid-entries, asc-entries, exactly}
 use Rattle.hot.proofs.HotSet.ValidLaws.{GoodUpdate, updated-valid, updated-fits}
 use Rattle.hot.proofs.HotSet.Answers.{Passed, passed-set, update-passed-set}
+use Rattle.std.specs.declared.option.Option.{Option}
+use Rattle.std.specs.declared.option.Option.TheVariants.{None, Some}
+use Rattle.std.specs.declared.result.Result.{Result}
+use Rattle.questions.specs.declared.Refusal.{Refusal}
+use Rattle.questions.specs.Refusals.{answer_of}
 
 -- ---- what holds of every outcome
 pub record Kept (size key : ℕ) (o : Outcome) : Type 0 where
@@ -53,25 +55,25 @@ module _ (margin : Float) (size key : ℕ) (demand : Float) (now : ℕ) (es : Li
     says = ap present (get-put x fs key k);
   }
 
-  kept_there : (e x : HotEntry) → get key es ≡ some e → x.key ≡ e.key → Kept size key (hot_with (put x es))
+  kept_there : (e x : HotEntry) → get key es ≡ Some e → x.key ≡ e.key → Kept size key (hot_with (put x es))
   kept_there e x q k =
       let j : x.key ≡ key = k ∙ get_key key es e q in
       kept_put es x a j (omega (arith, put_count x es, some-there x.key es (subst (λ (i : ℕ). is_hot i es ≡ true) (sym j) (ap present q))))
 
-  kept-cold : get key es ≡ none → Kept size key (cold_with es)
+  kept-cold : get key es ≡ None → Kept size key (cold_with es)
   kept-cold q = record { ascends = a; bound = l; says = ap present q }
 
-  kept-evict : (b : Bool) (o : Option HotEntry) → o ≡ weakest es → get key es ≡ none → Kept size key (evict margin (new_entry key demand b now) es o)
+  kept-evict : (b : Bool) (o : Option HotEntry) → o ≡ weakest es → get key es ≡ None → Kept size key (evict margin (new_entry key demand b now) es o)
   unfolding evict
-  kept-evict b none w q = kept-cold q
-  kept-evict b (some e) w q =
+  kept-evict b None w q = kept-cold q
+  kept-evict b (Some e) w q =
       let x : HotEntry = new_entry key demand b now in
       let gone = some-there e.key es (weakest-hot es e w) in
       by-test (lt (mul binary64 e.demand margin) demand) _ _
       (λ t. kept_put (remove e.key es) x (asc-remove e.key es a) refl (omega (arith, remove-count e.key es, gone, put_count x (remove e.key es))))
       (λ t. kept-cold q)
 
-  kept-admit : (b : Bool) → get key es ≡ none → Kept size key (admit margin size (new_entry key demand b now) es)
+  kept-admit : (b : Bool) → get key es ≡ None → Kept size key (admit margin size (new_entry key demand b now) es)
   unfolding admit
   kept-admit b q =
       let x : HotEntry = new_entry key demand b now in
@@ -81,8 +83,8 @@ module _ (margin : Float) (size key : ℕ) (demand : Float) (now : ℕ) (es : Li
 
   kept-promote-from : (b : Bool) (o : Option HotEntry) → get key es ≡ o → Kept size key (promote_from margin size key demand b now es o)
   unfolding promote_from
-  kept-promote-from b none q = kept-admit b q
-  kept-promote-from b (some e) q = kept_there e (renewed demand b e) q refl
+  kept-promote-from b None q = kept-admit b q
+  kept-promote-from b (Some e) q = kept_there e (renewed demand b e) q refl
 
   pub kept-promote : (b : Bool) → Kept size key (promote margin size key demand b now es)
   unfolding promote
@@ -90,7 +92,7 @@ module _ (margin : Float) (size key : ℕ) (demand : Float) (now : ℕ) (es : Li
 
   -- an entry that cools
   module _ (cooldown : ℕ) (elsewhere : Bool) where
-    kept-cooled : (e : HotEntry) → get key es ≡ some e → Kept size key (settle margin size key demand now elsewhere (put (cooled cooldown demand now e) es) (some (cooled cooldown demand now e)))
+    kept-cooled : (e : HotEntry) → get key es ≡ Some e → Kept size key (settle margin size key demand now elsewhere (put (cooled cooldown demand now e) es) (Some (cooled cooldown demand now e)))
     unfolding settle
     kept-cooled e q =
         let x : HotEntry = cooled cooldown demand now e in
@@ -105,10 +107,10 @@ module _ (margin : Float) (size key : ℕ) (demand : Float) (now : ℕ) (es : Li
 
     kept-below-from : (o : Option HotEntry) → get key es ≡ o → Kept size key (settle margin size key demand now elsewhere (cool_from cooldown demand now es o) (get key (cool_from cooldown demand now es o)))
     unfolding settle
-    kept-below-from none q =
+    kept-below-from None q =
         subst (λ (o : Option HotEntry). Kept size key (settle margin size key demand now elsewhere es o)) (sym q)
         (by-test elsewhere _ _ (λ t. kept-promote false) (λ t. kept-cold q))
-    kept-below-from (some e) q =
+    kept-below-from (Some e) q =
         let x : HotEntry = cooled cooldown demand now e in
         let j : x.key ≡ key = cooled-key cooldown demand now e ∙ get_key key es e q in
         subst (λ (o : Option HotEntry). Kept size key (settle margin size key demand now elsewhere (put x es) o))
@@ -184,7 +186,7 @@ module _ (margin : Float) (s : HotSet) (xs : List ℕ) (p : passes (ask_set s xs
         ∙ passes-table (updated s outcome).set xs outcome.left sized d refl kept.bound kept.ascends
         (updated-valid margin s key demand threshold now elsewhere (entries_of s xs) g (valid-entries s.len xs before.ready))
 
-module _ (s : HotSet) (xs : List ℕ) (key : ℕ) (demand threshold : Float) (now : ℕ) (elsewhere : Bool) (r : UpdateAnswer) (ys : List ℕ) (c : UpdatedWith s xs key demand threshold now elsewhere r ys) (u : Updated) (e : update_answer r ≡ given u) where
+module _ (s : HotSet) (xs : List ℕ) (key : ℕ) (demand threshold : Float) (now : ℕ) (elsewhere : Bool) (r : Result Updated Refusal) (ys : List ℕ) (c : UpdatedWith s xs key demand threshold now elsewhere r ys) (u : Updated) (e : answer_of r ≡ given u) where
   abbrev updated-to : Outcome
   updated-to = update_with eviction_margin s key demand threshold now elsewhere (entries_of s xs)
 
@@ -224,7 +226,7 @@ module _ (s : HotSet) (xs : List ℕ) (key : ℕ) (demand threshold : Float) (no
       (record { key_word = hk; demand_f64 = f; finite = number; now_word = hn })
 
 -- what `new` gives passes the questions in the words it was asked with, and holds no key
-pub new-passes : (xs : List ℕ) (cooldown size : ℕ) (r : NewAnswer) (s : HotSet) → MadeNew xs cooldown size r → new_answer r ≡ given s → (passes (ask_set s xs) ≡ true) × (entries_of s xs ≡ [])
+pub new-passes : (xs : List ℕ) (cooldown size : ℕ) (r : Result HotSet Refusal) (s : HotSet) → MadeNew xs cooldown size r → answer_of r ≡ given s → (passes (ask_set s xs) ≡ true) × (entries_of s xs ≡ [])
 unfolding passes is_valid valid valid_entries all ascending records entries
 new-passes xs cooldown size r s c e =
     let w = given-passed (ask_new size xs) s (record { cooldown = cooldown; max_size = size; len = 0 }) (sym e ∙ c) in

@@ -12,9 +12,7 @@ use Rattle.questions.proofs.Tests.{both, and_intro}
 use Rattle.records.specs.Fields.{flag_word, time_flag, time_word}
 use Rattle.questions.specs.Lists.{all}
 use Rattle.records.specs.Typed.{is_word}
-use Rattle.hot.specs.HotSet.Set.{words, entry, cooling_time, valid_entry, new_entry, renewed, count_down, cooled, update_with}
-use Rattle.hot.specs.declared.hot_set.Cooling.{Cooling}
-use Rattle.hot.specs.declared.hot_set.Cooling.TheVariants.{Unset, Since}
+use Rattle.hot.specs.HotSet.Set.{words, entry, valid_entry, new_entry, renewed, count_down, cooled, update_with}
 use Rattle.hot.specs.declared.hot_set.HotEntry.{HotEntry}
 use Rattle.hot.specs.declared.hot_set.HotSet.{HotSet}
 use Rattle.hot.proofs.HotSet.Tests.{cooled-demand}
@@ -22,13 +20,15 @@ use Rattle.hot.proofs.HotSet.Words.{demand_fits, Fits, entry-words}
 use Rattle.hot.proofs.HotSet.EntryLaws.{all-updated}
 use Rattle.records.proofs.Words.FieldLaws.{flag-fits, time-flag-fits}
 use Rattle.questions.proofs.OnlyLaws.{all-imply}
+use Rattle.std.specs.declared.option.Option.{Option}
+use Rattle.std.specs.declared.option.Option.TheVariants.{None, Some}
 
 -- ---- a valid entry
 pub record GoodEntry (e : HotEntry) : Type 0 where
   pub key_word : is_word e.key ≡ true
   pub demand_f64 : demand_fits e ≡ true
   pub finite : magnitude e.demand ≡ true
-  pub cooling_word : is_word (time_word (cooling_time e.cooling_since)) ≡ true
+  pub cooling_word : is_word (time_word e.cooling_since) ≡ true
   pub since_word : is_word e.since ≡ true
 
 -- what a valid entry says
@@ -39,7 +39,7 @@ entry-says e h =
     let d = both (fits binary64 e.demand) (magnitude e.demand) v.1 in
     let k = both (is_word e.key) _ v.0 in
     let p = both (is_word (flag_word e.primary)) _ (both (is_word (to_bits binary64 e.demand)) _ k.1).1 in
-    let t = both (is_word (time_word (cooling_time e.cooling_since))) _ (both (is_word (time_flag (cooling_time e.cooling_since))) _ p.1).1 in
+    let t = both (is_word (time_word e.cooling_since)) _ (both (is_word (time_flag e.cooling_since)) _ p.1).1 in
     record {
       key_word = k.0;
       demand_f64 = d.0;
@@ -60,8 +60,8 @@ entry-valid e g =
     (and_intro (is_word e.key) _ g.key_word
     (and_intro (is_word (to_bits binary64 e.demand)) _ (float_word e.demand g.demand_f64)
     (and_intro (is_word (flag_word e.primary)) _ (flag-fits e.primary)
-    (and_intro (is_word (time_flag (cooling_time e.cooling_since))) _ (time-flag-fits (cooling_time e.cooling_since))
-    (and_intro (is_word (time_word (cooling_time e.cooling_since))) _ g.cooling_word (and_intro (is_word e.since) true g.since_word refl))))))
+    (and_intro (is_word (time_flag e.cooling_since)) _ (time-flag-fits e.cooling_since)
+    (and_intro (is_word (time_word e.cooling_since)) _ g.cooling_word (and_intro (is_word e.since) true g.since_word refl))))))
     (and_intro (fits binary64 e.demand) _ g.demand_f64 g.finite)
 
 -- its words stand for it
@@ -86,29 +86,29 @@ module _ (key : ℕ) (demand : Float) (now : ℕ) (u : GoodUpdate key demand now
       entry-valid (new_entry key demand primary now) (record { key_word = u.key_word; demand_f64 = u.demand_f64; finite = u.finite; cooling_word = refl; since_word = u.now_word })
 
   -- an entry with the key and the start of one that is there
-  like-valid : (e : HotEntry) → valid_entry e ≡ true → (primary : Bool) (c : Cooling) → is_word (time_word (cooling_time c)) ≡ true → valid_entry (record { key = e.key; demand = demand; primary = primary; cooling_since = c; since = e.since }) ≡ true
+  like-valid : (e : HotEntry) → valid_entry e ≡ true → (primary : Bool) (c : Option ℕ) → is_word (time_word c) ≡ true → valid_entry (record { key = e.key; demand = demand; primary = primary; cooling_since = c; since = e.since }) ≡ true
   like-valid e v primary c t =
       let g = entry-says e v in
       entry-valid (record { key = e.key; demand = demand; primary = primary; cooling_since = c; since = e.since }) (record { key_word = g.key_word; demand_f64 = u.demand_f64; finite = u.finite; cooling_word = t; since_word = g.since_word })
 
   renewed-valid : (primary : Bool) (e : HotEntry) → valid_entry e ≡ true → valid_entry (renewed demand primary e) ≡ true
-  renewed-valid primary e v = like-valid e v primary Unset refl
+  renewed-valid primary e v = like-valid e v primary None refl
 
   -- one that cools, from a reading that is a word
   cooled-valid : (cooldown : ℕ) (e : HotEntry) → valid_entry e ≡ true → valid_entry (cooled cooldown demand now e) ≡ true
   unfolding cooled
   cooled-valid cooldown e v = either-valid e.primary _ _ (counts e.cooling_since old) (like-valid e v false e.cooling_since old)
     where
-      old : is_word (time_word (cooling_time e.cooling_since)) ≡ true
+      old : is_word (time_word e.cooling_since) ≡ true
       old = (entry-says e v).cooling_word
 
       either-valid : (b : Bool) (x y : HotEntry) → valid_entry x ≡ true → valid_entry y ≡ true → valid_entry (cond b x y) ≡ true
       either-valid true x y h k = h
       either-valid false x y h k = k
 
-      counts : (c : Cooling) → is_word (time_word (cooling_time c)) ≡ true → valid_entry (count_down cooldown demand now e c) ≡ true
-      counts Unset t = like-valid e v true (Since now) u.now_word
-      counts (Since s) t = either-valid (leb cooldown (now - s)) _ _ (like-valid e v false Unset refl) (like-valid e v true (Since s) t)
+      counts : (c : Option ℕ) → is_word (time_word c) ≡ true → valid_entry (count_down cooldown demand now e c) ≡ true
+      counts None t = like-valid e v true (Some now) u.now_word
+      counts (Some s) t = either-valid (leb cooldown (now - s)) _ _ (like-valid e v false None refl) (like-valid e v true (Some s) t)
 
 module _ (margin : Float) (s : HotSet) (key : ℕ) (demand threshold : Float) (now : ℕ) (elsewhere : Bool) (es : List HotEntry) where
   -- every entry stays valid

@@ -1,12 +1,11 @@
 -- Entries and their words: there and back, and records of entries in lent words.
 use mathlib.Core.Path.{◌≡◌, refl, ap, ◌∙◌}
-use mathlib.Core.Bool.{Bool, true, false}
+use mathlib.Core.Bool.{Bool, true}
 use mathlib.Core.List.{List, [], ◌∷◌, map}
-use mathlib.Core.Option.{Option, none, some}
 use Prim.Native.Nat.{ℕ, zero, suc, ◌+◌, ◌*◌, ◌≤◌, ◌<◌}
 use native.Mathlib.Nat.{add-zero}
 use native.Mathlib.Omega.{arith}
-use borrow.Author.Tests.{ltb-true, le-leb, lt-leb}
+use borrow.Author.Tests.{ltb-true}
 use lib.Dec.{T, leb, lit<}
 use lib.Ieee.{binary64, to_bits, of_bits, fits}
 use lib.Ieee.Bits.{is_true, of_bits-to_bits, to_bits-of_bits, of_bits-fits}
@@ -19,29 +18,16 @@ use Rattle.questions.proofs.Tests.{both, and_intro}
 use Rattle.records.proofs.Tables.TableLaws as records
 use Rattle.records.proofs.Tables.TableLaws.{Wide}
 use Rattle.records.proofs.Words.RecordLaws.{length-records}
-use Rattle.records.specs.Fields.{flag_of, time_of, is_time}
+use Rattle.records.specs.Fields.{flag_of, time_of}
 use Rattle.records.proofs.Words.FieldLaws.{flag-of-word, flag-back, flag_small, time-of-words, time-is, time-flag-back, time-word-back}
 use Rattle.questions.specs.Lists.{all}
-use Rattle.hot.specs.HotSet.Set.{cooling_time, words, cooling, entry, entries}
+use Rattle.hot.specs.HotSet.Set.{words, entry, entries}
 use Rattle.hot.specs.HotSet.Steps.{are_words, are_entry_words}
 use Rattle.records.proofs.Changes.KeepLaws.{table-over}
 use Rattle.records.proofs.Tables.TypedLaws.{wide-map, all_back, records-written, length-written}
-use Rattle.hot.specs.declared.hot_set.Cooling.{Cooling}
-use Rattle.hot.specs.declared.hot_set.Cooling.TheVariants.{Unset, Since}
 use Rattle.hot.specs.declared.hot_set.HotEntry.{HotEntry}
 
--- ---- the tests of a record's words
-module _ (demand primary flag time : ℕ) where
-  pub no_number : magnitude (of_bits binary64 demand) ≡ false → false ≡ are_words demand primary flag time
-  no_number e = rw e
-
-  pub no-primary : magnitude (of_bits binary64 demand) ≡ true → 1 < primary → false ≡ are_words demand primary flag time
-  no-primary e h = rw (e, lt-leb primary 1 h)
-
-  pub by-time : magnitude (of_bits binary64 demand) ≡ true → primary ≤ 1 → is_time flag time ≡ are_words demand primary flag time
-  by-time e h = rw (e, le-leb primary 1 h)
-
--- of the words that begin at `at`
+-- the tests of the words that begin at `at`
 pub is-entry-at : (at : ℕ) (xs : List ℕ) → are_entry_words (drop at xs) ≡ are_words (get_or xs (at + 1) 0) (get_or xs (at + 2) 0) (get_or xs (at + 3) 0) (get_or xs (at + 4) 0)
 unfolding are_entry_words
 is-entry-at at xs = simp get_or-drop
@@ -50,7 +36,7 @@ pub entry_at : (at : ℕ) (xs : List ℕ) → entry (drop at xs) ≡ record {
   key = get_or xs at 0;
   demand = of_bits binary64 (get_or xs (at + 1) 0);
   primary = flag_of (get_or xs (at + 2) 0);
-  cooling_since = cooling (time_of (get_or xs (at + 3) 0) (get_or xs (at + 4) 0));
+  cooling_since = time_of (get_or xs (at + 3) 0) (get_or xs (at + 4) 0);
   since = get_or xs (at + 5) 0;
 }
 unfolding entry
@@ -74,25 +60,12 @@ bits_back b e =
     let h : b < 9218868437227405312 = ltb-true b 9218868437227405312 (magnitude-bits binary64 b ∙ e) in
     to_bits-of_bits binary64 b (omega arith) (magnitude-no-nan (of_bits binary64 b) (T_of (magnitude (of_bits binary64 b)) e))
 
-cooling-there : (t : Option ℕ) → cooling_time (cooling t) ≡ t
-cooling-there none = refl
-cooling-there (some t) = refl
-
-cooling-back : (c : Cooling) → cooling (cooling_time c) ≡ c
-cooling-back Unset = refl
-cooling-back (Since t) = refl
-
--- words whose flag is set
-pub cools-since : (flag time : ℕ) → (flag ≡ 0 → ⊥) → Since time ≡ cooling (time_of flag time)
-cools-since zero time h = absurd (h refl)
-cools-since (suc flag) time h = refl
-
 pub words-entry : (r : List ℕ) → length r ≡ 6 → are_entry_words r ≡ true → words (entry r) ≡ r
 unfolding words entry are_entry_words
 words-entry (a ∷ b ∷ p ∷ f ∷ t ∷ s ∷ []) h g =
     let m = both (magnitude (of_bits binary64 b)) _ g in
     let q = both (leb p 1) _ m.1 in
-    rw (bits_back b m.0, flag-back p q.0, cooling-there (time_of f t), time-flag-back f t q.1, time-word-back f t q.1)
+    rw (bits_back b m.0, flag-back p q.0, time-flag-back f t q.1, time-word-back f t q.1)
 words-entry [] h g = absurd (omega arith)
 words-entry (a ∷ []) h g = absurd (omega arith)
 words-entry (a ∷ b ∷ []) h g = absurd (omega arith)
@@ -107,7 +80,7 @@ demand_fits e = fits binary64 e.demand
 
 pub entry-words : (e : HotEntry) → demand_fits e ≡ true → entry (words e) ≡ e
 unfolding words entry
-entry-words e F = rw (of_bits-to_bits binary64 e.demand (T_of (demand_fits e) F), flag-of-word e.primary, time-of-words (cooling_time e.cooling_since), cooling-back e.cooling_since)
+entry-words e F = rw (of_bits-to_bits binary64 e.demand (T_of (demand_fits e) F), flag-of-word e.primary, time-of-words e.cooling_since)
 
 pub length-words : (e : HotEntry) → length (words e) ≡ 6
 unfolding words
@@ -115,7 +88,7 @@ length-words e = refl
 
 pub is-entry-words : (e : HotEntry) → demand_fits e ≡ true → magnitude e.demand ≡ true → are_entry_words (words e) ≡ true
 unfolding words are_entry_words
-is-entry-words e F m = rw (of_bits-to_bits binary64 e.demand (T_of (demand_fits e) F), m, flag_small e.primary, time-is (cooling_time e.cooling_since))
+is-entry-words e F m = rw (of_bits-to_bits binary64 e.demand (T_of (demand_fits e) F), m, flag_small e.primary, time-is e.cooling_since)
 
 -- ---- the first n records
 pub length-entries : (n : ℕ) (xs : List ℕ) → length (entries n xs) ≡ n

@@ -1,46 +1,20 @@
 -- The promise of each public function of the hot set: 01's questions in their order, and then its value. Definitions only.
 use Rattle.std.specs.Prelude.{ℕ, ◌*◌, min, ◌≡◌, Bool, false, ◌&&◌, List, [], ◌∷◌, ◌++◌, map, leb, eqb, Float, length, get_or, take, drop}
-use Rattle.std.proofs.Math.Option.{Option, none, some}
 use Rattle.std.specs.Float.{binary64}
 use Rattle.std.specs.Float.Ieee.{of_bits}
 use Rattle.float.specs.Magnitude.{magnitude}
 use Rattle.records.specs.Records.{records, table, fits}
-use Rattle.questions.specs.Questions.{Question, ◌asks◌, Answer, refused, given, answer, changed}
+use Rattle.questions.specs.Questions.{Question, ◌asks◌, answer, changed}
 use Rattle.questions.specs.Lists.{all}
 use Rattle.records.specs.Typed.{exact}
 use Rattle.hot.specs.HotSet.Set.{words, entry, entries, valid_entries, valid_size, is_valid, get, is_hot, since_of, primary_of, Outcome, update_with, Update, updates_of, update_by, update_each}
 use Rattle.hot.specs.declared.hot_set.HotSet.{HotSet}
 use Rattle.hot.specs.declared.hot_set.HotEntry.{HotEntry}
 use Rattle.hot.specs.declared.hot_set.Updated.{Updated}
-use Rattle.hot.specs.declared.hot_set.NewAnswer.{NewAnswer}
-use Rattle.hot.specs.declared.hot_set.NewAnswer.TheVariants as new-answer
-use Rattle.hot.specs.declared.hot_set.UpdateAnswer.{UpdateAnswer}
-use Rattle.hot.specs.declared.hot_set.UpdateAnswer.TheVariants as update-answer
-use Rattle.hot.specs.declared.hot_set.EachAnswer.{EachAnswer}
-use Rattle.hot.specs.declared.hot_set.EachAnswer.TheVariants as each-answer
-use Rattle.demand.specs.declared.answers.FlagAnswer.{FlagAnswer}
-use Rattle.hot.specs.declared.hot_set.SinceAnswer.{SinceAnswer}
-use Rattle.hot.specs.declared.hot_set.SinceAnswer.TheVariants as since-answer
-use Rattle.demand.specs.declared.answers.LenAnswer.{LenAnswer}
-use Rattle.demand.specs.Answers.{flag_answer, len_answer}
-
--- 01's number and values for each case of the answers
-abbrev pub new_answer : NewAnswer → Answer HotSet
-new_answer (new-answer.No n) = refused n
-new_answer (new-answer.Is s) = given s
-
-abbrev pub update_answer : UpdateAnswer → Answer Updated
-update_answer (update-answer.No n) = refused n
-update_answer (update-answer.Is u) = given u
-
-abbrev pub each_answer : EachAnswer → Answer HotSet
-each_answer (each-answer.No n) = refused n
-each_answer (each-answer.Is s) = given s
-
-abbrev pub since_answer : SinceAnswer → Answer (Option ℕ)
-since_answer (since-answer.No n) = refused n
-since_answer since-answer.NotHot = given none
-since_answer (since-answer.Since t) = given (some t)
+use Rattle.std.specs.declared.option.Option.{Option}
+use Rattle.std.specs.declared.result.Result.{Result}
+use Rattle.questions.specs.declared.Refusal.{Refusal}
+use Rattle.questions.specs.Refusals.{answer_of}
 
 -- 01, question 1: the words that a hot set takes; a size above its bound counts as that bound
 abbrev pub room : ℕ → ℕ
@@ -70,9 +44,9 @@ abbrev pub SaidValid : (xs : List ℕ) (n : ℕ) → Bool → Type 0
 SaidValid xs n r = r ≡ (fits (length xs) 6 n && (exact words entry (records 6 n xs) && valid_entries (entries n xs)))
 
 -- `HotSet::new`
-abbrev pub MadeNew : (xs : List ℕ) (cooldown size : ℕ) → NewAnswer → Type 0
+abbrev pub MadeNew : (xs : List ℕ) (cooldown size : ℕ) → Result HotSet Refusal → Type 0
 MadeNew xs cooldown size r =
-    new_answer r ≡ answer (ask_new size xs) (record { cooldown = cooldown; max_size = size; len = 0 })
+    answer_of r ≡ answer (ask_new size xs) (record { cooldown = cooldown; max_size = size; len = 0 })
 
 -- an answer with the number of entries afterwards
 abbrev pub counted : HotSet → Bool → ℕ → Updated
@@ -87,12 +61,12 @@ abbrev pub rewritten : Outcome → List ℕ → List ℕ
 rewritten o xs = table (map words o.left) xs
 
 -- `HotSet::update_with`
-pub record UpdatedWith (s : HotSet) (xs : List ℕ) (key : ℕ) (demand threshold : Float) (now : ℕ) (elsewhere : Bool) (r : UpdateAnswer) (ys : List ℕ) : Type 0 where
-  pub answered : update_answer r ≡ answer (ask_update s xs demand) (updated s (update_with eviction_margin s key demand threshold now elsewhere (entries_of s xs)))
+pub record UpdatedWith (s : HotSet) (xs : List ℕ) (key : ℕ) (demand threshold : Float) (now : ℕ) (elsewhere : Bool) (r : Result Updated Refusal) (ys : List ℕ) : Type 0 where
+  pub answered : answer_of r ≡ answer (ask_update s xs demand) (updated s (update_with eviction_margin s key demand threshold now elsewhere (entries_of s xs)))
   pub left : ys ≡ changed (ask_update s xs demand) xs (rewritten (update_with eviction_margin s key demand threshold now elsewhere (entries_of s xs)) xs)
 
 -- `HotSet::update`: no peer holds the key primary
-abbrev pub UpdatedAlone : (s : HotSet) (xs : List ℕ) (key : ℕ) (demand threshold : Float) (now : ℕ) → UpdateAnswer → List ℕ → Type 0
+abbrev pub UpdatedAlone : (s : HotSet) (xs : List ℕ) (key : ℕ) (demand threshold : Float) (now : ℕ) → Result Updated Refusal → List ℕ → Type 0
 UpdatedAlone s xs key demand threshold now r ys = UpdatedWith s xs key demand threshold now false r ys
 
 -- ---- `HotSet::update_each`, of the first word of each of n records of w words
@@ -129,11 +103,11 @@ sized s n = record { cooldown = s.cooldown; max_size = s.max_size; len = n }
 
 pub record UpdatedEach
     (s : HotSet) (xs keys : List ℕ) (w n : ℕ) (demands thresholds : List Float) (elsewhere : List Bool) (now : ℕ) (out : List Bool)
-    (r : EachAnswer) (ys : List ℕ) (out' : List Bool)
+    (r : Result HotSet Refusal) (ys : List ℕ) (out' : List Bool)
     : Type 0
   where
     pub answered :
-        each_answer r ≡ answer (ask_each s xs keys w n demands thresholds elsewhere (length out))
+        answer_of r ≡ answer (ask_each s xs keys w n demands thresholds elsewhere (length out))
         (sized s (length (update_each eviction_margin s now (lent_updates keys w n demands thresholds elsewhere) (entries_of s xs)).left))
     pub left :
         ys ≡ changed (ask_each s xs keys w n demands thresholds elsewhere (length out)) xs
@@ -143,17 +117,17 @@ pub record UpdatedEach
         ((update_each eviction_margin s now (lent_updates keys w n demands thresholds elsewhere) (entries_of s xs)).hot ++ drop n out)
 
 -- the readers: `is_hot`, `hot_since`, `is_primary`, `len`, `is_empty`
-abbrev pub SaidHot : HotSet → List ℕ → (key : ℕ) → FlagAnswer → Type 0
-SaidHot s xs key r = flag_answer r ≡ answer (ask_set s xs) (is_hot key (entries_of s xs))
+abbrev pub SaidHot : HotSet → List ℕ → (key : ℕ) → Result Bool Refusal → Type 0
+SaidHot s xs key r = answer_of r ≡ answer (ask_set s xs) (is_hot key (entries_of s xs))
 
-abbrev pub SaidSince : HotSet → List ℕ → (key : ℕ) → SinceAnswer → Type 0
-SaidSince s xs key r = since_answer r ≡ answer (ask_set s xs) (since_of (get key (entries_of s xs)))
+abbrev pub SaidSince : HotSet → List ℕ → (key : ℕ) → Result (Option ℕ) Refusal → Type 0
+SaidSince s xs key r = answer_of r ≡ answer (ask_set s xs) (since_of (get key (entries_of s xs)))
 
-abbrev pub SaidPrimary : HotSet → List ℕ → (key : ℕ) → FlagAnswer → Type 0
-SaidPrimary s xs key r = flag_answer r ≡ answer (ask_set s xs) (primary_of (get key (entries_of s xs)))
+abbrev pub SaidPrimary : HotSet → List ℕ → (key : ℕ) → Result Bool Refusal → Type 0
+SaidPrimary s xs key r = answer_of r ≡ answer (ask_set s xs) (primary_of (get key (entries_of s xs)))
 
-abbrev pub SaidLen : HotSet → List ℕ → LenAnswer → Type 0
-SaidLen s xs r = len_answer r ≡ answer (ask_set s xs) s.len
+abbrev pub SaidLen : HotSet → List ℕ → Result ℕ Refusal → Type 0
+SaidLen s xs r = answer_of r ≡ answer (ask_set s xs) s.len
 
-abbrev pub SaidEmpty : HotSet → List ℕ → FlagAnswer → Type 0
-SaidEmpty s xs r = flag_answer r ≡ answer (ask_set s xs) (eqb s.len 0)
+abbrev pub SaidEmpty : HotSet → List ℕ → Result Bool Refusal → Type 0
+SaidEmpty s xs r = answer_of r ≡ answer (ask_set s xs) (eqb s.len 0)

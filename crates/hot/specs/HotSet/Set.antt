@@ -1,6 +1,5 @@
 -- The hot set (003), on the list of its entries in ascending order of their keys. Definitions only.
 use Rattle.std.specs.Prelude.{ℕ, ◌-◌, Bool, true, false, cond, ◌&&◌, ◌||◌, List, [], ◌∷◌, ◌++◌, map, ltb, leb, eqb, Float, length, get_or}
-use Rattle.std.proofs.Math.Option.{Option, none, some}
 use Rattle.std.specs.Float.{binary64}
 use Rattle.std.specs.Float.Ieee.{to_bits, of_bits, lt, mul, fits}
 use Rattle.float.specs.Magnitude.{magnitude}
@@ -9,26 +8,17 @@ use Rattle.records.specs.Records.{records, ascending}
 use Rattle.records.specs.Fields.{flag_word, flag_of, time_words, time_of}
 use Rattle.questions.specs.Lists.{all, first, present, those, replaced}
 use Rattle.records.specs.Typed.{is_word, exact}
-use Rattle.hot.specs.declared.hot_set.Cooling.{Cooling}
-use Rattle.hot.specs.declared.hot_set.Cooling.TheVariants.{Unset, Since}
 use Rattle.hot.specs.declared.hot_set.HotEntry.{HotEntry}
 use Rattle.hot.specs.declared.hot_set.HotSet.{HotSet}
+use Rattle.std.specs.declared.option.Option.{Option}
+use Rattle.std.specs.declared.option.Option.TheVariants.{None, Some}
 
 -- ---- an entry as words (01, 'The saved image', kind 3: key, demand, primary, cooling since?, since)
-
--- since when an entry cools: a time that may be missing
-abbrev pub cooling_time : Cooling → Option ℕ
-cooling_time Unset = none
-cooling_time (Since t) = some t
-
-abbrev pub cooling : Option ℕ → Cooling
-cooling none = Unset
-cooling (some t) = Since t
 
 -- the words of an entry's record
 unfoldable pub words : HotEntry → List ℕ
 words e =
-    e.key ∷ to_bits binary64 e.demand ∷ flag_word e.primary ∷ (time_words (cooling_time e.cooling_since) ++ (e.since ∷ []))
+    e.key ∷ to_bits binary64 e.demand ∷ flag_word e.primary ∷ (time_words e.cooling_since ++ (e.since ∷ []))
 
 -- the entry of a record's words
 unfoldable pub entry : List ℕ → HotEntry
@@ -36,7 +26,7 @@ entry r = record {
   key = get_or r 0 0;
   demand = of_bits binary64 (get_or r 1 0);
   primary = flag_of (get_or r 2 0);
-  cooling_since = cooling (time_of (get_or r 3 0) (get_or r 4 0));
+  cooling_since = time_of (get_or r 3 0) (get_or r 4 0);
   since = get_or r 5 0;
 }
 
@@ -99,8 +89,8 @@ weakest_of e [] = e
 weakest_of e (x ∷ xs) = weakest_of (cond (weaker x e) x e) xs
 
 unfoldable pub weakest : List HotEntry → Option HotEntry
-weakest [] = none
-weakest (e ∷ es) = some (weakest_of e es)
+weakest [] = None
+weakest (e ∷ es) = Some (weakest_of e es)
 
 -- ---- 003, `promote`
 
@@ -118,17 +108,17 @@ cold_with es = record { hot = false; left = es }
 -- 003, `insert`: an entry made at `now`
 abbrev pub new_entry : (key : ℕ) (demand : Float) (primary : Bool) (now : ℕ) → HotEntry
 new_entry key demand primary now =
-    record { key = key; demand = demand; primary = primary; cooling_since = Unset; since = now }
+    record { key = key; demand = demand; primary = primary; cooling_since = None; since = now }
 
 -- an entry that is there already
 abbrev pub renewed : (demand : Float) (primary : Bool) → HotEntry → HotEntry
 renewed demand primary e =
-    record { key = e.key; demand = demand; primary = primary; cooling_since = Unset; since = e.since }
+    record { key = e.key; demand = demand; primary = primary; cooling_since = None; since = e.since }
 
 -- 'a full set admits an absent key only above least × 1.1, replacing the totalOrder-least'; a full set has a weakest entry
 unfoldable pub evict : (margin : Float) → HotEntry → List HotEntry → Option HotEntry → Outcome
-evict margin e es none = cold_with es
-evict margin e es (some w) =
+evict margin e es None = cold_with es
+evict margin e es (Some w) =
     cond (lt (mul binary64 w.demand margin) e.demand) (hot_with (put e (remove w.key es))) (cold_with es)
 
 -- an absent key
@@ -136,8 +126,8 @@ unfoldable pub admit : (margin : Float) (size : ℕ) → HotEntry → List HotEn
 admit margin size e es = cond (ltb (length es) size) (hot_with (put e es)) (evict margin e es (weakest es))
 
 unfoldable pub promote_from : (margin : Float) (size key : ℕ) (demand : Float) (primary : Bool) (now : ℕ) → List HotEntry → Option HotEntry → Outcome
-promote_from margin size key demand primary now es (some e) = hot_with (put (renewed demand primary e) es)
-promote_from margin size key demand primary now es none = admit margin size (new_entry key demand primary now) es
+promote_from margin size key demand primary now es (Some e) = hot_with (put (renewed demand primary e) es)
+promote_from margin size key demand primary now es None = admit margin size (new_entry key demand primary now) es
 
 unfoldable pub promote : (margin : Float) (size key : ℕ) (demand : Float) (primary : Bool) (now : ℕ) → List HotEntry → Outcome
 promote margin size key demand primary now es = promote_from margin size key demand primary now es (get key es)
@@ -145,13 +135,13 @@ promote margin size key demand primary now es = promote_from margin size key dem
 -- ---- 003, `cool`, of one entry
 
 -- a primary entry begins to cool, and is primary no more once it has cooled for the cooldown
-abbrev pub count_down : (cooldown : ℕ) (demand : Float) (now : ℕ) → HotEntry → Cooling → HotEntry
-count_down cooldown demand now e Unset =
-    record { key = e.key; demand = demand; primary = true; cooling_since = Since now; since = e.since }
-count_down cooldown demand now e (Since t) =
+abbrev pub count_down : (cooldown : ℕ) (demand : Float) (now : ℕ) → HotEntry → Option ℕ → HotEntry
+count_down cooldown demand now e None =
+    record { key = e.key; demand = demand; primary = true; cooling_since = Some now; since = e.since }
+count_down cooldown demand now e (Some t) =
     cond (leb cooldown (now - t))
-    (record { key = e.key; demand = demand; primary = false; cooling_since = Unset; since = e.since })
-    (record { key = e.key; demand = demand; primary = true; cooling_since = Since t; since = e.since })
+    (record { key = e.key; demand = demand; primary = false; cooling_since = None; since = e.since })
+    (record { key = e.key; demand = demand; primary = true; cooling_since = Some t; since = e.since })
 
 unfoldable pub cooled : (cooldown : ℕ) (demand : Float) (now : ℕ) → HotEntry → HotEntry
 cooled cooldown demand now e =
@@ -160,8 +150,8 @@ cooled cooldown demand now e =
     (record { key = e.key; demand = demand; primary = false; cooling_since = e.cooling_since; since = e.since })
 
 abbrev pub cool_from : (cooldown : ℕ) (demand : Float) (now : ℕ) → List HotEntry → Option HotEntry → List HotEntry
-cool_from cooldown demand now es none = es
-cool_from cooldown demand now es (some e) = put (cooled cooldown demand now e) es
+cool_from cooldown demand now es None = es
+cool_from cooldown demand now es (Some e) = put (cooled cooldown demand now e) es
 
 unfoldable pub cool : (cooldown key : ℕ) (demand : Float) (now : ℕ) → List HotEntry → List HotEntry
 cool cooldown key demand now es = cool_from cooldown demand now es (get key es)
@@ -170,8 +160,8 @@ cool cooldown key demand now es = cool_from cooldown demand now es (get key es)
 
 -- not above the threshold, after `cool`
 unfoldable pub settle : (margin : Float) (size key : ℕ) (demand : Float) (now : ℕ) (elsewhere : Bool) → List HotEntry → Option HotEntry → Outcome
-settle margin size key demand now elsewhere es (some e) = cond (e.primary || elsewhere) (hot_with es) (cold_with (remove key es))
-settle margin size key demand now elsewhere es none = cond elsewhere (promote margin size key demand false now es) (cold_with es)
+settle margin size key demand now elsewhere es (Some e) = cond (e.primary || elsewhere) (hot_with es) (cold_with (remove key es))
+settle margin size key demand now elsewhere es None = cond elsewhere (promote margin size key demand false now es) (cold_with es)
 
 unfoldable pub below_threshold : (margin : Float) (cooldown size key : ℕ) (demand : Float) (now : ℕ) (elsewhere : Bool) → List HotEntry → Outcome
 below_threshold margin cooldown size key demand now elsewhere es =
@@ -218,12 +208,12 @@ update_each margin s now (u ∷ us) es =
 
 -- ---- 003, the readers
 abbrev pub since_of : Option HotEntry → Option ℕ
-since_of none = none
-since_of (some e) = some e.since
+since_of None = None
+since_of (Some e) = Some e.since
 
 abbrev pub primary_of : Option HotEntry → Bool
-primary_of none = false
-primary_of (some e) = e.primary
+primary_of None = false
+primary_of (Some e) = e.primary
 
 abbrev pub is_hot : ℕ → List HotEntry → Bool
 is_hot key es = present (get key es)

@@ -1,6 +1,5 @@
 -- What the private functions of the hot set cite. Definitions only.
 use Rattle.std.specs.Prelude.{ℕ, ◌*◌, ◌≤◌, ◌≡◌, Bool, true, ◌&&◌, List, ◌++◌, map, leb, Float, length, get_or, drop}
-use Rattle.std.proofs.Math.Option.{Option, none, some}
 use Rattle.std.specs.Float.{binary64}
 use Rattle.std.specs.Float.Ieee.{of_bits}
 use Rattle.float.specs.Magnitude.{magnitude}
@@ -11,8 +10,6 @@ use Rattle.hot.specs.HotSet.Calls.{entries_of, updated, rewritten, rewritten_eac
 use Rattle.hot.specs.declared.hot_set.HotSet.{HotSet}
 use Rattle.hot.specs.declared.hot_set.HotEntry.{HotEntry}
 use Rattle.hot.specs.declared.hot_set.Updated.{Updated}
-use Rattle.hot.specs.declared.hot_set.Slot.{Slot}
-use Rattle.hot.specs.declared.hot_set.Slot.TheVariants.{Free, Entry}
 
 -- ---- question 2, asked word by word
 
@@ -29,11 +26,6 @@ pub record EntriesReady (n : ℕ) (xs : List ℕ) : Type 0 where
   pub fit : n * 6 ≤ length xs
   pub exact : map words (entries n xs) ≡ records 6 n xs
   pub good : valid_entries (entries n xs) ≡ true
-
--- the entry of a key, or none
-abbrev pub slot : Slot → Option HotEntry
-slot Free = none
-slot (Entry e) = some e
 
 -- what an outcome makes of the value and of the words
 pub record Acted (s : HotSet) (o : Outcome) (xs : List ℕ) (r : Updated) (ys : List ℕ) : Type 0 where

@@ -3,7 +3,6 @@ use Prim.Native.Nat.{ℕ, zero, suc, ◌^◌, ◌≤◌, ◌<◌}
 use mathlib.Core.Path.{◌≡◌, refl, sym, ap, ◌∙◌, subst}
 use mathlib.Core.Bool.{Bool, true, false, cond, ◌&&◌}
 use mathlib.Core.List.{List, [], ◌∷◌, ◌++◌, append-nil}
-use mathlib.Core.Option.{some}
 use native.Mathlib.Omega.{arith}
 use borrow.Author.Tests.{eq-eqb, eqb-true, le-leb, leb-true, lt-ltb}
 use lib.Dec.{leb, ltb, eqb}
@@ -21,13 +20,9 @@ use Rattle.peers.specs.Peers.State as peer-state
 use Rattle.records.specs.Typed.{exact}
 use Rattle.peers.proofs.Peers.Reports.KeptLaws as peer-laws
 use Rattle.limiter.specs.declared.Config.{Config}
-use Rattle.limiter.specs.declared.Cap.{Cap}
-use Rattle.limiter.specs.declared.Cap.TheVariants as cap
-use Rattle.limiter.specs.declared.LastTick.{LastTick}
-use Rattle.limiter.specs.declared.LastTick.TheVariants as last-tick
 use Rattle.limiter.specs.declared.Limiter.{Limiter}
 use Rattle.limiter.specs.State as limiter-state
-use Rattle.limiter.specs.State.{Settings, settings_words, settings_of, cap_of, last_tick_of, key_words, key_of, shadow_words, shadow_of, units_of}
+use Rattle.limiter.specs.State.{Settings, settings_words, settings_of, key_words, key_of, shadow_words, shadow_of, units_of}
 use Rattle.limiter.proofs.States.StateValidLaws.{valid-says, sizes-say, few-shadows}
 use Rattle.limiter.proofs.States.RecordValidLaws.{limit-burst}
 use Rattle.image.specs.declared.scan.Sections.{Sections}
@@ -39,6 +34,7 @@ use Rattle.image.specs.LoadSteps.{are_few, FewFound, count_in, config_from, Read
 use Rattle.image.proofs.Reading.RecordLaws.{first-row}
 use Rattle.image.proofs.Loading.ReadLaws.{length-first-words}
 use Rattle.image.proofs.Loading.ScanLaws.{scans-sections, scans-after}
+use Rattle.std.specs.declared.option.Option.TheVariants.{Some}
 
 -- rows read are as many as were counted
 pub length-rows-at : (kind n : ℕ) (bs : List ℕ) → length (rows_at kind n bs) ≡ n
@@ -84,22 +80,13 @@ pub last-few : (s : Sections) → (s.contested.n ≤ 8192 → FewFound s) → le
 last-few s h = same_truth _ _ (λ e. says-few s (h (leb-true _ _ e))) (λ e. le-leb _ _ (few-says s e).contested)
 
 -- a flag that is set
-pub cap-set : (flag word : ℕ) → (flag ≡ 0 → ⊥) → some (limiter-state.float_of word) ≡ cap_from flag word
+pub cap-set : (flag word : ℕ) → (flag ≡ 0 → ⊥) → Some (limiter-state.float_of word) ≡ cap_from flag word
 cap-set zero word h = absurd (h refl)
 cap-set (suc flag) word h = refl
 
-pub time-set : (flag time : ℕ) → (flag ≡ 0 → ⊥) → some time ≡ time_of flag time
+pub time-set : (flag time : ℕ) → (flag ≡ 0 → ⊥) → Some time ≡ time_of flag time
 time-set zero time h = absurd (h refl)
 time-set (suc flag) time h = refl
-
--- a cap and a last tick come back from what they stand for
-cap-again : (c : Cap) → limiter-state.cap_from (cap_of c) ≡ c
-cap-again cap.Unset = refl
-cap-again (cap.At x) = refl
-
-last-tick-again : (t : LastTick) → limiter-state.last_tick_from (last_tick_of t) ≡ t
-last-tick-again last-tick.Unset = refl
-last-tick-again (last-tick.At t) = refl
 
 -- a burst that a limit may have is of 32 bits
 pub small-burst : (n : ℕ) → valid_burst n ≡ true → ltb n (2 ^ 32) ≡ true
@@ -286,8 +273,8 @@ module _ (bs : List ℕ) (f : Sections) (r : Scans bs f) where
             limiter =
                 record {
                   config = (w i).config;
-                  cap = (sym (cap-again l.cap) ∙ ap (λ (s : Settings). limiter-state.cap_from s.cap) w) i;
-                  last_tick = (sym (last-tick-again l.last_tick) ∙ ap (λ (s : Settings). limiter-state.last_tick_from s.last_tick) w) i;
+                  cap = ap (λ (s : Settings). s.cap) w i;
+                  last_tick = ap (λ (s : Settings). s.last_tick) w i;
                   keys = (q.counts.keys ∙ sym (length-map (rows_of 2 xs) (key_of (units_in xs)) ∙ ap length (rows-found 2) ∙ length-rows-at 2 _ _)) i;
                   hot = (q.counts.hot ∙ sym (length-map (rows_of 3 xs) hot-set.entry ∙ ap length (rows-found 3) ∙ length-rows-at 3 _ _)) i;
                   shadows = (q.counts.shadows ∙ sym (length-map (rows_of 4 xs) (shadow_of (units_in xs)) ∙ ap length (rows-found 4) ∙ length-rows-at 4 _ _)) i;

@@ -19,7 +19,6 @@ use Rattle.limiter.specs.State.{LimiterTables, lengths, key_of, shadow_of, units
 use Rattle.limiter.proofs.States.StateValidLaws.{valid-says, sizes-say, few-shadows}
 use Rattle.limiter.proofs.States.WrittenLaws.{room_says}
 use Rattle.image.specs.declared.Loaded.{Loaded}
-use Rattle.image.specs.declared.LoadAnswer.TheVariants.{No, Is}
 use Rattle.image.specs.declared.scan.Sections.{Sections}
 use Rattle.image.specs.Image.{valid, record_count, kinds}
 use Rattle.image.specs.Reader.{sections_first, rows_of, state_from, state_read, are_exact, is_end, is_byte, is_image, is_image_to, after_sections, units_in}
@@ -31,6 +30,10 @@ use Rattle.image.proofs.Reading.ParseLaws.{passes-image}
 use Rattle.image.proofs.Loading.LoadLaws.{room-of-image}
 use Rattle.image.proofs.Loading.JudgeLaws.{rows-found, length-rows-at}
 use Rattle.image.proofs.Loading.StoredLaws.{stored}
+use Rattle.std.specs.declared.result.Result.TheVariants.{Ok, Err}
+use Rattle.questions.specs.Refusals.{number}
+use Rattle.questions.specs.declared.Refusal.{Refusal}
+use Rattle.questions.specs.declared.Refusal.TheVariants.{ShortBuffer}
 
 -- an image's records are exact
 image-exact : (bs : List ℕ) → is_image bs ≡ true → are_exact (sections_first kinds bs) ≡ true
@@ -42,7 +45,7 @@ image-exact bs e =
 
 module _ (bs : List ℕ) (t : LimiterTables) (pt : PeerTables) where
   -- no room
-  pub refused-room : have_room bs t pt ≡ false → Loads bs t pt (No 1) t pt
+  pub refused-room : have_room bs t pt ≡ false → Loads bs t pt (Err ShortBuffer) t pt
   unfolding passes
   refused-room e =
       let p : passes (load_questions bs t pt) ≡ false = and_first (have_room bs t pt) _ e in
@@ -62,10 +65,10 @@ module _ (bs : List ℕ) (t : LimiterTables) (pt : PeerTables) where
         by true z = let y : ◌≡◌ {A = ℕ} 0 1 = cc in absurd (omega arith)
         by false z = refl
 
-    pub refused-image : (n : ℕ) → refused n ≡ answer (image_questions bs) (values_of (state_read bs)) → Loads bs t pt (No n) t pt
+    pub refused-image : (n : Refusal) → refused (number n) ≡ answer (image_questions bs) (values_of (state_read bs)) → Loads bs t pt (Err n) t pt
     unfolding passes
     refused-image n e =
-        let p : passes (load_questions bs t pt) ≡ false = and_second (have_room bs t pt) _ (and_first (is_image bs) _ (no-image n e)) in
+        let p : passes (load_questions bs t pt) ≡ false = and_second (have_room bs t pt) _ (and_first (is_image bs) _ (no-image (number n) e)) in
         record {
           answered = yes 1 _ _ room e;
           words = sym (ap (λ (b : Bool). cond b (limiter-state.written (units_of (state_read bs).limiter.settings) (state_read bs).limiter t) t) p);
@@ -108,7 +111,7 @@ module _ (bs : List ℕ) (t : LimiterTables) (pt : PeerTables) where
           }
 
       -- stored, the tables hold its state
-      pub image-loaded : (t' : LimiterTables) (pt' : PeerTables) → Stores bs f t pt t' pt' → Loads bs t pt (Is x) t' pt'
+      pub image-loaded : (t' : LimiterTables) (pt' : PeerTables) → Stores bs f t pt t' pt' → Loads bs t pt (Ok x) t' pt'
       unfolding passes state_read
       image-loaded t' pt' o =
           let w = stored bs f r t t' pt pt' o (image-exact bs is-image) in

@@ -14,22 +14,21 @@ use Rattle.questions.proofs.Tests.{both, and_intro}
 use Rattle.questions.specs.Questions.{passes, given}
 use Rattle.questions.proofs.Answers.{given-passed, answer-passed, changed-passed}
 use Rattle.peers.specs.declared.peer_demand.PeerDemand.{PeerDemand}
-use Rattle.demand.specs.declared.answers.LenAnswer.{LenAnswer}
-use Rattle.demand.specs.declared.answers.LenAnswer.TheVariants as len-answer
 use Rattle.peers.specs.Peers.State as peer-state
 use Rattle.peers.specs.Peers.State.{PeerTables}
-use Rattle.demand.specs.Answers.{len_answer}
 use Rattle.limiter.specs.declared.Limiter.{Limiter}
 use Rattle.limiter.specs.State as limiter-state
 use Rattle.limiter.specs.State.{LimiterTables, lengths, settings_words, units_of}
 use Rattle.image.specs.declared.Loaded.{Loaded}
-use Rattle.image.specs.declared.LoadAnswer.{LoadAnswer}
-use Rattle.image.specs.declared.LoadAnswer.TheVariants.{No, Is}
 use Rattle.image.specs.Image.{State, valid, sections, image}
-use Rattle.image.specs.Calls.{here, load_answer, have_room, load_questions, values_of, save_questions, Saves, Loads}
+use Rattle.image.specs.Calls.{here, have_room, load_questions, values_of, save_questions, Saves, Loads}
 use Rattle.image.specs.Reader.{word_at, begins, first_words, sections_first, rows_of, is_image, number, word_count}
 use Rattle.image.proofs.Reading.RecordLaws.{first-row}
 use Rattle.image.proofs.Reading.ParseLaws.{sections-read, image-passes, state-read}
+use Rattle.std.specs.declared.result.Result.{Result}
+use Rattle.std.specs.declared.result.Result.TheVariants.{Ok, Err}
+use Rattle.questions.specs.declared.Refusal.{Refusal}
+use Rattle.questions.specs.Refusals.{answer_of}
 
 -- ---- question 1 of a load
 
@@ -64,7 +63,7 @@ module _ (s : State) (e : valid s ≡ true) where
 module _ (s : State) (e : valid s ≡ true) (t : LimiterTables) (pt : PeerTables) where
   -- a load of its image that is not refused makes that state
   pub loaded :
-      {x : Loaded} {t' : LimiterTables} {pt' : PeerTables} → Loads (image s) t pt (Is x) t' pt'
+      {x : Loaded} {t' : LimiterTables} {pt' : PeerTables} → Loads (image s) t pt (Ok x) t' pt'
       → (x ≡ values_of s) × (t' ≡ limiter-state.written (units_of s.limiter.settings) s.limiter t) × (pt' ≡ peer-state.written s.peers pt)
   loaded c =
       let p = given-passed (load_questions (image s) t pt) _ _ c.answered in (
@@ -80,15 +79,15 @@ module _ (s : State) (e : valid s ≡ true) (t : LimiterTables) (pt : PeerTables
     load-passes = and_intro (have_room (image s) t pt) _ room (and_intro (is_image (image s)) _ (image-passes s e) refl)
 
     -- it is not refused
-    pub load-served : {t' : LimiterTables} {pt' : PeerTables} (r : LoadAnswer) → Loads (image s) t pt r t' pt' → (x : Loaded) × (r ≡ Is x)
+    pub load-served : {t' : LimiterTables} {pt' : PeerTables} (r : Result Loaded Refusal) → Loads (image s) t pt r t' pt' → (x : Loaded) × (r ≡ Ok x)
     load-served r c = by r (c.answered ∙ sym (answer-passed _ (load_questions (image s) t pt) load-passes))
       where
-        by : {v : Loaded} (r : LoadAnswer) → load_answer r ≡ given v → (x : Loaded) × (r ≡ Is x)
-        by (No n) z = let y : ◌≡◌ {A = ℕ} 0 1 = cc in absurd (omega arith)
-        by (Is x) z = (x, refl)
+        by : {v : Loaded} (r : Result Loaded Refusal) → answer_of r ≡ given v → (x : Loaded) × (r ≡ Ok x)
+        by (Err n) z = let y : ◌≡◌ {A = ℕ} 0 1 = cc in absurd (omega arith)
+        by (Ok x) z = (x, refl)
 
     -- and a load can keep its promise
-    pub can-load : Loads (image s) t pt (Is (values_of s)) (limiter-state.written (units_of s.limiter.settings) s.limiter t) (peer-state.written s.peers pt)
+    pub can-load : Loads (image s) t pt (Ok (values_of s)) (limiter-state.written (units_of s.limiter.settings) s.limiter t) (peer-state.written s.peers pt)
     can-load =
         record {
           answered = ap (λ (x : State). given (values_of x)) (sym (state-read s e)) ∙ answer-passed _ (load_questions (image s) t pt) load-passes;
@@ -110,7 +109,7 @@ module _ (l : Limiter) (t : LimiterTables) (p : PeerDemand) (pt : PeerTables) (o
   saved-room e = (both (limiter-state.have_room l.config (lengths t) && peer-state.have_room (peer-state.lengths pt)) _ e).0
 
   -- a save that is not refused wrote the image
-  pub saved : (size : ℕ) → Saves l t p pt out (len-answer.Is size) out' → Saved l t pt (here l t p pt) size out'
+  pub saved : (size : ℕ) → Saves l t p pt out (Ok size) out' → Saved l t pt (here l t p pt) size out'
   saved size c =
       let q = given-passed (save_questions l t p pt out) size (length (image (here l t p pt))) c.answered in
       record {
@@ -132,13 +131,13 @@ module _ (l : Limiter) (t : LimiterTables) (p : PeerDemand) (pt : PeerTables) (o
         (and_intro (limiter-state.is_valid (limiter-state.units_in l) l t && peer-state.is_valid p pt) _ (and_intro (limiter-state.is_valid (limiter-state.units_in l) l t) _ a b)
         (and_intro (leb size (length out)) _ (le-leb size (length out) h) refl))
 
-    pub save-served : (r : LenAnswer) → Saves l t p pt out r out' → r ≡ len-answer.Is size
+    pub save-served : (r : Result ℕ Refusal) → Saves l t p pt out r out' → r ≡ Ok size
     save-served r c = by r (c.answered ∙ sym (answer-passed size (save_questions l t p pt out) save-passes))
       where
-        by : (r : LenAnswer) → len_answer r ≡ given size → r ≡ len-answer.Is size
-        by (len-answer.No n) z = let y : ◌≡◌ {A = ℕ} 0 1 = cc in absurd (omega arith)
-        by (len-answer.Is n) z = let y : n ≡ size = cc in ap len-answer.Is y
+        by : (r : Result ℕ Refusal) → answer_of r ≡ given size → r ≡ Ok size
+        by (Err n) z = let y : ◌≡◌ {A = ℕ} 0 1 = cc in absurd (omega arith)
+        by (Ok n) z = let y : n ≡ size = cc in ap Ok y
 
     -- so a save can keep its promise
-    pub can-save : Saves l t p pt out (len-answer.Is size) (image (here l t p pt) ++ drop size out)
+    pub can-save : Saves l t p pt out (Ok size) (image (here l t p pt) ++ drop size out)
     can-save = record { answered = answer-passed size (save_questions l t p pt out) save-passes; output = changed-passed (image (here l t p pt) ++ drop size out) out (save_questions l t p pt out) save-passes }

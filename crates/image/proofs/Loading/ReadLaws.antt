@@ -1,16 +1,16 @@
 -- Reading bytes: the turns of the loops that read.
-use Prim.Native.Nat.{ℕ, zero, suc, ◌+◌, ◌-◌, ◌*◌, ◌^◌, ◌≤◌, ◌<◌}
+use Prim.Native.Nat.{ℕ, zero, suc, ◌+◌, ◌-◌, ◌*◌, ◌≤◌, ◌<◌}
 use mathlib.Core.Path.{◌≡◌, refl, sym, ap, ◌∙◌}
 use mathlib.Core.Bool.{Bool, true, false, cond, ◌&&◌}
 use mathlib.Core.List.{List, [], ◌∷◌, ◌++◌, map, map-append}
-use native.Mathlib.Nat.{zero-mul, suc-mul, pow-suc, pow-le-pow_right}
+use native.Mathlib.Nat.{zero-mul, suc-mul}
 use native.Mathlib.Numerals.{add-one}
 use native.Mathlib.Omega.{arith}
 use lib.ListN.{length, take, drop, get_or, set, length-map, length-drop}
 use lib.Seq.{drop-cons, drop-drop, drop_at, take-add, length-take-le, set_at, append_snoc}
 use borrow.Rule.Slice.PartMut.{put_mid}
 use borrow.Author.Tests.{leb-true, le-leb, lt-leb, eqb-true, eq-eqb, ne_eqb}
-use lib.Dec.{leb, eqb, lit<}
+use lib.Dec.{leb, eqb}
 use Rattle.records.specs.Words.{paste}
 use Rattle.records.specs.Records.{records, flat, same}
 use Rattle.records.proofs.Tables.TableLaws.{length-flat}
@@ -21,29 +21,6 @@ use Rattle.records.proofs.Changes.RunLaws.{records-take}
 use Rattle.image.specs.Reader.{number, word_count, record_size, begins, first_words, rows_first, after_rows}
 use Rattle.image.specs.Steps.{rows_at}
 use Rattle.image.proofs.Saving.PutLaws.{records-more}
-
--- one byte more in front: k bytes are left to read, of eight from index a on
-pub number_more : (xs : List ℕ) (a j k : ℕ) → k ≡ j + 1 → k ≤ 8 → a + 8 ≤ length xs
-    → number (take (8 - j) (drop (a + j) xs)) ≡ number (take (8 - k) (drop (a + k) xs)) * 256 + get_or xs (a + j) 0
-unfolding number
-number_more xs a j k e h r =
-    let n : 8 - j ≡ suc (8 - k) = omega arith in
-    let s : suc (a + j) ≡ a + k = omega arith in
-    (λ i. number (take (n i) (drop-cons xs (a + j) 0 (omega arith) i)))
-    ∙ ap (λ (m : ℕ). get_or xs (a + j) 0 + 256 * number (take (8 - k) (drop m xs))) s
-    ∙ omega arith
-
--- and the number is still below the next power
-pub below_more : (w b j k : ℕ) → k ≡ j + 1 → k ≤ 8 → w < 256 ^ (8 - k) → b < 256 → w * 256 + b < 256 ^ (8 - j)
-below_more w b j k e h p q =
-    let n : 8 - j ≡ suc (8 - k) = omega arith in
-    let s : 256 ^ (8 - j) ≡ 256 ^ (8 - k) * 256 = ap (λ (m : ℕ). 256 ^ m) n ∙ pow-suc 256 (8 - k) in
-    omega arith
-
-pub word_fits : (w n : ℕ) → n ≤ 8 → w < 256 ^ n → w < 2 ^ 64
-word_fits w n h p =
-    let q : 256 ^ n ≤ 256 ^ 8 = pow-le-pow_right (lit< tt) h in
-    omega arith
 
 -- ---- words, one after the other: j of them stand in front of those that were there
 

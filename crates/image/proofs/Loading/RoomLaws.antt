@@ -7,11 +7,6 @@ use Rattle.limiter.specs.State as limiter-state
 use Rattle.image.specs.Reader.{word_at, begins}
 use Rattle.image.specs.LoadSteps.{peers_fit, room_for}
 
-module _ (bs : List ℕ) (k h s p n c : ℕ) where
-  -- kind 1 can't be read
-  pub room-unread : begins 1 bs ≡ false → true ≡ room_for bs k h s p n c
-  room-unread e = rw e
-
 module _ (bs : List ℕ) (k h s p n c : ℕ) {a b : ℕ} (e : begins 1 bs ≡ true) (ea : a ≡ word_at bs 8) (eb : b ≡ word_at bs 5) where
   sized : {x : Bool} → limiter-state.room_for a b k h s ≡ x → room_for bs k h s p n c ≡ (x && peers_fit p n c)
   sized {x} f =

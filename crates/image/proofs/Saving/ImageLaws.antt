@@ -1,7 +1,7 @@
 -- Where questions 1 and 2 are passed, the bytes that `save` writes from the tables are the state's image; and what `save` answers.
 use Prim.Native.Nat.{ℕ, ◌+◌, ◌≤◌, ◌<◌}
 use mathlib.Core.Path.{◌≡◌, refl, sym, ap, ◌∙◌}
-use mathlib.Core.Bool.{Bool, true, false, ◌&&◌}
+use mathlib.Core.Bool.{true, ◌&&◌}
 use mathlib.Core.List.{List, [], ◌∷◌, ◌++◌, map, append_assoc, append-nil}
 use native.Mathlib.Nat.{zero-add}
 use native.Mathlib.Omega.{arith}
@@ -15,7 +15,6 @@ use Rattle.questions.proofs.Tests.{both}
 use Rattle.questions.specs.Questions.{◌asks◌, given, passes, first_no}
 use Rattle.questions.proofs.Answers.{first-no, first-yes, first-none, first_more, first_rest, answer-passed, answer-no, changed-passed, kept-no, passed_none}
 use Rattle.peers.specs.declared.peer_demand.PeerDemand.{PeerDemand}
-use Rattle.demand.specs.declared.answers.LenAnswer.TheVariants.{No, Is}
 use Rattle.hot.specs.HotSet.Set as hot-set
 use Rattle.peers.specs.Peers.Records.{peer_of, snapshot_key_of, contested_of}
 use Rattle.peers.specs.Peers.State as peer-state
@@ -27,15 +26,19 @@ use Rattle.peers.proofs.Peers.Reports.ApplyLaws.{Tables, tables-of}
 use Rattle.limiter.specs.declared.Limiter.{Limiter}
 use Rattle.limiter.specs.State as limiter-state
 use Rattle.limiter.specs.State.{LimiterTables, lengths, key_words, key_of, shadow_words, shadow_of, settings_words, settings_of}
-use Rattle.peers.specs.Peers.Calls.{peers_questions}
-use Rattle.limiter.specs.Calls.{state_questions, both_questions}
+use Rattle.limiter.specs.Calls.{both_questions}
 use Rattle.limiter.proofs.States.StateValidLaws.{valid-says, sizes-say, few-shadows}
 use Rattle.limiter.proofs.States.WrittenLaws.{room_says}
 use Rattle.image.specs.Image.{image, sections, record_count, record_bytes}
 use Rattle.image.specs.Calls.{here, save_questions, Saves}
-use Rattle.image.specs.Steps.{first_of, table_bytes, limiter_bytes, limiter_length, LimiterReady, peers_bytes, peers_length, PeersReady, Few, count_of, image_length, image_bytes}
+use Rattle.image.specs.Steps.{table_bytes, limiter_bytes, limiter_length, LimiterReady, peers_bytes, peers_length, PeersReady, Few, count_of, image_length, image_bytes}
 use Rattle.image.proofs.Saving.PutLaws.{length-record-bytes}
 use Rattle.image.proofs.Saving.SaveLaws.{length-limiter-bytes, length-peers-bytes, still, pasted}
+use Rattle.std.specs.declared.result.Result.TheVariants.{Ok, Err}
+use Rattle.questions.specs.Refusals.{number}
+use Rattle.questions.specs.declared.Refusal.{Refusal}
+use Rattle.questions.proofs.RefusalLaws.{number-nonzero}
+use Rattle.questions.specs.declared.Refusal.TheVariants.{ShortOutput}
 
 -- ---- the tables' records are the state's
 
@@ -159,8 +162,10 @@ module _ (l : Limiter) (t : LimiterTables) (p : PeerDemand) (pt : PeerTables) wh
 -- ---- what `save` answers and leaves
 
 module _ (l : Limiter) (t : LimiterTables) (p : PeerDemand) (pt : PeerTables) (out : List ℕ) where
-  pub saves-no : (n : ℕ) → n ≡ first_no (both_questions l t p pt) → (n ≡ 0 → ⊥) → Saves l t p pt out (No n) out
-  saves-no n e h =
+  pub saves-no : (x : Refusal) → number x ≡ first_no (both_questions l t p pt) → Saves l t p pt out (Err x) out
+  saves-no x e =
+      let n = number x in
+      let h = number-nonzero x in
       let k : n ≡ first_no (save_questions l t p pt out) = first_more (both_questions l t p pt) _ n e h in
       record { answered = answer-no _ (save_questions l t p pt out) n k h; output = kept-no _ out (save_questions l t p pt out) n k h }
 
@@ -178,14 +183,14 @@ module _ (l : Limiter) (t : LimiterTables) (p : PeerDemand) (pt : PeerTables) (o
         ∙ ap (λ (n : ℕ). length (limiter_bytes l t) + n) (length-append (peers_bytes p pt) _)
         ∙ omega (arith, length-limiter-bytes l t r.limiter, length-peers-bytes p pt r.peers, length-record-bytes 0 1 (count_of l p ∷ []) refl)
 
-    pub saves-short : length out < image_length l p → Saves l t p pt out (No 16) out
+    pub saves-short : length out < image_length l p → Saves l t p pt out (Err ShortOutput) out
     saves-short h =
         let f = lt-leb (length (image (here l t p pt))) (length out) (omega (arith, length-image)) in
         let k = first-no 16 [] f ∙ last-asked in
         let z : ◌≡◌ {A = ℕ} 16 0 → ⊥ = λ e. omega arith in
         record { answered = answer-no _ (save_questions l t p pt out) 16 k z; output = kept-no _ out (save_questions l t p pt out) 16 k z }
 
-    pub saves-done : (n : ℕ) (out' : List ℕ) → n ≡ image_length l p → image_length l p ≤ length out → out' ≡ paste 0 (image_bytes l t p pt) out → Saves l t p pt out (Is n) out'
+    pub saves-done : (n : ℕ) (out' : List ℕ) → n ≡ image_length l p → image_length l p ≤ length out → out' ≡ paste 0 (image_bytes l t p pt) out → Saves l t p pt out (Ok n) out'
     unfolding paste
     saves-done n out' e h o =
         let f = le-leb (length (image (here l t p pt))) (length out) (omega (arith, length-image)) in
@@ -217,24 +222,3 @@ module _ (l : Limiter) (t : LimiterTables) (p : PeerDemand) (pt : PeerTables) (o
         let ly = length-peers-bytes p pt r.peers in
         let s = still 0 _ _ out x lx (omega arith) ex in
         pasted 0 a _ _ _ out x z lx (ea ∙ sym (zero-add _)) (omega arith) ex (pasted a b _ _ _ x y z ly eb (omega arith) ey ez)
-
--- ---- question 1 of both, then 2 of both, from the first 'no' of each
-
-first_two : (r v s w : Bool) → first_of (first_no ((1 asks r) ∷ (2 asks v) ∷ [])) (first_no ((1 asks s) ∷ (2 asks w) ∷ [])) ≡ first_no ((1 asks (r && s)) ∷ (2 asks (v && w)) ∷ [])
-unfolding first_of first_no
-first_two true true true true = refl
-first_two true true true false = refl
-first_two true true false w = refl
-first_two true false true true = refl
-first_two true false true false = refl
-first_two true false false w = refl
-first_two false v true true = refl
-first_two false v true false = refl
-first_two false v false w = refl
-
-pub first-of-both :
-    (l : Limiter) (t : LimiterTables) (p : PeerDemand) (pt : PeerTables) (a b : ℕ)
-    → a ≡ first_no (state_questions l t)
-    → b ≡ first_no (peers_questions p pt)
-    → first_of a b ≡ first_no (both_questions l t p pt)
-first-of-both l t p pt a b e f = (λ i. first_of (e i) (f i)) ∙ first_two _ _ _ _

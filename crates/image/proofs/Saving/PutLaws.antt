@@ -1,26 +1,24 @@
 -- Writing bytes: one paste after another, and the turns of the loops that write.
-use Prim.Native.Nat.{ℕ, suc, ◌+◌, ◌-◌, ◌*◌, ◌/◌, ◌%◌, ◌≤◌, ◌<◌}
+use Prim.Native.Nat.{ℕ, suc, ◌+◌, ◌-◌, ◌*◌, ◌≤◌, ◌<◌}
 use mathlib.Core.Bool.{true}
 use mathlib.Core.Path.{◌≡◌, refl, sym, ap, ◌∙◌}
-use mathlib.Core.Option
+use Rattle.std.specs.Option.{unwrap_or}
 use mathlib.Core.List.{List, [], ◌∷◌, ◌++◌, map, append_assoc, append-nil}
 use native.Mathlib.Nat.{add-zero}
-use native.Mathlib.Numerals.{add-one}
 use native.Mathlib.Omega.{arith}
 use borrow.Author.Tests.{leb-true}
 use lib.Dec.{leb, eqb}
-use lib.ListN.{length, take, drop, get_or, set, length-append, length-map, length-drop, take-append-drop}
-use lib.Seq
-use lib.Seq.{length-take-le, take-length, sets-eq, take_at, drop-append-add, drop-drop, drop-cons, paste-suc}
+use lib.ListN.{length, take, drop, set, length-append, length-map, length-drop, take-append-drop}
+use lib.Seq.{length-take-le, sets-eq, take_at, drop-append-add, drop-drop}
 use Rattle.records.specs.Words.{paste}
 use Rattle.records.specs.Records.{records, flat}
 use Rattle.records.proofs.Words.RecordLaws.{records-split, length-records, row}
 use Rattle.records.proofs.Tables.TableLaws.{Wide, wide-records, length-flat}
 use Rattle.questions.proofs.Tests.{split, both}
 use Rattle.questions.specs.Lists.{all}
-use Rattle.image.specs.Image.{bytes, record_bytes, Kind, layout, last_kind}
+use Rattle.image.specs.Image.{record_bytes, Kind, layout, last_kind}
 use Rattle.image.specs.Reader.{words_among, word_count, record_size}
-use Rattle.image.proofs.Reading.ByteLaws.{length-bytes, length-words-bytes}
+use Rattle.image.proofs.Reading.ByteLaws.{length-words-bytes}
 
 -- ---- pastes
 
@@ -46,35 +44,6 @@ paste_more a b r s xs h e =
     ∙ (λ i. take_at p q b size i ++ (s ++ (ap (λ (k : ℕ). drop k (p ++ q)) (sym past) ∙ drop-append-add p q (length s) ∙ drop-drop (length s) (a + length r) xs ∙ ap (λ (k : ℕ). drop k xs) same) i))
     ∙ append_assoc (take a xs) r (s ++ drop (a + length (r ++ s)) xs)
     ∙ ap (λ (l : List ℕ). take a xs ++ l) (sym (append_assoc r s (drop (a + length (r ++ s)) xs)))
-
--- a copy of all of r is a paste
-pub paste_all : (a n : ℕ) (r xs : List ℕ) → n ≡ length r → lib.Seq.paste xs a r n ≡ paste a r xs
-unfolding paste
-paste_all a n r xs e =
-    ap (lib.Seq.paste xs a r) e
-    ∙ ap (λ (l : List ℕ). take a xs ++ l ++ drop (a + length r) xs) (take-length r)
-    ∙ append_assoc (take a xs) r (drop (a + length r) xs)
-
--- ---- the bytes of a word, one after the other: k of them are written, and `rest` has the others
-
-module _ (w k rest : ℕ) (h : k < 8) (e : drop k (bytes 8 w) ≡ bytes (8 - k) rest) where
-  parts : get_or (bytes 8 w) k 0 ∷ drop (suc k) (bytes 8 w) ≡ rest % 256 ∷ bytes (8 - (k + 1)) (rest / 256)
-  unfolding bytes
-  parts =
-      let n : 8 - k ≡ suc (8 - (k + 1)) = omega arith in
-      sym (drop-cons (bytes 8 w) k 0 (omega (arith, length-bytes 8 w))) ∙ e ∙ ap (λ (m : ℕ). bytes m rest) n
-
-  pub next-byte : rest % 256 ≡ get_or (bytes 8 w) k 0
-  next-byte = let p = parts in cc
-
-  pub later-bytes : drop (k + 1) (bytes 8 w) ≡ bytes (8 - (k + 1)) (rest / 256)
-  later-bytes = let p = parts in ap (λ (m : ℕ). drop m (bytes 8 w)) (add-one k) ∙ cc
-
-  pub byte-stored : (out : List ℕ) (a : ℕ) → a + 8 ≤ length out → set (lib.Seq.paste out a (bytes 8 w) k) (a + k) (rest % 256) ≡ lib.Seq.paste out a (bytes 8 w) (k + 1)
-  byte-stored out a r =
-      ap (set (lib.Seq.paste out a (bytes 8 w) k) (a + k)) next-byte
-      ∙ paste-suc out a (bytes 8 w) k 0 (omega arith) (omega (arith, length-bytes 8 w))
-      ∙ ap (lib.Seq.paste out a (bytes 8 w)) (sym (add-one k))
 
 -- ---- the bytes of a list's items, one after the other
 
@@ -127,7 +96,7 @@ pub count-few : (kind : ℕ) → word_count kind ≤ 22
 unfolding all
 count-few kind = below (last_kind ∷ layout) refl
   where
-    below : (xs : List Kind) → all (λ (x : Kind). leb x.words 22) xs ≡ true → Option.get_or (words_among xs kind) 0 ≤ 22
+    below : (xs : List Kind) → all (λ (x : Kind). leb x.words 22) xs ≡ true → unwrap_or (words_among xs kind) 0 ≤ 22
     below [] a = omega arith
     below (x ∷ xs) a =
         let b = both (leb x.words 22) _ a in

@@ -2,7 +2,6 @@
 use Prim.Native.Nat.{ℕ, ◌+◌, ◌*◌, ◌≤◌}
 use mathlib.Core.Path.{◌≡◌, refl, sym, ap, ◌∙◌}
 use mathlib.Core.List.{List, ◌∷◌, ◌++◌, append-nil}
-use mathlib.Core.Option.{Option, none, some}
 use native.Mathlib.Omega.{arith}
 use lib.Ieee.{Float}
 use lib.ListN.{length, take, get_or, length-append}
@@ -18,6 +17,8 @@ use Rattle.image.specs.Reader.{word_count, record_size}
 use Rattle.image.specs.Steps.{table_bytes, limiter_bytes, limiter_length, LimiterReady, peers_bytes, peers_length, PeersReady}
 use Rattle.image.proofs.Reading.StateWordLaws.{settings-long}
 use Rattle.image.proofs.Saving.PutLaws.{length-pasted, paste_more, length-record-bytes, length-rows}
+use Rattle.std.specs.declared.option.Option.{Option}
+use Rattle.std.specs.declared.option.Option.TheVariants.{None, Some}
 
 -- ---- one paste after another
 
@@ -69,8 +70,8 @@ module _ (p : PeerDemand) (t : PeerTables) (ready : PeersReady p t) where
 
 -- the two words of a cap, one by one
 pub cap-apart : (x : Option Float) (ys : List ℕ) → get_or (cap_words x) 0 0 ∷ get_or (cap_words x) 1 0 ∷ ys ≡ cap_words x ++ ys
-cap-apart none ys = refl
-cap-apart (some x) ys = refl
+cap-apart None ys = refl
+cap-apart (Some x) ys = refl
 
 module _ (l : Limiter) (t : LimiterTables) (ready : LimiterReady l t) where
   settings-sized : (ws : List ℕ) → ws ≡ settings_words (settings_of l) → length (record_bytes 1 ws) ≡ record_size 1

@@ -9,18 +9,12 @@ use Rattle.records.specs.Words.{paste}
 use Rattle.records.specs.Fields.{time_words}
 use Rattle.questions.specs.Questions.{Question, Answer}
 use Rattle.questions.proofs.Answers.{first-front, first_rest}
-use Rattle.gcra.specs.Calls.{check_answer, quota_answer, rate_answer}
-use Rattle.hot.specs.HotSet.Calls.{since_answer}
-use Rattle.demand.specs.declared.answers.LenAnswer.{LenAnswer}
-use Rattle.demand.specs.Answers.{flag_answer, len_answer}
 use Rattle.peers.specs.declared.peer_demand.PeerDemand.{PeerDemand}
 use Rattle.peers.specs.declared.peer_demand.PeersChanged.{PeersChanged}
 use Rattle.peers.specs.Peers.State.{PeerTables}
-use Rattle.peers.specs.Peers.Calls.{change_answer, heard_answer, total_answer}
 use Rattle.limiter.specs.declared.Limiter.{Limiter}
-use Rattle.limiter.specs.declared.Changed.{Changed}
+use Rattle.limiter.specs.Answered.{Changed}
 use Rattle.limiter.specs.State.{LimiterTables, lengths}
-use Rattle.limiter.specs.Calls.{traced_answer, rates_answer, key_quota_answer, limit_answer, config_answer}
 use Rattle.run.specs.Run as run
 use Rattle.run.specs.Run.{Change, Query, Told, Reply, Memory}
 use Rattle.nultiway.specs.Values.{limiter_words, limiter_of, limiter_asked, peers_words, peers_of}
@@ -31,6 +25,9 @@ use Rattle.library_run.specs.Calls as calls
 use Rattle.library_run.specs.Calls.{Buffers, Said, Output, said, values_of, with_limiter, with_peers}
 use Rattle.library_run.specs.Trace.{reported}
 use Rattle.library_run.proofs.Calls.OwnQuestions.{Part, part, change_takes, query_takes, own}
+use Rattle.std.specs.declared.result.Result.{Result}
+use Rattle.questions.specs.declared.Refusal.{Refusal}
+use Rattle.questions.specs.Refusals.{answer_of}
 
 -- ---- what a reply says in words, beside what the buffer for the answer held
 
@@ -38,27 +35,27 @@ abbrev pub put : {A : Type 0} → (A → List ℕ) → Answer A → Output → L
 put words x out a = said (number_of x) (answer_put words x a) out
 
 abbrev pub told_in : Told → List ℕ → Said
-told_in (Told.rates r) a = put rates_words (rates_answer r) Output.nothing a
-told_in (Told.quota r) a = put key_quota_words (key_quota_answer r) Output.nothing a
-told_in (Told.limit r) a = put limit_words (limit_answer r) Output.nothing a
-told_in (Told.new_quota r) a = put quota_words (quota_answer r) Output.nothing a
-told_in (Told.factor r) a = put float_words (rate_answer r) Output.nothing a
-told_in (Told.config r) a = put config_words (config_answer r) Output.nothing a
-told_in (Told.since r) a = put time_words (since_answer r) Output.nothing a
-told_in (Told.flag r) a = put flag_words (flag_answer r) Output.nothing a
-told_in (Told.size r) a = put one_word (len_answer r) Output.nothing a
-told_in (Told.listed r out) a = put one_word (len_answer r) (Output.words out) a
-told_in (Told.heard r) a = put heard_words (heard_answer r) Output.nothing a
-told_in (Told.total r) a = put float_words (total_answer r) Output.nothing a
-told_in (Told.totals r out) a = said (number_of (change_answer r)) a (Output.floats out)
-told_in (Told.flags r out) a = said (number_of (change_answer r)) a (Output.flags out)
+told_in (Told.rates r) a = put rates_words (answer_of r) Output.nothing a
+told_in (Told.quota r) a = put key_quota_words (answer_of r) Output.nothing a
+told_in (Told.limit r) a = put limit_words (answer_of r) Output.nothing a
+told_in (Told.new_quota r) a = put quota_words (answer_of r) Output.nothing a
+told_in (Told.factor r) a = put float_words (answer_of r) Output.nothing a
+told_in (Told.config r) a = put config_words (answer_of r) Output.nothing a
+told_in (Told.since r) a = put time_words (answer_of r) Output.nothing a
+told_in (Told.flag r) a = put flag_words (answer_of r) Output.nothing a
+told_in (Told.size r) a = put one_word (answer_of r) Output.nothing a
+told_in (Told.listed r out) a = put one_word (answer_of r) (Output.words out) a
+told_in (Told.heard r) a = put heard_words (answer_of r) Output.nothing a
+told_in (Told.total r) a = put float_words (answer_of r) Output.nothing a
+told_in (Told.totals r out) a = said (number_of (answer_of r)) a (Output.floats out)
+told_in (Told.flags r out) a = said (number_of (answer_of r)) a (Output.flags out)
 told_in (Told.number n) a = said n a Output.nothing
 
 abbrev pub said_in : Reply → List ℕ → Said
-said_in (Reply.decided r) a = put decision_words (check_answer r) Output.nothing a
-said_in (Reply.traced r) a = put traced_words (traced_answer r) Output.nothing a
-said_in (Reply.decided-each r out) a = said (number_of (change_answer r)) a (Output.words out)
-said_in (Reply.done r) a = said (number_of (change_answer r)) a Output.nothing
+said_in (Reply.decided r) a = put decision_words (answer_of r) Output.nothing a
+said_in (Reply.traced r) a = put traced_words (answer_of r) Output.nothing a
+said_in (Reply.decided-each r out) a = said (number_of (answer_of r)) a (Output.words out)
+said_in (Reply.done r) a = said (number_of (answer_of r)) a Output.nothing
 said_in (Reply.tells r) a = told_in r a
 
 -- ---- a call that its own questions let pass
@@ -144,7 +141,7 @@ module _ (b : Buffers) (a : List ℕ) {qs : List Question} {r : ℕ} {m : Memory
   limiter-done :
       {x : Change} {B : Type 0} {promise : B → Changed → Type 0} {v : B} {ws : List ℕ} {t : LimiterTables}
       → Called qs r ((ws ≡ b.limiter) × (t ≡ b.tables))
-      (Changes promise v (λ (y : Changed). change_answer y.answer) (λ (y : Changed). limiter_words y.limiter) b.limiter r ws)
+      (Changes promise v (λ (y : Changed). answer_of y.answer) (λ (y : Changed). limiter_words y.limiter) b.limiter r ws)
       → ((y : Changed) → promise v y → run.Does m x (Reply.done y.answer) (run.with_limiter m y.limiter t))
       → let s = said r a Output.nothing in
       Called qs r (Same b a Output.nothing s (with_limiter b ws t)) (Changing Written.limiter m b a x s (with_limiter b ws t))
@@ -163,7 +160,7 @@ module _ (b : Buffers) (a : List ℕ) {qs : List Question} {r : ℕ} {m : Memory
   peers-done :
       {x : Change} {B : Type 0} {promise : B → PeersChanged → Type 0} {v : B} {ps : List ℕ} {t : PeerTables}
       → Called qs r ((ps ≡ b.peers) × (t ≡ b.peer_tables))
-      (Changes promise v (λ (y : PeersChanged). change_answer y.answer) (λ (y : PeersChanged). peers_words y.peers) b.peers r ps)
+      (Changes promise v (λ (y : PeersChanged). answer_of y.answer) (λ (y : PeersChanged). peers_words y.peers) b.peers r ps)
       → ((y : PeersChanged) → promise v y → run.Does m x (Reply.done y.answer) (run.with_peers m y.peers t))
       → let s = said r a Output.nothing in
       Called qs r (Same b a Output.nothing s (with_peers b ps t)) (Changing Written.peers m b a x s (with_peers b ps t))
@@ -193,9 +190,9 @@ module _ (b : Buffers) (a : List ℕ) {qs : List Question} {r : ℕ} {m : Memory
       })
 
   listed-as :
-      {x : Query} {B : Type 0} {promise : B → LenAnswer → Type 0} {v : B} {a' out out' : List ℕ}
-      → Called qs r ((out' ≡ out) × (a' ≡ a)) (Tells promise v len_answer one_word a r a')
-      → ((y : LenAnswer) → promise v y → run.Tells m x (Told.listed y out'))
+      {x : Query} {B : Type 0} {promise : B → Result ℕ Refusal → Type 0} {v : B} {a' out out' : List ℕ}
+      → Called qs r ((out' ≡ out) × (a' ≡ a)) (Tells promise v answer_of one_word a r a')
+      → ((y : Result ℕ Refusal) → promise v y → run.Tells m x (Told.listed y out'))
       → let s = said r a' (Output.words out') in Called qs r ((s.answer ≡ a) × (s.output ≡ Output.words out)) (Telling m a x s)
   listed-as {out' = out'} c tells =
       through c (λ u. (u.1, λ i. Output.words (u.0 i)))

@@ -2,15 +2,15 @@
 use Prim.Native.Nat.{ℕ, ◌*◌, min}
 use native.Mathlib.Omega.{arith}
 use mathlib.Core.Path.{◌≡◌, refl, sym, ap, ◌∙◌}
-use mathlib.Core.Bool.{Bool, true, false, cond, ◌&&◌, and-false}
+use mathlib.Core.Bool.{Bool, true, false, ◌&&◌, and-false}
 use mathlib.Core.List.{List, [], ◌∷◌, ◌++◌}
-use mathlib.Core.Option.{none, some}
 use borrow.Author.Tests.{leb-true}
 use lib.Dec.{leb}
 use lib.ListN.{length}
 use Rattle.records.specs.Records.{records, fits}
 use Rattle.questions.specs.Lists.{all}
 use Rattle.questions.specs.Questions.{Question, ◌asks◌, passes}
+use Rattle.std.proofs.lemmas.Bool.{cond-true}
 use Rattle.questions.proofs.Tests.{split, both, and_intro, and_second, contradiction}
 use Rattle.questions.proofs.Answers.{Numbered}
 use Rattle.peers.specs.Peers.State as peer-state
@@ -27,6 +27,7 @@ use Rattle.library_run.specs.Calls.{Lent, Call}
 use Rattle.library_run.specs.Trace.{reported, words_lent, no_tables, tables_lent}
 use Rattle.library_run.proofs.Calls.OwnQuestions.{Needs, own_of}
 use Rattle.library_run.proofs.Calls.Stepped.{settings, own_in}
+use Rattle.std.specs.declared.option.Option.TheVariants.{None, Some}
 
 -- ---- a 'no' never has the number 0
 
@@ -41,8 +42,8 @@ pub asked-numbered : (n : run.Lent) (x : Change) (s : State) → Numbered (asked
 unfolding asked
 asked-numbered n (Change.check key now m) s = omega arith
 asked-numbered n (Change.check-in key x now m) s = omega arith
-asked-numbered n (Change.check-traced key x none now m) s = omega arith
-asked-numbered n (Change.check-traced key x (some y) now m) s = omega arith
+asked-numbered n (Change.check-traced key x None now m) s = omega arith
+asked-numbered n (Change.check-traced key x (Some y) now m) s = omega arith
 asked-numbered n (Change.check-each list count m out) s = omega arith
 asked-numbered n (Change.tally key y x now m) s = omega arith
 asked-numbered n (Change.set-cap x) s = omega arith
@@ -224,7 +225,7 @@ module _ (c : Call) (s : State) where
 
   -- lent its tables, where its own questions are passed
   pub own-tables : (x : Change) → passes (own_in c (What.changes x) s) ≡ true → tables_lent c (What.changes x) ≡ n.tables
-  own-tables x e = ap (λ (b : Bool). cond b n.tables no_tables) ((agrees x).to e)
+  own-tables x e = cond-true _ n.tables no_tables ((agrees x).to e)
 
   -- and refused, where they are not
   pub own-refused :

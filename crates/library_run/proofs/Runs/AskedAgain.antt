@@ -10,7 +10,6 @@ use lib.ListN.{length}
 use Rattle.questions.specs.Questions.{Question, passes}
 use Rattle.questions.proofs.Tests.{split, both, and_intro}
 use Rattle.questions.proofs.Answers.{answer-passed, passed_none, none_passed, passed-both, first_rest}
-use Rattle.peers.specs.declared.peer_demand.PeersAnswer.TheVariants as peers-answer
 use Rattle.peers.specs.Peers.State as peer-state
 use Rattle.peers.specs.Peers.State.{new_peers}
 use Rattle.peers.specs.Peers.Calls.{new_questions, peers_questions}
@@ -38,6 +37,7 @@ use Rattle.library_run.specs.Demand3.{typed_call, resume_of}
 use Rattle.library_run.proofs.Calls.Stepped.{Stands, settings, own_in, next, steps-lead}
 use Rattle.library_run.proofs.Runs.Began.{started-stands, started-roomy}
 use Rattle.library_run.proofs.Runs.ResumedSame.{resumes-as-run, resumes-stand}
+use Rattle.std.specs.declared.result.Result.TheVariants.{Ok}
 
 -- `nultiway_limiter_ask` and `nultiway_peers_ask` answer 0
 pub record Asked (b : Buffers) : Type 0 where
@@ -151,5 +151,5 @@ alone-asked ws t a =
           passed-call _ 0 (room-passed (leb 3 (length (peers_words new_peers))) refl)
           (sym
           (none_passed (peers_questions new_peers held_peers)
-          (new-passes held_peers (peers-answer.Is new_peers) new_peers (answer-passed new_peers (new_questions held_peers) peers-pass) refl)));
+          (new-passes held_peers (Ok new_peers) new_peers (answer-passed new_peers (new_questions held_peers) peers-pass) refl)));
     }

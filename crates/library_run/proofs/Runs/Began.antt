@@ -11,13 +11,11 @@ use Rattle.questions.proofs.Tests.{both, and_intro}
 use Rattle.questions.specs.Questions.{Question, Answer, answer, passes}
 use Rattle.questions.proofs.Answers.{Numbered, answer-passed, given-passed}
 use Rattle.peers.specs.declared.peer_demand.PeerDemand.{PeerDemand}
-use Rattle.peers.specs.declared.peer_demand.PeersAnswer.TheVariants as peers-answer
 use Rattle.peers.specs.Peers.State as peer-state
 use Rattle.peers.specs.Peers.State.{new_peers}
 use Rattle.peers.specs.Peers.Calls as peer-calls
 use Rattle.limiter.specs.declared.Config.{Config}
 use Rattle.limiter.specs.declared.Limiter.{Limiter}
-use Rattle.limiter.specs.declared.LimiterAnswer.TheVariants as limiter-answer
 use Rattle.limiter.specs.State.{lengths, have_room, value_of}
 use Rattle.limiter.specs.Calls.{new_state, new_questions}
 use Rattle.image.specs.Image.{State}
@@ -35,6 +33,8 @@ use Rattle.library_run.specs.Runs.{Started}
 use Rattle.library_run.proofs.Calls.FrontLaws.{limiter-written-long, peers-written-long}
 use Rattle.library_run.specs.Demand3.{Fit, Starts}
 use Rattle.library_run.proofs.Calls.Stepped.{Stands, stands-typed}
+use Rattle.std.specs.declared.result.Result.TheVariants.{Ok}
+use Rattle.questions.specs.Refusals.{answer_of}
 
 -- ---- words that were written of values that stand
 
@@ -141,7 +141,7 @@ module _ {c : Config} {into : Buffers} (fit : Fit c into) where
             limiter =
                 passed-call _ 0 limiter-room
                 (record {
-                  result = limiter-answer.Is new;
+                  result = Ok new;
                   kept = answer-passed new (new_questions c into.tables) fit.limiter;
                   number = refl;
                   answer = refl;
@@ -149,7 +149,7 @@ module _ {c : Config} {into : Buffers} (fit : Fit c into) where
             peers =
                 passed-call _ 0 peers-room
                 (record {
-                  result = peers-answer.Is new_peers;
+                  result = Ok new_peers;
                   kept = answer-passed new_peers (peer-calls.new_questions into.peer_tables) fit.peers;
                   number = refl;
                   answer = refl;

@@ -1,20 +1,15 @@
 -- A save and a load of the library that answer 0 keep the state, so a resumed run shows what the unbroken one does.
 use Prim.Native.Nat.{ℕ, ◌≤◌}
 use mathlib.Core.Path.{◌≡◌, sym, ap, ◌∙◌, subst}
-use mathlib.Core.Bool.{Bool, true, false, ◌&&◌}
+use mathlib.Core.Bool.{true, ◌&&◌}
 use mathlib.Core.List.{List, [], ◌∷◌}
 use lib.Dec.{leb, lit<}
 use lib.ListN.{length, take, get_or}
 use Rattle.records.specs.Words.{paste}
-use Rattle.questions.proofs.Tests.{contradiction}
-use Rattle.questions.specs.Questions.{Answer, refused, given}
+use Rattle.questions.specs.Questions.{Answer, given}
+use Rattle.questions.proofs.RefusalLaws.{ok-given}
 use Rattle.questions.specs.Lists.{all}
-use Rattle.demand.specs.declared.answers.LenAnswer.{LenAnswer}
-use Rattle.demand.specs.declared.answers.LenAnswer.TheVariants as len-answer
-use Rattle.demand.specs.Answers.{len_answer}
 use Rattle.image.specs.declared.Loaded.{Loaded}
-use Rattle.image.specs.declared.LoadAnswer.{LoadAnswer}
-use Rattle.image.specs.declared.LoadAnswer.TheVariants as load-answer
 use Rattle.image.specs.Image.{State, image}
 use Rattle.image.specs.Reader.{state_read}
 use Rattle.image.specs.Calls as images
@@ -34,24 +29,10 @@ use Rattle.library_run.proofs.Calls.OwnQuestions.{Needs, own, own-long}
 use Rattle.library_run.proofs.Calls.Stepped.{Stands}
 use Rattle.library_run.proofs.Runs.Shows.{shown_by, state_after, run-shows, unbroken-shows}
 use Rattle.library_run.proofs.Runs.Began.{words-stand}
-
--- ---- the case of an answer that is a value
-
-abbrev is_given : {A : Type 0} → Answer A → Bool
-is_given (refused n) = false
-is_given (given a) = true
-
-abbrev value_in : {A : Type 0} → A → Answer A → A
-value_in a (refused n) = a
-value_in a (given b) = b
-
-len_is : (r : LenAnswer) (n : ℕ) → len_answer r ≡ given n → r ≡ len-answer.Is n
-len_is (len-answer.No k) n e = contradiction (sym (ap is_given e))
-len_is (len-answer.Is k) n e = ap (λ (x : Answer ℕ). len-answer.Is (value_in k x)) e
-
-load_is : (r : LoadAnswer) (x : Loaded) → images.load_answer r ≡ given x → r ≡ load-answer.Is x
-load_is (load-answer.No k) x e = contradiction (sym (ap is_given e))
-load_is (load-answer.Is y) x e = ap (λ (z : Answer Loaded). load-answer.Is (value_in y z)) e
+use Rattle.std.specs.declared.result.Result.{Result}
+use Rattle.std.specs.declared.result.Result.TheVariants.{Ok}
+use Rattle.questions.specs.declared.Refusal.{Refusal}
+use Rattle.questions.specs.Refusals.{answer_of}
 
 -- ---- a save that answers 0
 
@@ -64,17 +45,17 @@ module _ {b : Buffers} {s : State} (w : Resume) (st : Stands b s) {out' answer' 
   save_needs = Needs.with_peers (leb 1 (length w.answer))
 
   -- it is `run`'s, and tells how many bytes
-  pub save-is : (size : ℕ) × run.SavesAt (values_of b) (resume_of w) (len-answer.Is size) out' × (get_or answer' 0 0 ≡ size)
+  pub save-is : (size : ℕ) × run.SavesAt (values_of b) (resume_of w) (Ok size) out' × (get_or answer' 0 0 ≡ size)
   save-is =
       let a = zero-passed (own lent [] save_needs) (lit< tt, (lit< tt, tt)) saves in
       let long = own-long lent [] save_needs a.0 in
       let x = a.1 in
       let n : ℕ = length (image (images.here (limiter_of lent.limiter) lent.tables (peers_of lent.peers) lent.peer_tables)) in
-      let g : len_answer x.result ≡ given n =
+      let g : answer_of x.result ≡ given n =
       zero-given n (images.save_questions (limiter_of lent.limiter) lent.tables (peers_of lent.peers) lent.peer_tables w.out)
-      (len_answer x.result) (lit< tt, (lit< tt, (lit< tt, tt))) x.kept.answered x.number in (
+      (answer_of x.result) (lit< tt, (lit< tt, (lit< tt, tt))) x.kept.answered x.number in (
         n,
-        subst (λ (r : LenAnswer). run.SavesAt (values_of b) (resume_of w) r out') (len_is x.result n g)
+        subst (λ (r : Result ℕ Refusal). run.SavesAt (values_of b) (resume_of w) r out') (ok-given x.result n g)
             (subst (λ (v : Loaded). images.Saves v.limiter lent.tables v.peers lent.peer_tables w.out x.result out')
             (λ i. record { limiter = limiter-lent w.lent.limiter b.limiter long.0 i; peers = peers-lent w.lent.peers b.peers long.1 i })
             x.kept),
@@ -103,12 +84,12 @@ resumes-as-run {b} {b'} w st (Resumes.saved_and_loaded {out' = out'} {answer' = 
     let n = both_long 16 (length x.limiter) 3 (length x.peers) (room-told _ a.0) in
     let bs : List ℕ = take (get_or answer' 0 0) out' in
     let y : Loaded = images.values_of (state_read bs) in
-    let g : images.load_answer a.1.result ≡ given y =
-    zero-given y (images.load_questions bs x.tables x.peer_tables) (images.load_answer a.1.result) (lit< tt, (lit< tt, tt)) a.1.kept.answered
+    let g : answer_of a.1.result ≡ given y =
+    zero-given y (images.load_questions bs x.tables x.peer_tables) (answer_of a.1.result) (lit< tt, (lit< tt, tt)) a.1.kept.answered
     a.1.put.number in
-    let k : images.Loads (take v.0 out') x.tables x.peer_tables (load-answer.Is y) b'.tables b'.peer_tables =
-    subst (λ (m : ℕ). images.Loads (take m out') x.tables x.peer_tables (load-answer.Is y) b'.tables b'.peer_tables) v.2
-    (subst (λ (r : LoadAnswer). images.Loads bs x.tables x.peer_tables r b'.tables b'.peer_tables) (load_is a.1.result y g) a.1.kept) in
+    let k : images.Loads (take v.0 out') x.tables x.peer_tables (Ok y) b'.tables b'.peer_tables =
+    subst (λ (m : ℕ). images.Loads (take m out') x.tables x.peer_tables (Ok y) b'.tables b'.peer_tables) v.2
+    (subst (λ (r : Result Loaded Refusal). images.Loads bs x.tables x.peer_tables r b'.tables b'.peer_tables) (ok-given a.1.result y g) a.1.kept) in
     record {
       y = y;
       limiter = a.1.put.limiter ∙ ap (λ (z : Answer Loaded). answer_put loaded_limiter z x.limiter) g;

@@ -10,14 +10,9 @@ use lib.ListN.{length, take, get_or}
 use Rattle.records.specs.Words.{paste}
 use Rattle.questions.proofs.Tests.{both, and_intro}
 use Rattle.questions.specs.Questions.{passes}
-use Rattle.demand.specs.declared.answers.LenAnswer.{LenAnswer}
-use Rattle.demand.specs.declared.answers.LenAnswer.TheVariants as len-answer
-use Rattle.demand.specs.Answers.{len_answer}
 use Rattle.peers.specs.Peers.State as peer-state
 use Rattle.limiter.specs.State.{lengths, have_room}
 use Rattle.image.specs.declared.Loaded.{Loaded}
-use Rattle.image.specs.declared.LoadAnswer.{LoadAnswer}
-use Rattle.image.specs.declared.LoadAnswer.TheVariants as load-answer
 use Rattle.image.specs.Image.{State}
 use Rattle.image.specs.Calls as images
 use Rattle.run.specs.Run as run
@@ -34,6 +29,10 @@ use Rattle.library_run.specs.Demand3.{Room, Served, resume_of}
 use Rattle.library_run.proofs.Calls.FrontLaws.{limiter-lent, is-limiter-lent, peers-lent}
 use Rattle.library_run.proofs.Calls.Stepped.{Stands}
 use Rattle.library_run.proofs.Runs.ResumedSame.{save-is}
+use Rattle.std.specs.declared.result.Result.{Result}
+use Rattle.std.specs.declared.result.Result.TheVariants.{Ok}
+use Rattle.questions.specs.declared.Refusal.{Refusal}
+use Rattle.questions.specs.Refusals.{answer_of}
 
 module _ {b : Buffers} {s : State} (w : Resume) (st : Stands b s) (room : Room b w) where
   abbrev lent : Buffers
@@ -77,7 +76,7 @@ module _ {b : Buffers} {s : State} (w : Resume) (st : Stands b s) (room : Room b
   load-passed =
       room-passed _ (and_intro (leb 16 (length w.into.limiter)) _ (le-leb _ _ room.limiter_into) (le-leb 3 (length w.into.peers) room.peers_into))
 
-  abbrev Kept : LenAnswer → List ℕ → Loaded → Type 0
+  abbrev Kept : Result ℕ Refusal → List ℕ → Loaded → Type 0
   Kept r out' v = images.Saves v.limiter lent.tables v.peers lent.peer_tables w.out r out'
 
   -- what `run` says of the values
@@ -87,14 +86,14 @@ module _ {b : Buffers} {s : State} (w : Resume) (st : Stands b s) (room : Room b
   saved-zero : (r : ℕ) (out' answer' : List ℕ) → SavesAt b w r out' answer' → r ≡ 0
   saved-zero r out' answer' c =
       let a = c.answered save-passed in
-      a.number ∙ ap (λ (x : LenAnswer). number_of (len_answer x)) (by-run.saved a.result out' (subst (Kept a.result out') lent-values a.kept)).1
+      a.number ∙ ap (λ (x : Result ℕ Refusal). number_of (answer_of x)) (by-run.saved a.result out' (subst (Kept a.result out') lent-values a.kept)).1
 
   loaded-zero : (out' answer' : List ℕ) → SavesAt b w 0 out' answer' → (r : ℕ) (b' : Buffers) → LoadsAt w out' answer' r b' → r ≡ 0
   loaded-zero out' answer' c r b' d =
       let v = save-is w st c in
       let a = d.answered load-passed in
       a.put.number
-      ∙ ap (λ (x : LoadAnswer). number_of (images.load_answer x))
+      ∙ ap (λ (x : Result Loaded Refusal). number_of (answer_of x))
       (by-run.loaded v.0 out' v.1 a.result b'.tables b'.peer_tables
       (subst (λ (m : ℕ). images.Loads (take m out') w.into.tables w.into.peer_tables a.result b'.tables b'.peer_tables) v.2 a.kept)).1
 
@@ -109,12 +108,12 @@ module _ {b : Buffers} {s : State} (w : Resume) (st : Stands b s) (room : Room b
     },
     Resumes.saved_and_loaded {out' = out} {answer' = paste 0 (one_word size) w.answer}
         (passed-call _ 0 save-passed
-        (record { result = len-answer.Is size; kept = subst (Kept (len-answer.Is size) out) (sym lent-values) c; number = refl; answer = refl }))
+        (record { result = Ok size; kept = subst (Kept (Ok size) out) (sym lent-values) c; number = refl; answer = refl }))
         (passed-call _ 0 load-passed
         (record {
-          result = load-answer.Is x;
+          result = Ok x;
           kept =
-              subst (λ (m : ℕ). images.Loads (take m out) w.into.tables w.into.peer_tables (load-answer.Is x) t pt)
+              subst (λ (m : ℕ). images.Loads (take m out) w.into.tables w.into.peer_tables (Ok x) t pt)
               (sym (ap (λ (ws : List ℕ). get_or ws 0 0) (paste-front (one_word size) w.answer))) d;
           put = record { number = refl; limiter = refl; peers = refl };
         })),

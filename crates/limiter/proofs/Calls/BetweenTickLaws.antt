@@ -3,7 +3,6 @@ use Prim.Native.Nat.{ℕ}
 use mathlib.Core.Path.{◌≡◌, refl, ap, ◌∙◌}
 use mathlib.Core.Bool.{true, false, false≢true}
 use mathlib.Core.List.{List, [], ◌∷◌}
-use mathlib.Core.Option.{Option, none, some}
 use native.Mathlib.Omega.{arith}
 use borrow.Author.Tests.{eqb-true}
 use lib.Dec.{eqb}
@@ -22,6 +21,8 @@ use Rattle.limiter.specs.State.{KeyRecord, LimiterState, key_with, put_key}
 use Rattle.limiter.specs.Checks.{new_key, found_or, entry, checked_key, tallied_key, key_decision, shadow_decision, check_in, check_traced, record_tally}
 use Rattle.limiter.specs.Readers.{of_key}
 use Rattle.limiter.proofs.States.KeyLaws.{found_here, found-later, found_nowhere, put-own, put_other}
+use Rattle.std.specs.declared.option.Option.{Option}
+use Rattle.std.specs.declared.option.Option.TheVariants.{None, Some}
 
 -- the meter of a key, if it is tracked
 abbrev pub meter_of : ℕ → LimiterState → Option Gcra
@@ -31,7 +32,7 @@ module _ (u : Units) (s : LimiterState) where
   -- ---- 'Between ticks a tracked key's decision depends on its own record and the reading alone'
 
   -- whatever the limit, the cluster size, the settings and the other keys are
-  pub own-record : (key : ℕ) (k : KeyRecord) (limit : Limit) (now n : ℕ) → key_with key s.keys ≡ some k
+  pub own-record : (key : ℕ) (k : KeyRecord) (limit : Limit) (now n : ℕ) → key_with key s.keys ≡ Some k
       → key_decision u s key limit now n ≡ decision k.gcra now
   unfolding entry
   own-record key k limit now n e = ap (λ (o : Option KeyRecord). decision (found_or (new_key u s.settings key limit now n) limit o).gcra now) e
@@ -52,7 +53,7 @@ module _ (u : Units) (s : LimiterState) where
 
     pub check-leaves : key_with key (check_in u s other limit now n).keys ≡ key_with key s.keys
     unfolding check_in
-    check-leaves = left_by (checked_key now none (entry u s other limit now n)) refl
+    check-leaves = left_by (checked_key now None (entry u s other limit now n)) refl
 
     pub traced-leaves : (shadow : Option Limit) → key_with key (check_traced u s other limit shadow now n).keys ≡ key_with key s.keys
     unfolding check_traced
@@ -69,24 +70,24 @@ module _ (u : Units) (s : LimiterState) where
     asked = (entry u s key limit now n).gcra
 
     put-meter : (k : KeyRecord) → k.key ≡ (entry u s key limit now n).key → k.gcra ≡ check asked now → is_allow (decision asked now) ≡ false
-        → of_key (λ (x : KeyRecord). x.gcra) (key_with key (put_key k s.keys)) ≡ some asked
+        → of_key (λ (x : KeyRecord). x.gcra) (key_with key (put_key k s.keys)) ≡ Some asked
     put-meter k e g h = ap (of_key (λ (x : KeyRecord). x.gcra)) (put-own key k s.keys (e ∙ entry_key key limit now n))
-        ∙ ap some (g ∙ check-deny asked now h)
+        ∙ ap Some (g ∙ check-deny asked now h)
 
     -- a denied check leaves it
-    pub denied-leaves : is_allow (key_decision u s key limit now n) ≡ false → meter_of key (check_in u s key limit now n) ≡ some asked
+    pub denied-leaves : is_allow (key_decision u s key limit now n) ≡ false → meter_of key (check_in u s key limit now n) ≡ Some asked
     unfolding check_in
-    denied-leaves h = put-meter (checked_key now none (entry u s key limit now n)) refl refl h
+    denied-leaves h = put-meter (checked_key now None (entry u s key limit now n)) refl refl h
 
     pub traced-denied-leaves :
         (shadow : Option Limit) → is_allow (key_decision u s key limit now n) ≡ false
-        → meter_of key (check_traced u s key limit shadow now n) ≡ some asked
+        → meter_of key (check_traced u s key limit shadow now n) ≡ Some asked
     unfolding check_traced
     traced-denied-leaves shadow h = put-meter (checked_key now (shadow_decision u s key limit shadow now n) (entry u s key limit now n)) refl refl h
 
     -- in any later state that has it still
     pub allowed-at-retry :
-        (r : ℕ) → key_decision u s key limit now n ≡ Deny r → (s' : LimiterState) → meter_of key s' ≡ some asked
+        (r : ℕ) → key_decision u s key limit now n ≡ Deny r → (s' : LimiterState) → meter_of key s' ≡ Some asked
         → (limit' : Limit) (n' : ℕ) → key_decision u s' key limit' r n' ≡ Allow
     unfolding entry allowed meter-after
     allowed-at-retry r d s' still limit' n' = by (key_with key s'.keys) still
@@ -100,7 +101,7 @@ module _ (u : Units) (s : LimiterState) where
             is-allow Allow e = refl
             is-allow (Deny t) e = absurd (false≢true e)
 
-        by : (o : Option KeyRecord) → of_key (λ (k : KeyRecord). k.gcra) o ≡ some asked
+        by : (o : Option KeyRecord) → of_key (λ (k : KeyRecord). k.gcra) o ≡ Some asked
             → decision (found_or (new_key u s'.settings key limit' r n') limit' o).gcra r ≡ Allow
-        by none e = let z : ◌≡◌ {A = ℕ} 0 1 = cc in absurd (omega arith)
-        by (some k) e = let same : k.gcra ≡ asked = cc in ap (λ (g : Gcra). decision g r) same ∙ allows
+        by None e = let z : ◌≡◌ {A = ℕ} 0 1 = cc in absurd (omega arith)
+        by (Some k) e = let same : k.gcra ≡ asked = cc in ap (λ (g : Gcra). decision g r) same ∙ allows

@@ -7,12 +7,11 @@ use lib.ListN.{get_or}
 use Rattle.questions.proofs.Tests.{split, both}
 use Rattle.gcra.specs.declared.Decision.{Decision}
 use Rattle.questions.specs.Questions.{Question, Answer, passes}
-use Rattle.gcra.specs.Calls.{check_answer}
 use Rattle.demand.specs.Allocation.{is_cluster_size}
 use Rattle.questions.specs.Lists.{all}
 use Rattle.records.specs.Typed.{is_word}
 use Rattle.limiter.specs.declared.Limiter.{Limiter}
-use Rattle.limiter.specs.declared.Checked.{Checked}
+use Rattle.limiter.specs.Answered.{Checked}
 use Rattle.limiter.specs.State.{LimiterState, LimiterTables, value_of, written, units_in, settings_of, state_of, units_of}
 use Rattle.limiter.specs.Checks.{own_limit, key_decision, check_in, cluster_questions, check_key_questions, check_one, after_one, check_each}
 use Rattle.limiter.specs.Calls.{here, state_questions, Checks}
@@ -21,6 +20,7 @@ use Rattle.limiter.proofs.States.WrittenLaws.{read_back}
 use Rattle.limiter.proofs.LimiterTheorems.{Sound, sound-passes, here-valid, checked-again, one-settings}
 use Rattle.limiter.proofs.Checking.LiftLaws.{answer-after, passes-after}
 use Rattle.limiter.proofs.States.StateValidLaws.{units-of-accepted}
+use Rattle.questions.specs.Refusals.{answer_of}
 
 -- the pairs are checked by one call of `check` each, with these answers
 pub data OneByOne (n : ℕ) : List (List ℕ) → Limiter → LimiterTables → List (Answer Decision) → Limiter → LimiterTables → Type 0 where
@@ -28,7 +28,7 @@ pub data OneByOne (n : ℕ) : List (List ℕ) → Limiter → LimiterTables → 
   checked :
       {p : List ℕ} {ps : List (List ℕ)} {l l' : Limiter} {t t₁ t' : LimiterTables} {ds : List (Answer Decision)} (r : Checked)
       → Checks l t (get_or p 0 0) (get_or p 1 0) n r t₁ → OneByOne n ps r.limiter t₁ ds l' t'
-      → OneByOne n (p ∷ ps) l t (check_answer r.answer ∷ ds) l' t'
+      → OneByOne n (p ∷ ps) l t (answer_of r.answer ∷ ds) l' t'
 
 module _ (n : ℕ) (size : is_cluster_size n ≡ true) where
   -- ---- one check
@@ -45,7 +45,7 @@ module _ (n : ℕ) (size : is_cluster_size n ≡ true) where
     unfolding passes
     first-passed = passes-after (state_questions l t) (cluster_questions n) (sound-passes l t sound) ∙ ap (λ (b : Bool). b && true) size
 
-    one_answer : check_answer r.answer ≡ check_one (units_in l) n s key now
+    one_answer : answer_of r.answer ≡ check_one (units_in l) n s key now
     one_answer = c.answered ∙ answer-after first (check_key_questions (units_in l) s key now n) (key_decision (units_in l) s key (own_limit s) now n) first-passed
 
     -- 7, 8 and 9

@@ -1,15 +1,15 @@
 -- Laws: many checks, one after the other, from the key table to the limiter's whole state.
-use Prim.Native.Nat.{ℕ, suc, ◌+◌, ◌*◌, ◌≤◌, ◌<◌}
+use borrow.Rule.Slice.PartMut.{put_mid}
+use Prim.Native.Nat.{◌-◌, ℕ, suc, ◌+◌, ◌*◌, ◌≤◌, ◌<◌}
 use mathlib.Core.Path.{◌≡◌, refl, sym, ap, ◌∙◌, subst}
 use mathlib.Core.Bool.{Bool, true, false, cond, ◌&&◌}
-use mathlib.Core.List.{List, [], ◌∷◌, ◌++◌, map, append_assoc}
-use mathlib.Core.Option.{none}
+use mathlib.Core.List.{List, [], ◌∷◌, ◌++◌, map}
 use native.Mathlib.Nat.{add-zero, mul-le-mul_right}
 use native.Mathlib.Omega.{arith}
 use borrow.Author.Tests.{leb-true}
 use lib.Dec.{leb, lit<}
-use lib.ListN.{length, get_or, set, take, drop, length-map}
-use lib.Seq.{sets-eq, get_or-take, get_or-drop}
+use lib.ListN.{length, get_or, take, drop, length-map}
+use lib.Seq.{drop-drop, get_or-take, get_or-drop}
 use Rattle.records.specs.Records.{records, flat, table, ascending, fits}
 use Rattle.records.specs.Words.{paste}
 use Rattle.questions.proofs.Tests.{both, and_intro}
@@ -19,10 +19,8 @@ use Rattle.gcra.specs.declared.Decision.{Decision}
 use Rattle.gcra.specs.declared.Decision.TheVariants.{Allow, Deny}
 use Rattle.gcra.specs.Packed.{valid_burst, Accepted}
 use Rattle.questions.specs.Questions.{Question, Answer, refused, given, passes, first_no}
-use Rattle.gcra.specs.Calls.{check_answer}
 use Rattle.questions.proofs.Answers.{answer-no, answer-passed, changed-passed, kept-no, passed_none}
 use Rattle.gcra.specs.declared.Units.{Units}
-use Rattle.peers.specs.declared.peer_demand.ChangeAnswer.TheVariants.{No, Done}
 use Rattle.demand.specs.Allocation.{is_cluster_size}
 use Rattle.questions.specs.Lists.{all}
 use Rattle.records.specs.Typed.{is_word, exact}
@@ -30,7 +28,7 @@ use Rattle.records.proofs.Tables.TabledLaws.{table_same}
 use Rattle.questions.proofs.OnlyLaws.{map-append}
 use Rattle.records.proofs.Tables.TypedLaws.{words-of-exact, wide-map, records-written, all_back, all-exact, length-written}
 use Rattle.limiter.specs.declared.Limiter.{Limiter}
-use Rattle.limiter.specs.declared.Checked.{Checked}
+use Rattle.limiter.specs.Answered.{Checked}
 use Rattle.limiter.specs.State.{KeyRecord, LimiterState, LimiterTables, tables, lengths, have_room, key_words, key_of, put_key, settings_of, valid_settings, valid_key, valid, state_of, is_valid, value_of, written, units_in, units_of}
 use Rattle.limiter.specs.Checks.{holding, entry, checked_key, check_in, own_limit, has_place, check_key_questions, Answers, check_one, after_one, check_each}
 use Rattle.limiter.specs.Calls.{answer_words, here, each_asked, ChecksEach}
@@ -44,6 +42,11 @@ use Rattle.limiter.proofs.States.WrittenLaws.{key_back, key-long}
 use Rattle.records.proofs.Changes.KeepLaws.{table-over, paste_more}
 use Rattle.limiter.proofs.Checking.KeyTableLaws.{counted-keys, no-fewer}
 use Rattle.limiter.proofs.Checking.LiftLaws.{state-valid, ready, shadows-counted, shadows-still, value_after, written_after}
+use Rattle.std.specs.declared.option.Option.TheVariants.{None}
+use Rattle.std.specs.declared.result.Result.TheVariants.{Ok, Err}
+use Rattle.questions.specs.Refusals.{answer_of, number}
+use Rattle.questions.proofs.RefusalLaws.{number-nonzero}
+use Rattle.questions.specs.declared.Refusal.{Refusal}
 
 -- ---- lists of checks
 module _ (u : Units) (n : ℕ) where
@@ -124,28 +127,14 @@ answer-long (refused m) = refl
 answer-long (given Allow) = refl
 answer-long (given (Deny t)) = refl
 
--- its words, one by one
-three-words : (a : Answer Decision) (ws : List ℕ) → ws ≡ answer_words a → get_or ws 0 0 ∷ get_or ws 1 0 ∷ get_or ws 2 0 ∷ [] ≡ answer_words a
-three-words a ws e = ap (λ (l : List ℕ). get_or l 0 0 ∷ get_or l 1 0 ∷ get_or l 2 0 ∷ []) e ∙ by a
-  where
-    by : (b : Answer Decision) → let l = answer_words b in get_or l 0 0 ∷ get_or l 1 0 ∷ get_or l 2 0 ∷ [] ≡ l
-    by (refused m) = refl
-    by (given Allow) = refl
-    by (given (Deny t)) = refl
-
--- written one after the other
-pub put_three :
-    (a : Answer Decision) (ws xs : List ℕ) (at : ℕ) → ws ≡ answer_words a → at + 3 ≤ length xs
-    → set (set (set xs at (get_or ws 0 0)) (at + 1) (get_or ws 1 0)) (at + 2) (get_or ws 2 0) ≡ paste at (answer_words a) xs
+-- written over the words at a place
+pub answer-pasted : (a : Answer Decision) (ws xs : List ℕ) (at : ℕ) → ws ≡ answer_words a → put_mid at (at + 3 - at) xs ws ≡ paste at (answer_words a) xs
 unfolding paste
-put_three a ws xs at e h =
-    let vs = get_or ws 0 0 ∷ get_or ws 1 0 ∷ get_or ws 2 0 ∷ [] in
-    let one : at + 1 ≡ suc at = omega arith in
-    let two : at + 2 ≡ suc (suc at) = omega arith in
-    (λ i. set (set (set xs at (get_or ws 0 0)) (one i) (get_or ws 1 0)) (two i) (get_or ws 2 0))
-    ∙ sets-eq vs xs at h
-    ∙ append_assoc (take at xs) vs (drop (at + 3) xs)
-    ∙ (λ i. take at xs ++ (three-words a ws e i ++ drop (at + length (three-words a ws e i)) xs))
+answer-pasted a ws xs at e =
+    let vs = answer_words a in
+    let z : at + 3 - at ≡ length vs = omega (arith, answer-long a) in
+    (λ i. take at xs ++ (e i ++ drop (z i) (drop at xs)))
+    ∙ ap (λ (zs : List ℕ). take at xs ++ (vs ++ zs)) (drop-drop (length vs) at xs)
 
 -- question 16 as a test of records
 pub each-room : (len count : ℕ) → fits len 3 count ≡ leb (3 * count) len
@@ -226,9 +215,9 @@ module _ (l : Limiter) (xs : List ℕ) (room : l.config.table_size * 22 ≤ leng
     asked js = check_key_questions (units_in l) (keys_as l js) key now n
 
     abbrev put : List KeyRecord → List KeyRecord
-    put js = put_key (checked_key now none (entry (units_in l) (keys_as l js) key l.config.limit now n)) js
+    put js = put_key (checked_key now None (entry (units_in l) (keys_as l js) key l.config.limit now n)) js
 
-    pub one_answer : check_answer r.answer ≡ check_one (units_in l) n (keys_as l ks) key now
+    pub one_answer : answer_of r.answer ≡ check_one (units_in l) n (keys_as l ks) key now
     one_answer = h.says ∙ ap (λ (js : List KeyRecord). check_one (units_in l) n (keys_as l js) key now) keys-back
 
     pub one-limiter : r.limiter ≡ counting l (length after.keys)
@@ -252,7 +241,7 @@ module _ (l : Limiter) (xs : List ℕ) (room : l.config.table_size * 22 ≤ leng
         by : (b : Bool)
             → cond b (table (map (key_words (units_in l)) (put ks)) words) words ≡ table
             (map (key_words (units_in l)) (cond b (check_in (units_in l) (keys_as l ks) key l.config.limit now n) (keys_as l ks)).keys) xs
-        by true = put-over (checked_key now none (entry (units_in l) (keys_as l ks) key l.config.limit now n))
+        by true = put-over (checked_key now None (entry (units_in l) (keys_as l ks) key l.config.limit now n))
         by false = refl
 
 -- ---- the loop over the pairs
@@ -325,17 +314,6 @@ module _ (l : Limiter) (xs list : List ℕ) (count n : ℕ) (out : List ℕ) (p 
     answered : length (up_to i).answers ≡ i
     answered = each-length (units_in l) n (records 2 i list) (keys_only l xs) ∙ length-records 2 i list
 
-    pub reached-keys : length xs' ≡ length xs
-    reached-keys =
-        ap length h.acted.words
-        ∙ length-written (key_words (units_in l)) 22 (key-long (units_in l)) (up_to i).left.keys xs
-        (omega (arith, mul-le-mul_right 22 (valid-says (units_in l) (keys_at i) at-valid).few, p.keys.room))
-
-    pub reached-output : i ≤ count → length out' ≡ length out
-    reached-output b =
-        ap length h.acted.output
-        ∙ length-written answer_words 3 answer-long (up_to i).answers out (omega (arith, ap (λ (m : ℕ). m * 3) answered, p.output))
-
     -- the next pair
     abbrev key : ℕ
     key = get_or list (i * 2) 0
@@ -360,7 +338,7 @@ module _ (l : Limiter) (xs list : List ℕ) (count n : ℕ) (out : List ℕ) (p 
         })
 
     module _ (r : Checked) (ys out'' : List ℕ) (c : ChecksKey l' xs' key l.config.limit now n r ys)
-        (e : out'' ≡ paste (i * 3) (answer_words (check_answer r.answer)) out') where
+        (e : out'' ≡ paste (i * 3) (answer_words (answer_of r.answer)) out') where
       checks : ChecksKey (counting l (length (up_to i).left.keys)) (table (map (key_words (units_in l)) (up_to i).left.keys) xs) key
           l.config.limit now n r ys
       checks =
@@ -428,8 +406,8 @@ module _ (l : Limiter) (t : LimiterTables) (list : List ℕ) (count n : ℕ) (ou
       }
 
   -- a 'no'
-  pub each-refused : (m : ℕ) → m ≡ first_no asks → (m ≡ 0 → ⊥) → ChecksEach l t list count n out (record { answer = No m; limiter = l }) t out
-  each-refused m e h = record {
+  pub each-refused : (x : Refusal) → number x ≡ first_no asks → ChecksEach l t list count n out (record { answer = Err x; limiter = l }) t out
+  each-refused x e = let m = number x in let h = number-nonzero x in record {
     acts = record { answered = answer-no tt asks m e h; limiter = kept-no _ l asks m e h; words = kept-no _ t asks m e h };
     output = kept-no _ out asks m e h;
   }
@@ -437,7 +415,7 @@ module _ (l : Limiter) (t : LimiterTables) (list : List ℕ) (count n : ℕ) (ou
   -- the checks of the key table are those of the state
   pub each_lifted :
       Asked → (l' : Limiter) (xs' out' : List ℕ) → ChecksPairs l t.keys list count n out l' xs' out'
-      → ChecksEach l t list count n out (record { answer = Done; limiter = l' }) (tables xs' t.hot t.shadows) out'
+      → ChecksEach l t list count n out (record { answer = (Ok tt); limiter = l' }) (tables xs' t.hot t.shadows) out'
   unfolding state_of
   each_lifted a l' xs' out' h =
       let s = here l t in

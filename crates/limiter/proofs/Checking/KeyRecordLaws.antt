@@ -7,13 +7,17 @@ use native.Mathlib.Nat.{add-zero}
 use native.Mathlib.Omega.{arith}
 use lib.ListN.{get_or, drop}
 use lib.Seq.{get_or-drop, drop-drop}
-use Rattle.gcra.specs.declared.Tat.TheVariants.{At}
-use Rattle.gcra.specs.Packed.{unpack}
 use Rattle.gcra.specs.declared.Units.{Units}
 use Rattle.questions.specs.Questions.{Question, Answer, refused, given, answer, passes}
 use Rattle.questions.proofs.Answers.{given-passed, answer-passed}
 use Rattle.records.specs.Fields.{time_of}
-use Rattle.limiter.specs.State.{float_of, estimate_of, gcra_of, tat_from, key_of}
+use Rattle.limiter.specs.State.{float_of, estimate_of, gcra_of, key_of}
+use Rattle.std.specs.declared.option.Option.TheVariants.{Some}
+use Rattle.std.specs.declared.result.Result.{Result}
+use Rattle.std.specs.declared.result.Result.TheVariants.{Ok, Err}
+use Rattle.std.specs.Result.{result_unwrap_or}
+use Rattle.questions.specs.declared.Refusal.{Refusal}
+use Rattle.questions.specs.Refusals.{number, answer_of}
 
 -- ---- answers of other crates' calls
 
@@ -28,21 +32,15 @@ never-refused qs n v p e g = clash (g ∙ e ∙ sym (answer-passed v qs p))
     clash : {A P : Type 0} {v : A} → refused n ≡ given v → P
     clash w = let z : ◌≡◌ {A = ℕ} 0 1 = cc in absurd (omega arith)
 
+-- so its value is the one that was asked for, whatever stands in for a refusal
+pub given-or : {A : Type 0} (qs : List Question) (v d : A) (r : Result A Refusal) → passes qs ≡ true → answer_of r ≡ answer qs v → result_unwrap_or r d ≡ v
+given-or qs v d (Ok u) p e = given_is qs u v e refl
+given-or qs v d (Err x) p e = never-refused qs (number x) v p e refl
+
 -- ---- words at a place
 
--- the four words of an estimator
-pub estimate-at : (at : ℕ) (xs : List ℕ)
-    → estimate_of
-    (drop at xs) ≡ record { rate = float_of (get_or xs at 0); attempts = get_or xs (at + 1) 0; last = get_or xs (at + 2) 0; since = get_or xs (at + 3) 0 }
-estimate-at at xs = simp (get_or-drop, add-zero)
-
--- the three of a meter
-pub meter-at : (u : Units) (at : ℕ) (xs : List ℕ)
-    → gcra_of u (drop at xs) ≡ record { quota = unpack u (get_or xs at 0); tat = tat_from (time_of (get_or xs (at + 1) 0) (get_or xs (at + 2) 0)) }
-meter-at u at xs = simp (get_or-drop, add-zero)
-
 -- a TAT whose flag is set
-pub tat-set : (flag t : ℕ) → (flag ≡ 0 → ⊥) → At t ≡ tat_from (time_of flag t)
+pub tat-set : (flag t : ℕ) → (flag ≡ 0 → ⊥) → Some t ≡ (time_of flag t)
 tat-set zero t h = absurd (h refl)
 tat-set (suc f) t h = refl
 

@@ -1,7 +1,7 @@
 -- Laws: the key table by a search. The key that is found, the one that is made, and the table with a key put at its place.
 use Prim.Native.Nat.{ℕ, ◌+◌, ◌*◌, ◌≤◌, ◌<◌}
 use mathlib.Core.Path.{◌≡◌, refl, sym, ap, ◌∙◌, subst}
-use mathlib.Core.Bool.{Bool, true, false}
+use mathlib.Core.Bool.{true, false}
 use mathlib.Core.List.{List, [], ◌∷◌}
 use native.Mathlib.Nat.{mul-le-mul_right}
 use native.Mathlib.Omega.{arith}
@@ -28,6 +28,9 @@ use Rattle.limiter.specs.declared.Limiter.{Limiter}
 use Rattle.limiter.specs.State.{KeyRecord, put_key, is_tracked, key_words, key_of, settings_of, valid_key, units_in}
 use Rattle.limiter.specs.Checks.{new_key_factor, cold_quota, new_key, limited, found_or, entry}
 use Rattle.limiter.specs.Steps.KeySteps.{Readable}
+use Rattle.std.specs.Result.{is_ok}
+use Rattle.std.specs.declared.result.Result.{Result}
+use Rattle.std.specs.declared.result.Result.TheVariants.{Ok, Err}
 use Rattle.limiter.specs.Steps.CheckSteps.{keys_in, keys_only, counting, Ready, Placed, Puts}
 use Rattle.limiter.proofs.States.RecordValidLaws.{limit-burst, GoodKey, key-says}
 use Rattle.limiter.proofs.States.StateValidLaws.{key_of_key, units-of-accepted}
@@ -157,10 +160,16 @@ module _ (l : Limiter) (xs : List ℕ) (r : Ready l xs) where
   pub never-unfit-key : {P : Type 0} (key : ℕ) → Unfit ≡ find_in 22 1 l.keys key 0 xs → P
   never-unfit-key key e = never-unfit (key_words (units_in l)) (key_of (units_in l)) key_of_key 22 l.keys xs (key-kind (units_in l)) in_table key e
 
+  -- one that finds no record says that there is none
+  pub key-missed : (key : ℕ) (f : Found) → f ≡ find_in 22 1 l.keys key 0 xs → ((i : ℕ) → f ≡ At i → ⊥) → those key_of_key key (keys_in l xs) ≡ []
+  key-missed key (At i) e n = absurd (n i refl)
+  key-missed key (Gap i) e n = no_key key i e
+  key-missed key Unfit e n = never-unfit-key key e
+
   -- is the key tracked?
-  pub tracked-is : (key i : ℕ) (tracked : Bool) → Placed l xs key tracked i → tracked ≡ is_tracked (keys_in l xs) key
-  tracked-is key i true p = sym (tracked-found key i p)
-  tracked-is key i false p = sym (tracked-none key i p)
+  pub tracked-is : (key : ℕ) (place : Result ℕ ℕ) → Placed l xs key place → is_ok place ≡ is_tracked (keys_in l xs) key
+  tracked-is key (Ok i) p = sym (tracked-found key i p)
+  tracked-is key (Err i) p = sym (tracked-none key i p)
 
   -- a key put among them leaves no fewer
   pub no-fewer : (k : KeyRecord) → length (keys_in l xs) ≤ length (put_key k (keys_in l xs))

@@ -3,7 +3,6 @@ use Prim.Native.Nat.{ℕ, ◌*◌, ◌≤◌}
 use mathlib.Core.Path.{◌≡◌, refl, sym, ap, ◌∙◌}
 use mathlib.Core.Bool.{Bool, true, false, cond}
 use mathlib.Core.List.{List, [], ◌∷◌, ◌++◌, map}
-use mathlib.Core.Option.{none}
 use native.Mathlib.Omega.{arith}
 use lib.Dec.{leb, lit<}
 use lib.ListN.{length, length-map}
@@ -12,25 +11,18 @@ use Rattle.questions.proofs.Tests.{both}
 use Rattle.records.proofs.Words.RecordLaws.{length-records}
 use Rattle.gcra.specs.Packed.{valid_burst}
 use Rattle.questions.specs.Questions.{Question, Answer, refused, answer, passes, first_no}
-use Rattle.gcra.specs.Calls.{check_answer}
 use Rattle.questions.proofs.Answers.{answer-no, kept-no, first_more, Numbered, passed_none}
 use Rattle.hot.specs.HotSet.Set as hot-set
 use Rattle.questions.specs.Lists.{all}
 use Rattle.records.specs.Typed.{exact}
-use Rattle.peers.specs.Peers.Calls.{change_answer}
 use Rattle.demand.specs.Allocation.{is_rate}
 use Rattle.records.proofs.Tables.TabledLaws.{table_same}
 use Rattle.records.proofs.Tables.TypedLaws.{words-of-exact}
-use Rattle.limiter.specs.declared.Cap.{Cap}
-use Rattle.limiter.specs.declared.Cap.TheVariants as cap
-use Rattle.limiter.specs.declared.LastTick.{LastTick}
-use Rattle.limiter.specs.declared.LastTick.TheVariants as last-tick
 use Rattle.limiter.specs.declared.Limit.{Limit}
 use Rattle.limiter.specs.declared.Limiter.{Limiter}
 use Rattle.limiter.specs.declared.Tally.{Tally}
-use Rattle.limiter.specs.declared.Checked.{Checked}
-use Rattle.limiter.specs.declared.Changed.{Changed}
-use Rattle.limiter.specs.State.{KeyRecord, ShadowRecord, LimiterState, LimiterTables, tables, lengths, have_room, cap_of, cap_from, last_tick_of, last_tick_from, key_words, key_of, shadow_words, shadow_of, put_key, state_of, are_exact, is_valid, valid, valid_settings, valid_keys, valid_hot, valid_shadows, valid_key, valid_shadow, value_of, written, units_in}
+use Rattle.limiter.specs.Answered.{Checked, Changed}
+use Rattle.limiter.specs.State.{KeyRecord, ShadowRecord, LimiterState, LimiterTables, tables, lengths, have_room, key_words, key_of, shadow_words, shadow_of, put_key, state_of, are_exact, is_valid, valid, valid_settings, valid_keys, valid_hot, valid_shadows, valid_key, valid_shadow, value_of, written, units_in}
 use Rattle.limiter.specs.Checks.{holding, has_place, key_questions, own_limit, entry, checked_key, tallied_key, key_decision, check_in, record_tally, limit_questions, cluster_questions}
 use Rattle.limiter.specs.Calls as Calls
 use Rattle.limiter.specs.Calls.{here, state_questions}
@@ -40,16 +32,8 @@ use Rattle.limiter.specs.Steps.TraceSteps.{ShadowsReady}
 use Rattle.limiter.proofs.States.RecordValidLaws.{limit-burst}
 use Rattle.limiter.proofs.States.StateValidLaws.{sizes-say, ValidState, valid-says, few-shadows}
 use Rattle.limiter.proofs.States.WrittenLaws.{room_says}
-
--- the value's cap and last tick come back
-pub cap-forth : (c : Cap) → cap_from (cap_of c) ≡ c
-cap-forth cap.Unset = refl
-cap-forth (cap.At x) = refl
-
--- a last tick likewise
-pub tick-forth : (t : LastTick) → last_tick_from (last_tick_of t) ≡ t
-tick-forth last-tick.Unset = refl
-tick-forth (last-tick.At x) = refl
+use Rattle.std.specs.declared.option.Option.TheVariants.{None}
+use Rattle.questions.specs.Refusals.{answer_of}
 
 -- ---- questions 1 and 2
 module _ (l : Limiter) (t : LimiterTables) (room : have_room l.config (lengths t) ≡ true) (ok : is_valid (units_in l) l t ≡ true) where
@@ -169,8 +153,8 @@ module _ (l : Limiter) (t : LimiterTables) (room : have_room l.config (lengths t
   value_after ks ss =
       (λ i. record {
         config = l.config;
-        cap = cap-forth l.cap i;
-        last_tick = tick-forth l.last_tick i;
+        cap = l.cap;
+        last_tick = l.last_tick;
         keys = length ks;
         hot = hot-counted i;
         shadows = length ss;
@@ -267,22 +251,22 @@ passed l t rs m w e z =
 module _ (l : Limiter) (t : LimiterTables) (rs : List Question) (p : Passed l t rs) (key : ℕ) (limit : Limit) (now n : ℕ) (ys : List ℕ) where
   -- `check_in`, and `check` at the settings' limit
   pub checks-lifted : (r : Checked) → ChecksKey l t.keys key limit now n r ys
-      → Calls.Acts (check_answer r.answer)
-      ((state_questions l t ++ rs) ++ key_questions (here l t) (checked_key now none (entry (units_in l) (here l t) key limit now n)))
+      → Calls.Acts (answer_of r.answer)
+      ((state_questions l t ++ rs) ++ key_questions (here l t) (checked_key now None (entry (units_in l) (here l t) key limit now n)))
       (key_decision (units_in l) (here l t) key limit now n) (check_in (units_in l) (here l t) key limit now n) l t r.limiter (tables ys t.hot t.shadows)
   unfolding check_in entry state_of
   checks-lifted r h =
-      lifted (check_answer r.answer) (key_decision (units_in l) (here l t) key limit now n) (checked_key now none (entry (units_in l) (here l t) key limit now n)) l
+      lifted (answer_of r.answer) (key_decision (units_in l) (here l t) key limit now n) (checked_key now None (entry (units_in l) (here l t) key limit now n)) l
       r.limiter t ys (state_questions l t ++ rs) p.room p.ok p.all h
 
   -- `record`
   pub records-lifted : (y : Tally) (r : Changed) → RecordsKey l t.keys key y limit now n r ys
-      → Calls.Acts (change_answer r.answer)
+      → Calls.Acts (answer_of r.answer)
       ((state_questions l t ++ rs) ++ key_questions (here l t) (tallied_key y (entry (units_in l) (here l t) key limit now n))) tt
       (record_tally (units_in l) (here l t) key y limit now n) l t r.limiter (tables ys t.hot t.shadows)
   unfolding record_tally entry state_of
   records-lifted y r h =
-      lifted (change_answer r.answer) tt (tallied_key y (entry (units_in l) (here l t) key limit now n)) l r.limiter t ys (state_questions l t ++ rs)
+      lifted (answer_of r.answer) tt (tallied_key y (entry (units_in l) (here l t) key limit now n)) l r.limiter t ys (state_questions l t ++ rs)
       p.room
       p.ok p.all h
 

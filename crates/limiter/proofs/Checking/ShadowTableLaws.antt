@@ -12,7 +12,6 @@ use Rattle.records.specs.declared.Found.TheVariants.{At, Gap, Unfit}
 use Rattle.records.specs.Records.{records, find_in, overwritten, inserted, removed}
 use Rattle.questions.proofs.Tests.{both}
 use Rattle.gcra.specs.declared.Quota.{Quota}
-use Rattle.gcra.specs.declared.Tat.TheVariants.{Unset}
 use Rattle.gcra.specs.declared.Gcra.{Gcra}
 use Rattle.gcra.specs.Packed.{pack, unpacks, valid_quota, valid_word, Accepted}
 use Rattle.gcra.specs.Rate.{carried, same_quota, set_quota}
@@ -27,6 +26,7 @@ use Rattle.limiter.specs.Steps.TraceSteps.{shadows_in, ShadowsReady, with_shadow
 use Rattle.limiter.proofs.States.RecordValidLaws.{GoodMeter, shadow-says}
 use Rattle.limiter.proofs.States.StateValidLaws.{key_of_shadow}
 use Rattle.records.proofs.Tables.TypedTableLaws.{Kind, InTable, counted, record_of, exact-at, never-unfit, found_within, those-found, those-none, count-after, overwritten-is, inserted-is, removed-is, removed-none}
+use Rattle.std.specs.declared.option.Option.TheVariants.{None}
 
 -- only the first 4 words count
 shadow-take : (u : Units) (ws : List ℕ) → shadow_of u (take 4 ws) ≡ shadow_of u ws
@@ -148,7 +148,7 @@ module _ (u : Units) (ok : Accepted u) (n : ℕ) (xs : List ℕ) (r : ShadowsRea
     no-shadow = those-none (shadow_words u) (shadow_of u) key_of_shadow 4 n xs (shadow-kind u) in_table key i e
 
     pub meter-fresh : (wanted : Quota) (now : ℕ)
-        → record { quota = wanted; tat = Unset } ≡ shadow_meter wanted now (first (those key_of_shadow key (shadows_in u n xs)))
+        → record { quota = wanted; tat = None } ≡ shadow_meter wanted now (first (those key_of_shadow key (shadows_in u n xs)))
     meter-fresh wanted now = sym (ap (λ (ss : List ShadowRecord). shadow_meter wanted now (first ss)) no-shadow)
 
     -- put in
@@ -172,6 +172,12 @@ module _ (u : Units) (ok : Accepted u) (n : ℕ) (xs : List ℕ) (r : ShadowsRea
         let c = count-after (shadow_words u) (shadow_of u) key_of_shadow 4 n xs (shadow-kind u) in_table key [] in
         let m : n ≡ length (without_shadow u n xs key) = omega (arith, c, none, ap length no-shadow) in
         record { count = m; words = removed-none (shadow_words u) (shadow_of u) key_of_shadow 4 n xs (shadow-kind u) in_table key i e }
+
+  -- a search that finds no record says that there is none to take out
+  pub shadow-missed : (key : ℕ) (f : Found) → f ≡ find_in 4 1 n key 0 xs → ((i : ℕ) → f ≡ At i → ⊥) → HoldsShadows u (without_shadow u n xs key) xs n xs
+  shadow-missed key (At i) e h = absurd (h i refl)
+  shadow-missed key (Gap i) e h = shadow-kept key i e
+  shadow-missed key Unfit e h = never-unfit-shadow key e
 
   -- the meter under the quota wanted has a valid quota
   pub meter-valid : (key : ℕ) (wanted : Quota) (now : ℕ) → valid_quota u wanted ≡ true

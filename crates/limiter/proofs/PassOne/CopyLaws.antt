@@ -40,12 +40,6 @@ module _ (n : ℕ) (from bs : List Bool) where
     pub copy-behind : j ≤ i
     copy-behind = omega (arith, k.count, flagged-few (take i bs) (take n from), length-take i bs)
 
-    pub copy-all : n ≤ i → take (length (flagged (take n bs) (take n from))) t ≡ flagged (take n bs) (take n from)
-    copy-all h =
-        let z : i ≡ n = omega (arith, k.within) in
-        (λ m. take (length (kept_of (sym z m))) t)
-        ∙ ap (λ (m : ℕ). take m t) (sym k.count) ∙ k.front ∙ ap kept_of z
-
     module _ (h : i < n) where
       one_more : (b : Bool) → get_or bs i false ≡ b → kept_of (i + 1) ≡ kept_of i ++ cond b (get_or from i false ∷ []) []
       one_more b e =

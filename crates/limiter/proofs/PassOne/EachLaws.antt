@@ -17,11 +17,9 @@ use Rattle.questions.specs.Questions.{Question, passes}
 use Rattle.questions.proofs.Answers.{given-passed, changed-passed}
 use Rattle.hot.specs.declared.hot_set.HotEntry.{HotEntry}
 use Rattle.hot.specs.declared.hot_set.HotSet.{HotSet}
-use Rattle.hot.specs.declared.hot_set.EachAnswer.{EachAnswer}
-use Rattle.hot.specs.declared.hot_set.EachAnswer.TheVariants as each-answer
 use Rattle.hot.specs.HotSet.Set.{Update, updates_of, update_each, entries}
 use Rattle.hot.proofs.HotSet.Theorems.{ready-valid}
-use Rattle.hot.specs.HotSet.Calls.{eviction_margin, room, rewritten_each, updates_fit, ask_each, lent_updates, sized, each_answer, UpdatedEach}
+use Rattle.hot.specs.HotSet.Calls.{eviction_margin, room, rewritten_each, updates_fit, ask_each, lent_updates, sized, UpdatedEach}
 use Rattle.demand.specs.Estimators.Estimator.{whole}
 use Rattle.questions.specs.Lists.{all}
 use Rattle.questions.proofs.ListLaws.{map-map}
@@ -33,6 +31,10 @@ use Rattle.limiter.proofs.States.KeyListLaws.{all-mapped}
 use Rattle.limiter.proofs.States.RecordValidLaws.{key-says}
 use Rattle.limiter.proofs.Checking.KeyRecordLaws.{never-refused}
 use Rattle.limiter.proofs.PassOne.KeyWordLaws.{keys-many}
+use Rattle.std.specs.declared.result.Result.{Result}
+use Rattle.std.specs.declared.result.Result.TheVariants.{Ok, Err}
+use Rattle.questions.specs.declared.Refusal.{Refusal}
+use Rattle.questions.specs.Refusals.{answer_of, number}
 
 -- ---- updates made of lists
 
@@ -145,7 +147,7 @@ module _ (silent : Float) (l : Limiter) (now n : ℕ) (keys hot : List ℕ) (els
           (and_intro _ _ demands-good (and_intro _ _ (le-leb m (length out) roomy) refl))))
 
       -- the promise of `update_each`, which has its own margin, for a margin that is the same
-      module _ (r : EachAnswer) (hot' : List ℕ) (out' : List Bool)
+      module _ (r : Result HotSet Refusal) (hot' : List ℕ) (out' : List Bool)
           (u : UpdatedEach (set_of l) hot keys 22 m demands thresholds flags now out r hot' out')
           (margin : Float) (same : eviction_margin ≡ margin)
         where
@@ -153,16 +155,16 @@ module _ (silent : Float) (l : Limiter) (now n : ℕ) (keys hot : List ℕ) (els
           abbrev after : List Update → HotSet
           after us = sized (set_of l) (length (update_each eviction_margin (set_of l) now us (entries l.hot hot)).left)
 
-          pub each-never : {P : Type 0} (i : ℕ) → r ≡ each-answer.No i → P
+          pub each-never : {P : Type 0} (i : Refusal) → r ≡ Err i → P
           each-never i e =
-              never-refused questions i (after (lent_updates keys 22 m demands thresholds flags)) asked u.answered (sym (ap each_answer e))
+              never-refused questions (number i) (after (lent_updates keys 22 m demands thresholds flags)) asked u.answered (sym (ap answer_of e))
 
-          pub each-done : (set : HotSet) → r ≡ each-answer.Is set → HotUpdated margin silent l now n keys hot elsewhere set.len hot' flags out'
+          pub each-done : (set : HotSet) → r ≡ Ok set → HotUpdated margin silent l now n keys hot elsewhere set.len hot' flags out'
           each-done set e =
               let us = lent-are in
               let hots : List Bool = (updated_for margin silent l now n keys hot elsewhere).hot in
               let given-set : set ≡ after (lent_updates keys 22 m demands thresholds flags) =
-              (given-passed questions set (after (lent_updates keys 22 m demands thresholds flags)) (sym (ap each_answer e) ∙ u.answered)).1 in
+              (given-passed questions set (after (lent_updates keys 22 m demands thresholds flags)) (sym (ap answer_of e) ∙ u.answered)).1 in
               let written : out' ≡ hots ++ drop m out =
               u.output
               ∙ sym (changed-passed _ out questions asked)

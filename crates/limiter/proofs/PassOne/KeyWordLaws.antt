@@ -4,7 +4,6 @@ use mathlib.Core.Bool.{Bool, true, false, ◌||◌}
 use mathlib.Core.List.{List, []}
 use Prim.Native.Nat.{ℕ, ◌+◌, ◌-◌, ◌*◌, ◌<◌}
 use native.Mathlib.Omega.{arith}
-use borrow.Author.Tests.{lt-ltb}
 use lib.Dec.{ltb, lit<}
 use lib.Ieee.{Float}
 use lib.ListN.{length, take, drop, get_or, length-map, get_or-map}
@@ -12,8 +11,6 @@ use lib.Seq.{get_or-drop}
 use Rattle.records.specs.Records.{records}
 use Rattle.records.proofs.Words.RecordLaws.{length-records, record-at}
 use Rattle.gcra.specs.declared.Gcra.{Gcra}
-use Rattle.gcra.specs.declared.DebtAnswer.{DebtAnswer}
-use Rattle.gcra.specs.declared.DebtAnswer.TheVariants as debt-answer
 use Rattle.gcra.specs.Packed.{valid_quota}
 use Rattle.gcra.specs.Meter.{has_debt}
 use Rattle.questions.specs.Questions.{refused, given}
@@ -27,6 +24,11 @@ use Rattle.limiter.specs.Steps.PassOneSteps.{is_demand, stays_if}
 use Rattle.limiter.specs.Steps.KeySteps.{units}
 use Rattle.limiter.proofs.States.RecordValidLaws.{key-says}
 use Rattle.limiter.proofs.Walking.FoldLaws.{lent_row}
+use Rattle.std.specs.declared.result.Result.{Result}
+use Rattle.std.specs.Result.{result_unwrap_or}
+use Rattle.std.specs.declared.result.Result.TheVariants.{Ok, Err}
+use Rattle.questions.specs.declared.Refusal.{Refusal}
+use Rattle.questions.specs.Refusals.{answer_of, number}
 
 -- ---- key i of a table
 module _ (u : Units) (n : ℕ) (xs : List ℕ) where
@@ -68,30 +70,36 @@ module _ (u : Units) (n : ℕ) (xs : List ℕ) where
 -- ---- the meter
 
 -- what `has_debt` answers where the quota is valid
-pub debt-given : (g : Gcra) (now : ℕ) (r : DebtAnswer) (b : Bool) → calls.debt_answer r ≡ calls.gcra_has_debt g now → r ≡ debt-answer.Is b
+debt-given : (g : Gcra) (now : ℕ) (r : Result Bool Refusal) (b : Bool) → answer_of r ≡ calls.gcra_has_debt g now → r ≡ Ok b
     → b ≡ has_debt g now
 unfolding calls.gcra_has_debt
-debt-given g now r b e q = (given-passed (calls.ask_quota g.quota) b (has_debt g now) (ap calls.debt_answer (sym q) ∙ e)).1
+debt-given g now r b e q = (given-passed (calls.ask_quota g.quota) b (has_debt g now) (ap answer_of (sym q) ∙ e)).1
 
-pub debt-never : (g : Gcra) (now : ℕ) (r : DebtAnswer) (n : ℕ) → calls.debt_answer r ≡ calls.gcra_has_debt g now → r ≡ debt-answer.No n
+debt-never : (g : Gcra) (now : ℕ) (r : Result Bool Refusal) (n : Refusal) → answer_of r ≡ calls.gcra_has_debt g now → r ≡ Err n
     → valid_quota units g.quota ≡ true → ⊥
 unfolding calls.gcra_has_debt
 debt-never g now r n e q v =
-    let a : refused n ≡ calls.gcra_has_debt g now = ap calls.debt_answer (sym q) ∙ e in
+    let a : refused (number n) ≡ calls.gcra_has_debt g now = ap answer_of (sym q) ∙ e in
     let d : given (has_debt g now) ≡ calls.gcra_has_debt g now = alone-yes 2 (has_debt g now) v in
     let z : ◌≡◌ {A = ℕ} 0 1 = cc in
     omega arith
 
+pub debt-is : (g : Gcra) (now : ℕ) (r : Result Bool Refusal) (b : Bool) → answer_of r ≡ calls.gcra_has_debt g now → valid_quota units g.quota ≡ true
+    → result_unwrap_or r b ≡ has_debt g now
+debt-is g now (Ok d) b e v = debt-given g now (Ok d) d e refl
+debt-is g now (Err n) b e v = absurd (debt-never g now (Err n) n e refl v)
+
 -- ---- whether a key stays
 
--- 'or' by its parts in any order
-stays_by : (a b c : Bool) → (a || (b || c)) ≡ (b || (c || a))
-stays_by true true c = refl
-stays_by true false true = refl
-stays_by true false false = refl
-stays_by false true c = refl
-stays_by false false true = refl
-stays_by false false false = refl
+-- 'or' by its parts in another order
+or-turned : (a b c d : Bool) → (a || (b || (c || d))) ≡ (((a || c) || d) || b)
+or-turned true b c d = refl
+or-turned false true true d = refl
+or-turned false true false true = refl
+or-turned false true false false = refl
+or-turned false false true d = refl
+or-turned false false false true = refl
+or-turned false false false false = refl
 
 module _ (u : Units) (silent : Float) (r : List ℕ) (now : ℕ) where
   abbrev key : KeyRecord
@@ -105,29 +113,12 @@ module _ (u : Units) (silent : Float) (r : List ℕ) (now : ℕ) where
   unfolding key_of
   attempts-word = get_or-drop 3 r 1 0
 
-  -- a key that is not hot, by its demand, its attempts and its debt in this order
-  turned : (hot : Bool) → hot ≡ false → stays_if silent now key hot ≡ (is_demand silent (float_of (get_or r 3 0)) || (ltb 0 (get_or r 4 0) || has_debt key.gcra now))
-  turned hot e =
-      ap (stays_if silent now key) e
-      ∙ stays_by (has_debt key.gcra now) (is_demand silent key.demand.rate) (ltb 0 key.demand.attempts)
-      ∙ (λ i. is_demand silent (rate-word i) || (ltb 0 (attempts-word i) || has_debt key.gcra now))
-
-  pub stays-hot : (hot : Bool) → hot ≡ true → true ≡ stays_if silent now key hot
-  stays-hot hot e = sym (ap (stays_if silent now key) e)
-
-  pub stays-demand : (hot : Bool) → hot ≡ false → (x : Float) → x ≡ float_of (get_or r 3 0) → is_demand silent x ≡ true → true ≡ stays_if silent now key hot
-  stays-demand hot e x q d = sym (turned hot e ∙ ap (λ (b : Bool). b || (ltb 0 (get_or r 4 0) || has_debt key.gcra now)) (ap (is_demand silent) (sym q) ∙ d))
-
-  module _ (hot : Bool) (e : hot ≡ false) (x : Float) (q : x ≡ float_of (get_or r 3 0)) (d : is_demand silent x ≡ false) where
-    below-it : stays_if silent now key hot ≡ (ltb 0 (get_or r 4 0) || has_debt key.gcra now)
-    below-it = turned hot e ∙ ap (λ (b : Bool). b || (ltb 0 (get_or r 4 0) || has_debt key.gcra now)) (ap (is_demand silent) (sym q) ∙ d)
-
-    pub stays-pending : 0 < get_or r 4 0 → true ≡ stays_if silent now key hot
-    stays-pending h = sym (below-it ∙ ap (λ (b : Bool). b || has_debt key.gcra now) (lt-ltb 0 (get_or r 4 0) h))
-
-    pub stays-debt : get_or r 4 0 ≡ 0 → (b : Bool) → b ≡ has_debt (gcra_of u (drop 19 r)) now → b ≡ stays_if silent now key hot
-    unfolding key_of
-    stays-debt h b p = p ∙ sym (below-it ∙ ap (λ (c : Bool). c || has_debt key.gcra now) (ap (ltb 0) h))
+  -- the code's tests in their order
+  pub stays-by : (hot : Bool) → stays_if silent now key hot ≡ (((hot || is_demand silent (float_of (get_or r 3 0))) || ltb 0 (get_or r 4 0)) || has_debt (gcra_of u (drop 19 r)) now)
+  unfolding key_of
+  stays-by hot =
+      or-turned hot (has_debt key.gcra now) (is_demand silent key.demand.rate) (ltb 0 key.demand.attempts)
+      ∙ (λ i. ((hot || is_demand silent (rate-word i)) || ltb 0 (attempts-word i)) || has_debt (gcra_of u (drop 19 r)) now)
 
 -- its quota is valid
 pub quota-valid : (u : Units) (r : List ℕ) → LentKey u r → valid_quota u (gcra_of u (drop 19 r)).quota ≡ true

@@ -10,7 +10,7 @@ use lib.Seq.{length-take-le, get_or-take}
 use Rattle.limiter.specs.State.{KeyRecord, float_of, key_of}
 use Rattle.limiter.specs.Steps.TickSteps.{key_records}
 use Rattle.limiter.specs.Steps.PassOneSteps.{is_demand, elsewhere_if, threshold_of, stays_if, Measured, staying_keys}
-use Rattle.limiter.proofs.Walking.CutLaws.{Filling, fill_none, fill_more, fill-all}
+use Rattle.limiter.proofs.Walking.CutLaws.{Filling, fill_more, fill-all}
 use Rattle.limiter.proofs.PassOne.ListLaws.{map-from, map-end, zip-from, zip_end}
 use Rattle.limiter.proofs.PassOne.KeyWordLaws.{keys-many, rate-at, limit-at}
 use Rattle.gcra.specs.declared.Units.{Units}
@@ -29,15 +29,6 @@ module _ (u : Units) (silent : Float) (n : ℕ) (keys : List ℕ) (alpha size : 
     pub demand_rates : Filling n ds₀ ds i (map rate_of (drop i ks)) (map rate_of ks)
     pub cold_rates : Filling n ts₀ ts i (map (threshold_of alpha size) (drop i ks)) (map (threshold_of alpha size) ks)
     pub elsewhere_flags : Filling n fs₀ fs i (zip_with (elsewhere_if silent) (drop i ks) (drop i (take n elsewhere))) (zip_with (elsewhere_if silent) ks (take n elsewhere))
-
-  pub measure-none : (ds ts : List Float) (fs : List Bool) → n ≤ length elsewhere → n ≤ length ds → n ≤ length ts → n ≤ length fs
-      → Measuring ds ts fs ds ts fs 0
-  measure-none ds ts fs h d t f = record {
-    told = h;
-    demand_rates = fill_none n ds _ d;
-    cold_rates = fill_none n ts _ t;
-    elsewhere_flags = fill_none n fs _ f;
-  }
 
   module _ (ds₀ ts₀ : List Float) (fs₀ : List Bool) (ds ts : List Float) (fs : List Bool) (i : ℕ) (k : Measuring ds₀ ts₀ fs₀ ds ts fs i) where
     pub measure-all : n ≤ i → Measured u silent n keys alpha size elsewhere ds ts fs

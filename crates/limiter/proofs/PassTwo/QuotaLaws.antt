@@ -6,9 +6,10 @@ use Prim.Native.Nat.{ℕ, zero, suc, ◌≤◌, ◌<◌}
 use native.Mathlib.Nat.{le_of_suc-le-suc, not-suc-le-zero}
 use native.Mathlib.Omega.{arith}
 use borrow.Author.Tests.{leb-true}
+use borrow.Rule.Slice.PartMut.{put_mid}
 use lib.Dec.{ltb, leb}
 use lib.Ieee.{Float}
-use lib.ListN.{length, drop, get_or, set, length-map, get_or-map}
+use lib.ListN.{length, drop, get_or, length-map, get_or-map}
 use Rattle.records.specs.Records.{records}
 use Rattle.records.proofs.Words.RecordLaws.{length-records}
 use Rattle.records.proofs.Tables.TableLaws.{Wide}
@@ -21,6 +22,7 @@ use Rattle.gcra.specs.Rate.{per_second, set_quota}
 use Rattle.gcra.specs.Calls as calls
 use Rattle.questions.proofs.Answers.{alone-changed}
 use Rattle.gcra.proofs.Packed.Packing.{pack-valid}
+use Rattle.gcra.proofs.Packed.Encoding.{units-accepted}
 use Rattle.gcra.proofs.Rate.Rates.{set_is, per-second-valid}
 use Rattle.gcra.specs.declared.Units.{Units}
 use Rattle.hot.specs.declared.hot_set.HotEntry.{HotEntry}
@@ -64,9 +66,9 @@ with_meter k g =
 -- three words written
 meter-stored :
     (u : Units) (r : List ℕ) (k : KeyRecord) (g : Gcra) (ws : List ℕ) → r ≡ key_words u k → ws ≡ gcra_words u g
-    → set (set (set r 19 (get_or ws 0 0)) 20 (get_or ws 1 0)) 21 (get_or ws 2 0) ≡ key_words u (with_meter k g)
+    → put_mid 19 3 r ws ≡ key_words u (with_meter k g)
 unfolding key_words
-meter-stored u r k g ws e q = (λ i. set (set (set (e i) 19 (get_or (q i) 0 0)) 20 (get_or (q i) 1 0)) 21 (get_or (q i) 2 0))
+meter-stored u r k g ws e q = (λ i. put_mid 19 3 (e i) (q i))
 
 -- the packed word of a key
 packed-word : (u : Units) (k : KeyRecord) → get_or (key_words u k) 19 0 ≡ pack u k.gcra.quota
@@ -125,11 +127,18 @@ module _ (u : Units) (a : Accepted u) (r : List ℕ) (h : LentKey u r) where
 
         -- the words after the change
         pub quota-stored :
-            (ws : List ℕ) → ws ≡ gcra_words u g → set (set (set r 19 (get_or ws 0 0)) 20 (get_or ws 1 0)) 21 (get_or ws 2 0) ≡ quota_row u now rate r
+            (ws : List ℕ) → ws ≡ gcra_words u g → put_mid 19 3 r ws ≡ quota_row u now rate r
         quota-stored ws e =
             meter-stored u r key g ws h.exact e
             ∙ ap (λ (x : Gcra). key_words u (with_meter key x))
             (eg ∙ (λ i. set_quota ((em ∙ sym (meter-words u r)) i) ((eq ∙ ap (per_second u rate) (sym (burst-word u r))) i) now))
+
+-- a key's words are so many
+pub lent_long : (r : List ℕ) → LentKey units r → length r ≡ 22
+lent_long r h = row-long units units-accepted r h
+
+pub lent_unpacks : (r : List ℕ) → LentKey units r → unpacks (get_or r 19 0) ≡ true
+lent_unpacks r h = word-unpacks units units-accepted r h
 
 -- ---- all keys
 module _ (u : Units) (p : RateTerms) (es : List HotEntry) (ts : List Float) (now : ℕ) where

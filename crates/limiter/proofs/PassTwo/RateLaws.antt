@@ -11,17 +11,16 @@ use lib.Ieee.{Float, binary64, mul, div}
 use lib.ListN.{length, take, drop, get_or}
 use lib.Seq.{get_or-drop}
 use Rattle.float.specs.Order.{minimum_number}
-use Rattle.records.specs.declared.Found.TheVariants.{At, Gap}
+use Rattle.records.specs.declared.Found.{Found}
+use Rattle.records.specs.declared.Found.TheVariants.{At, Gap, Unfit}
 use Rattle.records.specs.Records.{find_in}
 use Rattle.questions.proofs.Tests.{contradiction, split, and_intro}
 use Rattle.questions.specs.Lists.{only, present, those}
 use Rattle.questions.specs.Questions.{◌asks◌, refused, given, passes}
 use Rattle.questions.proofs.Answers.{answer-passed, given-passed}
 use Rattle.demand.specs.declared.allocation.View.{View}
-use Rattle.demand.specs.declared.allocation.ShareAnswer.{ShareAnswer}
-use Rattle.demand.specs.declared.allocation.ShareAnswer.TheVariants as share-answer
 use Rattle.hot.specs.declared.hot_set.HotEntry.{HotEntry}
-use Rattle.demand.specs.Allocation.{is_rate, is_floor_factor, is_cluster_size, shared, share_answer, share}
+use Rattle.demand.specs.Allocation.{is_rate, is_floor_factor, is_cluster_size, shared, share}
 use Rattle.demand.specs.Estimators.Estimator.{whole}
 use Rattle.hot.specs.HotSet.Set.{entry, entries, get, is_hot}
 use Rattle.peers.specs.Peers.State.{PeersState}
@@ -29,7 +28,7 @@ use Rattle.peers.specs.Peers.Readers.{total}
 use Rattle.hot.specs.HotSet.Steps.{EntriesReady}
 use Rattle.hot.proofs.HotSet.Words.{length-entries}
 use Rattle.hot.proofs.HotSet.Map.{get_key}
-use Rattle.hot.proofs.HotSet.Table.{nth, nth-is, key-rises, asc-entries, at-within, got-at, got-gap}
+use Rattle.hot.proofs.HotSet.Table.{nth, nth-is, key-rises, asc-entries, at-within, never-unfit, got-at, got-gap}
 use Rattle.limiter.specs.declared.Limiter.{Limiter}
 use Rattle.limiter.specs.declared.Parameters.{Parameters}
 use Rattle.limiter.specs.declared.pass_two.RateTerms.{RateTerms}
@@ -37,16 +36,21 @@ use Rattle.limiter.specs.State.{KeyRecord, float_of, settings_of, key_of, units_
 use Rattle.limiter.specs.Ticks.{Others, no_others, peers_others, is_elsewhere, rate_of, pass_two}
 use Rattle.limiter.specs.Steps.PassTwoSteps.{terms_of, share_by, total_at, hot_rate, cold_rate, rate_by, with_rate, requoted}
 use Rattle.gcra.specs.declared.Units.{Units}
+use Rattle.std.specs.declared.result.Result.{Result}
+use Rattle.std.specs.Result.{result_unwrap_or}
+use Rattle.std.specs.declared.result.Result.TheVariants.{Ok, Err}
+use Rattle.questions.specs.declared.Refusal.{Refusal}
+use Rattle.questions.specs.Refusals.{answer_of, number}
 
 -- ---- the share
 
 -- what `share` answers is the share
-pub share-given : (v : View) (r : ShareAnswer) (x : Float) → share_answer r ≡ share v → r ≡ share-answer.Is x → x ≡ shared v
-share-given v r x e q = (given-passed _ x (shared v) (ap share_answer (sym q) ∙ e)).1
+share-given : (v : View) (r : Result Float Refusal) (x : Float) → answer_of r ≡ share v → r ≡ Ok x → x ≡ shared v
+share-given v r x e q = (given-passed _ x (shared v) (ap answer_of (sym q) ∙ e)).1
 
 -- it is refused nothing that passes 3, 5 and 7
-pub share-never :
-    (v : View) (r : ShareAnswer) (n : ℕ) → share_answer r ≡ share v → r ≡ share-answer.No n → is_rate v.limit ≡ true
+share-never :
+    (v : View) (r : Result Float Refusal) (n : Refusal) → answer_of r ≡ share v → r ≡ Err n → is_rate v.limit ≡ true
     → is_floor_factor v.floor_factor ≡ true
     → is_cluster_size v.cluster_size ≡ true → ⊥
 unfolding passes
@@ -55,9 +59,16 @@ share-never v r n e q a b c =
     let g : given (shared v) ≡ share v =
     answer-passed (shared v) qs (and_intro (is_rate v.limit) _ a
     (and_intro (is_floor_factor v.floor_factor) _ b (and_intro (is_cluster_size v.cluster_size) true c refl))) in
-    let w : refused n ≡ share v = ap share_answer (sym q) ∙ e in
+    let w : refused (number n) ≡ share v = ap answer_of (sym q) ∙ e in
     let z : ◌≡◌ {A = ℕ} 0 1 = cc in
     omega arith
+
+-- so it is given
+pub share-is :
+    (v : View) (r : Result Float Refusal) (x : Float) → answer_of r ≡ share v → is_rate v.limit ≡ true → is_floor_factor v.floor_factor ≡ true
+    → is_cluster_size v.cluster_size ≡ true → result_unwrap_or r x ≡ shared v
+share-is v (Ok y) x e a b c = share-given v (Ok y) y e refl
+share-is v (Err n) x e a b c = absurd (share-never v (Err n) n e refl a b c)
 
 module _ (p : RateTerms) (limit own others : Float) where
   pub share-even : (z : Float) → p.even ≡ true → z ≡ whole p.cluster_size → div binary64 limit z ≡ share_by p limit own others
@@ -155,15 +166,22 @@ module _ (u : Units) (p : RateTerms) (r : List ℕ) (h : ℕ) (hot : List ℕ) (
       (cold_rate p elsewhere (float_of (get_or r 1 0)))) y)
 
   -- one that is not is cold
-  pub rate-absent :
+  gap-rate :
       (i : ℕ) (limit x : Float) → Gap i ≡ find_in 6 1 h (get_or r 0 0) 0 hot → limit ≡ float_of (get_or r 1 0) → x ≡ cold_rate p elsewhere limit
       → x ≡ rate_by p es ts elsewhere (key_of u r)
-  rate-absent i limit x e a q =
+  gap-rate i limit x e a q =
       let y : is_hot (get_or r 0 0) es ≡ false = sym (ap present (got-gap h hot k (get_or r 0 0) i e)) in
       q
       ∙ ap (cold_rate p elsewhere) a
       ∙ sym (rate-by ∙ ap (λ (c : Bool). cond c (hot_rate p (float_of (get_or r 1 0)) (float_of (get_or r 3 0)) (total_at (get_or r 0 0) es ts))
       (cold_rate p elsewhere (float_of (get_or r 1 0)))) y)
+
+  pub rate-absent :
+      (f : Found) (limit x : Float) → ((i : ℕ) → f ≡ At i → ⊥) → f ≡ find_in 6 1 h (get_or r 0 0) 0 hot → limit ≡ float_of (get_or r 1 0)
+      → x ≡ cold_rate p elsewhere limit → x ≡ rate_by p es ts elsewhere (key_of u r)
+  rate-absent (At i) limit x n e a q = absurd (n i refl)
+  rate-absent (Gap i) limit x n e a q = gap-rate i limit x e a q
+  rate-absent Unfit limit x n e a q = never-unfit h hot k (get_or r 0 0) e
 
 -- ---- the rates that a tick gives
 module _ (par : Parameters) (l : Limiter) (even : Bool) (o : Others) (now n : ℕ) (es : List HotEntry) (ts : List Float)

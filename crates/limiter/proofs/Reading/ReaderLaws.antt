@@ -1,14 +1,13 @@
 -- Laws: what the readers and `set_cap` answer once questions 1 and 2 are passed.
 use Prim.Native.Nat.{ℕ, ◌≤◌}
 use mathlib.Core.Path.{◌≡◌, refl, sym, ap, ◌∙◌}
-use mathlib.Core.Bool.{Bool, true, false, cond, not, ◌&&◌}
+use mathlib.Core.Bool.{Bool, true}
 use mathlib.Core.List.{List, [], ◌∷◌}
-use mathlib.Core.Option.{none, some}
 use native.Mathlib.Omega.{arith}
 use borrow.Author.Tests.{le-leb}
 use lib.Dec.{eqb}
-use lib.Ieee.{Float, eq, is_nan}
-use Rattle.questions.proofs.Tests.{contradiction, both, and_intro}
+use lib.Ieee.{Float}
+use Rattle.questions.proofs.Tests.{both, and_intro}
 use Rattle.questions.specs.Questions.{given, answer, passes, first_no}
 use Rattle.questions.proofs.Answers.{answer-passed}
 use Rattle.hot.specs.declared.hot_set.HotSet.{HotSet}
@@ -17,12 +16,9 @@ use Rattle.hot.specs.HotSet.Calls.{ask_set}
 use Rattle.hot.proofs.HotSet.Theorems.{ready-valid}
 use Rattle.questions.specs.Lists.{all, first, those}
 use Rattle.questions.proofs.OnlyLaws.{all-only}
-use Rattle.limiter.specs.declared.Cap.{Cap}
 use Rattle.limiter.specs.declared.Limiter.{Limiter}
 use Rattle.limiter.specs.declared.key_record.KeyState.{KeyState}
-use Rattle.limiter.specs.declared.readers.TrackedKey.{TrackedKey}
-use Rattle.limiter.specs.declared.readers.TrackedKey.TheVariants as tracked-key
-use Rattle.limiter.specs.State.{KeyRecord, LimiterTables, lengths, is_f64, cap_of, cap_from, key_with, state_of, valid_key, value_of, units_in}
+use Rattle.limiter.specs.State.{KeyRecord, LimiterTables, lengths, key_with, state_of, valid_key, value_of, units_in}
 use Rattle.limiter.specs.Checks.{stored_cap, set_cap}
 use Rattle.limiter.specs.Readers.{of_key, told}
 use Rattle.limiter.specs.Calls.{here, state_questions}
@@ -31,29 +27,11 @@ use Rattle.limiter.specs.Steps.CheckSteps.{Ready, keys_in}
 use Rattle.limiter.specs.Steps.ReaderSteps.{with_cap, key_found}
 use Rattle.limiter.proofs.States.StateValidLaws.{sizes-say}
 use Rattle.limiter.proofs.States.WrittenLaws.{room_says}
-use Rattle.limiter.proofs.Validity.SettingsLaws.{not-nan}
-use Rattle.limiter.proofs.Checking.LiftLaws.{Passed, passed, facts, cap-forth, tick-forth, keys-counted, hot-counted, shadows-counted}
+use Rattle.limiter.proofs.Checking.LiftLaws.{Passed, passed, facts, keys-counted, hot-counted, shadows-counted}
 use Rattle.limiter.proofs.Checking.ReadyLaws.{lent-hot}
-
--- ---- a cap
-
--- not NaN: as it is
-pub cap-kept : (x : Float) → is_f64 x ≡ true → eq x x ≡ true → some x ≡ stored_cap (some x)
-cap-kept x f e = by (is_f64 x) (is_nan x) (sym (not-nan x f) ∙ e)
-  where
-    by : (b n : Bool) → (b && not n) ≡ true → some x ≡ cond n none (some x)
-    by true false h = refl
-    by true true h = contradiction (sym h)
-    by false n h = contradiction (sym h)
-
--- NaN: none
-pub cap-dropped : (x : Float) → is_f64 x ≡ true → eq x x ≡ false → none ≡ stored_cap (some x)
-cap-dropped x f e = by (is_f64 x) (is_nan x) f (sym (not-nan x f) ∙ e)
-  where
-    by : (b n : Bool) → b ≡ true → (b && not n) ≡ false → none ≡ cond n none (some x)
-    by true true q h = refl
-    by true false q h = contradiction h
-    by false n q h = contradiction (sym q)
+use Rattle.std.specs.declared.option.Option.{Option}
+use Rattle.std.specs.Option.{MatchOption, IsSomeAnd}
+use Rattle.std.specs.declared.option.Option.TheVariants.{None, Some}
 
 -- ---- past questions 1 and 2
 
@@ -62,13 +40,13 @@ pub past : (l : Limiter) (t : LimiterTables) (m : ℕ) → m ≡ first_no (state
 past l t m e z = passed l t [] m tt e z
 
 -- the first of a list where all pass
-pub all_first : {A : Type 0} (p : A → Bool) (xs : List A) (x : A) → all p xs ≡ true → some x ≡ first xs → p x ≡ true
+pub all_first : {A : Type 0} (p : A → Bool) (xs : List A) (x : A) → all p xs ≡ true → Some x ≡ first xs → p x ≡ true
 unfolding all
 all_first p [] x a e = let z : ◌≡◌ {A = ℕ} 0 1 = cc in absurd (omega arith)
 all_first p (y ∷ ys) x a e = let q : x ≡ y = cc in ap p q ∙ (both (p y) (all p ys) a).0
 
 -- a key that is found is valid
-pub found-valid : (l : Limiter) (xs : List ℕ) → Ready l xs → (key : ℕ) (r : TrackedKey) → key_found r ≡ key_with key (keys_in l xs) → (k : KeyState) → r ≡ tracked-key.Is k → valid_key (units_in l) (key_record k) ≡ true
+pub found-valid : (l : Limiter) (xs : List ℕ) → Ready l xs → (key : ℕ) (r : Option KeyState) → key_found r ≡ key_with key (keys_in l xs) → (k : KeyState) → r ≡ Some k → valid_key (units_in l) (key_record k) ≡ true
 unfolding those
 found-valid l xs h key r e k q =
     all_first (valid_key (units_in l)) _ (key_record k) (all-only (valid_key (units_in l)) (λ (x : KeyRecord). eqb x.key key) (keys_in l xs) h.good) (ap key_found (sym q) ∙ e)
@@ -79,16 +57,17 @@ module _ (l : Limiter) (t : LimiterTables) (p : Passed l t []) where
   tells x a e = ap given e ∙ answer-passed a (state_questions l t) p.all
 
   -- ---- a key
-  module _ (key : ℕ) (r : TrackedKey) (e : key_found r ≡ key_with key (keys_in l t.keys)) where
-    -- of one that is found
-    pub tells-key : {A : Type 0} (f : KeyRecord → A) (k : KeyState) → r ≡ tracked-key.Is k → (x : A) → x ≡ f (key_record k) → given (some x) ≡ answer (state_questions l t) (told f key (here l t))
+  module _ (key : ℕ) (r : Option KeyState) (e : key_found r ≡ key_with key (keys_in l t.keys)) where
+    -- what the reader makes of the key that was found, if there is one
+    pub tells-made : {A : Type 0} (f : KeyRecord → A) (m : Option A) → MatchOption r (m ≡ None) (λ k. IsSomeAnd m (λ x. x ≡ f (key_record k)))
+        → given m ≡ answer (state_questions l t) (told f key (here l t))
     unfolding state_of
-    tells-key f k q x h = tells (some x) (told f key (here l t)) (ap some h ∙ ap (of_key f) (ap key_found (sym q) ∙ e))
-
-    -- of one that is not
-    pub tells-untracked : {A : Type 0} (f : KeyRecord → A) → r ≡ tracked-key.Untracked → given none ≡ answer (state_questions l t) (told f key (here l t))
-    unfolding state_of
-    tells-untracked f q = tells none (told f key (here l t)) (ap (of_key f) (ap key_found (sym q) ∙ e))
+    tells-made f m h = tells m (told f key (here l t)) (by f r m h ∙ ap (of_key f) e)
+      where
+        by : {A : Type 0} (f : KeyRecord → A) (r : Option KeyState) (m : Option A) → MatchOption r (m ≡ None) (λ k. IsSomeAnd m (λ x. x ≡ f (key_record k))) → m ≡ of_key f (key_found r)
+        by f None m h = h
+        by f (Some k) (Some x) h = ap Some h
+        by f (Some k) None h = absurd h
 
   -- ---- the hot set
 
@@ -116,13 +95,13 @@ module _ (l : Limiter) (t : LimiterTables) (p : Passed l t []) where
   tells_hot a = sym (answer-passed a (ask_set set_of t.hot) hot-passes) ∙ tells a a refl
 
   -- ---- the value with another cap
-  pub cap-set : (x y : Cap) → cap_of y ≡ stored_cap (cap_of x) → with_cap l y ≡ value_of (set_cap (cap_of x) (here l t))
+  pub cap-set : (x y : Option Float) → y ≡ stored_cap x → with_cap l y ≡ value_of (set_cap x (here l t))
   unfolding state_of
   cap-set x y e =
       (λ i. record {
         config = l.config;
-        cap = (sym (cap-forth y) ∙ ap cap_from e) i;
-        last_tick = sym (tick-forth l.last_tick) i;
+        cap = e i;
+        last_tick = l.last_tick;
         keys = sym (keys-counted l t p.room p.ok) i;
         hot = sym (hot-counted l t p.room p.ok) i;
         shadows = sym (shadows-counted l t p.room p.ok) i;

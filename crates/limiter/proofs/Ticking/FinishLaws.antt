@@ -15,10 +15,9 @@ use Rattle.hot.specs.HotSet.Set.{entries}
 use Rattle.questions.specs.Lists.{all, only}
 use Rattle.records.specs.Typed.{Tabled}
 use Rattle.questions.proofs.OnlyLaws.{all-only, length-only}
-use Rattle.limiter.specs.declared.LastTick.TheVariants.{At}
+use Rattle.limiter.specs.declared.pass_two.RateTerms.{RateTerms}
 use Rattle.limiter.specs.declared.Limiter.{Limiter}
-use Rattle.limiter.specs.State.{KeyRecord, cap_of, is_tracked, key_words, valid_key, units_in, settings_of, key_of}
-use Rattle.limiter.specs.Checks.{cap_or_none}
+use Rattle.limiter.specs.State.{KeyRecord, is_tracked, key_words, valid_key, units_in, settings_of, key_of}
 use Rattle.limiter.specs.Steps.TickSteps.{key_records, stays_under, LentKeys, shadow_key}
 use Rattle.limiter.specs.Steps.PassTwoSteps.{terms_of, requoted, Finishing, keys_left, shadows_left, Finished}
 use Rattle.limiter.proofs.States.KeyListLaws.{rising, rising-only}
@@ -28,6 +27,7 @@ use Rattle.limiter.proofs.States.WrittenLaws.{key-long}
 use Rattle.limiter.proofs.Walking.CapLaws.{cap-leaves}
 use Rattle.limiter.proofs.PassTwo.QuotaLaws.{requoted-many, requoted-rising, requoted-valid}
 use Rattle.limiter.proofs.PassOne.LentKeyLaws.{lent-rise, lent-are, lent_of}
+use Rattle.std.specs.declared.option.Option.TheVariants.{Some}
 
 -- valid keys that ascend, written to a table's front, stand there
 lent-as :
@@ -73,23 +73,11 @@ module _ (l : Limiter) (keys : List ℕ) (n : ℕ) (hot : List ℕ) (h : ℕ) (s
   set-fits : length set * 22 ≤ length keys
   set-fits = omega (arith, set-many, f.keys_lent.fit)
 
-  -- by a cap that is worked out
+  -- by terms that are worked out
   pub set-as :
-      (keys₂ : List ℕ) (x : Float) → x ≡ cap_or_none (cap_of l.cap)
-      → keys₂ ≡ table (map (key_words u) (requoted u (record {
-        even = even;
-        alpha = l.config.alpha;
-        floor_factor =
-            l.config.floor_factor;
-        cap = x;
-        cluster_size = size;
-      }) es totals now flags ks)) keys
+      (keys₂ : List ℕ) (p : RateTerms) → p ≡ terms_of l even size → keys₂ ≡ table (map (key_words u) (requoted u p es totals now flags ks)) keys
       → keys₂ ≡ table (map (key_words u) set) keys
-  set-as keys₂ x q e =
-      e
-      ∙ ap (λ (y : Float). table (map (key_words u) (requoted u
-      (record { even = even; alpha = l.config.alpha; floor_factor = l.config.floor_factor; cap = y; cluster_size = size }) es totals now
-      flags ks)) keys) q
+  set-as keys₂ p q e = e ∙ ap (λ (x : RateTerms). table (map (key_words u) (requoted u x es totals now flags ks)) keys) q
 
   -- quotas are set
   module _ (keys₂ : List ℕ) (e : keys₂ ≡ table (map (key_words u) set) keys) where
@@ -139,7 +127,7 @@ module _ (l : Limiter) (keys : List ℕ) (n : ℕ) (hot : List ℕ) (h : ℕ) (s
       pub finished :
           (j : ℕ) (shadows₂ : List ℕ) → Tabled j (only (λ (x : List ℕ). is_tracked (key_records u m keys₃) (shadow_key u x))
           (records 4 l.shadows shadows)) shadows shadows₂
-          → Finished l keys es h shadows set now (record { config = l.config; cap = l.cap; last_tick = At now; keys = m; hot = h; shadows = j })
+          → Finished l keys es h shadows set now (record { config = l.config; cap = l.cap; last_tick = Some now; keys = m; hot = h; shadows = j })
           keys₃ shadows₂
       finished j shadows₂ s =
           let q : only (λ (x : List ℕ). is_tracked (key_records u m keys₃) (shadow_key u x)) (records 4 l.shadows shadows) ≡ shadows_left l left shadows =
@@ -149,7 +137,7 @@ module _ (l : Limiter) (keys : List ℕ) (n : ℕ) (hot : List ℕ) (h : ℕ) (s
                 (λ i. record {
                   config = l.config;
                   cap = l.cap;
-                  last_tick = At now;
+                  last_tick = Some now;
                   keys = left-many i;
                   hot = h;
                   shadows =

@@ -13,7 +13,6 @@ use Rattle.questions.proofs.Tests.{contradiction, both}
 use Rattle.questions.specs.Questions.{Question, passes, first_no}
 use Rattle.questions.proofs.Answers.{answer-passed, answer-no, changed-passed, kept-no, not-passed}
 use Rattle.hot.specs.declared.hot_set.HotEntry.{HotEntry}
-use Rattle.peers.specs.declared.peer_demand.ChangeAnswer.TheVariants.{No, Done}
 use Rattle.demand.specs.Allocation.{is_cluster_size}
 use Rattle.hot.specs.HotSet.Set as hot-set
 use Rattle.hot.specs.HotSet.Set.{entries, is_hot}
@@ -22,7 +21,6 @@ use Rattle.hot.proofs.HotSet.Table.{table_same}
 use Rattle.questions.proofs.OnlyLaws.{length-only, map-only}
 use Rattle.questions.proofs.ListLaws.{map-map}
 use Rattle.records.proofs.Tables.TypedLaws.{words-of-exact, written-again, past-written, length-written}
-use Rattle.limiter.specs.declared.LastTick.TheVariants.{At}
 use Rattle.limiter.specs.declared.Limiter.{Limiter}
 use Rattle.limiter.specs.declared.Parameters.{Parameters}
 use Rattle.limiter.specs.declared.pass_one.Passed.{Passed}
@@ -36,9 +34,14 @@ use Rattle.limiter.proofs.States.StateValidLaws.{sizes-say, ValidState, few-shad
 use Rattle.limiter.proofs.States.WrittenLaws.{key-long, shadow-long}
 use Rattle.limiter.proofs.Walking.CapLaws.{capped_is, only-exact}
 use Rattle.limiter.proofs.Checking.ReadyLaws.{few_keys, lent-shadows}
-use Rattle.limiter.proofs.Checking.LiftLaws.{cap-forth, facts, keys-counted, shadows-counted, shadows-exact}
+use Rattle.limiter.proofs.Checking.LiftLaws.{facts, keys-counted, shadows-counted, shadows-exact}
 use Rattle.limiter.proofs.PassTwo.QuotaLaws.{requoted-many}
 use Rattle.limiter.proofs.PassTwo.RateLaws.{requoted-is}
+use Rattle.std.specs.declared.option.Option.TheVariants.{Some}
+use Rattle.std.specs.declared.result.Result.TheVariants.{Ok, Err}
+use Rattle.questions.specs.Refusals.{number}
+use Rattle.questions.proofs.RefusalLaws.{number-nonzero}
+use Rattle.questions.specs.declared.Refusal.{Refusal}
 
 -- past more words than those past which two lists agree, they agree
 drop_more : (a b : ℕ) (xs ys : List ℕ) → a ≤ b → drop a xs ≡ drop a ys → drop b xs ≡ drop b ys
@@ -145,8 +148,8 @@ module _ (l : Limiter) (t : LimiterTables) (room : have_room l.config (lengths t
           f.value
           ∙ (λ i. record {
             config = l.config;
-            cap = sym (cap-forth l.cap) i;
-            last_tick = At now;
+            cap = l.cap;
+            last_tick = Some now;
             keys = length (left_is i);
             hot = h.hot_count i;
             shadows = (shadow-count ∙ ap length shadows-are) i;
@@ -253,7 +256,7 @@ module _ (l : Limiter) (t : LimiterTables) (room : have_room l.config (lengths t
 pub ticking-done :
     (qs : List Question) (after : LimiterState) (l : Limiter) (t : LimiterTables) (r : Limiter) (t' : LimiterTables) → passes qs ≡ true
     → Ticked after t r t'
-    → Ticking qs after l t (record { answer = Done; limiter = r }) t'
+    → Ticking qs after l t (record { answer = (Ok tt); limiter = r }) t'
 ticking-done qs after l t r t' e h =
     record {
       answered = answer-passed tt qs e;
@@ -264,9 +267,11 @@ ticking-done qs after l t r t' e h =
 
 -- a 'no' changes nothing
 pub ticking-no :
-    (qs : List Question) (after : LimiterState) (l : Limiter) (t : LimiterTables) (m : ℕ) → m ≡ first_no qs → (m ≡ 0 → ⊥)
-    → Ticking qs after l t (record { answer = No m; limiter = l }) t
-ticking-no qs after l t m e z =
+    (qs : List Question) (after : LimiterState) (l : Limiter) (t : LimiterTables) (x : Refusal) → number x ≡ first_no qs
+    → Ticking qs after l t (record { answer = Err x; limiter = l }) t
+ticking-no qs after l t x e =
+    let m = number x in
+    let z = number-nonzero x in
     record {
       answered = answer-no tt qs m e z;
       limiter = kept-no (value_of after) l qs m e z;

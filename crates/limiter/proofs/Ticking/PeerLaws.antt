@@ -17,7 +17,6 @@ use Rattle.questions.specs.Questions.{passes}
 use Rattle.questions.proofs.Answers.{changed-passed}
 use Rattle.hot.specs.declared.hot_set.HotEntry.{HotEntry}
 use Rattle.peers.specs.declared.peer_demand.PeerDemand.{PeerDemand}
-use Rattle.peers.specs.declared.peer_demand.ChangeAnswer.{ChangeAnswer}
 use Rattle.demand.specs.Allocation.{is_cluster_size}
 use Rattle.hot.specs.HotSet.Set.{entry, entries}
 use Rattle.peers.specs.Peers.State as peer-state
@@ -31,6 +30,8 @@ use Rattle.limiter.specs.Checks.{cluster_questions}
 use Rattle.limiter.specs.Calls.{both_questions}
 use Rattle.limiter.specs.Steps.TickSteps.{key_records}
 use Rattle.gcra.specs.declared.Units.{Units}
+use Rattle.std.specs.declared.result.Result.{Result}
+use Rattle.questions.specs.declared.Refusal.{Refusal}
 
 -- ---- questions that passed
 
@@ -81,7 +82,7 @@ module _ (p : PeerDemand) (pt : PeerTables) (ok : passes (peers_questions p pt) 
   -- of each of n records
   each-told :
       {A :
-      Type 0} (tell : ℕ → PeersState → A) (w n : ℕ) (keys : List ℕ) (out : List A) (r : ChangeAnswer) (out' : List A)
+      Type 0} (tell : ℕ → PeersState → A) (w n : ℕ) (keys : List ℕ) (out : List A) (r : Result Unit Refusal) (out' : List A)
       → TellsEach tell p pt w n keys out r out' → 0 < w → n * w ≤ length keys → n ≤ length out
       → take n out' ≡ map (λ (x : List ℕ). tell (get_or x 0 0) state) (records w n keys)
   unfolding passes fits told
@@ -97,7 +98,7 @@ module _ (p : PeerDemand) (pt : PeerTables) (ok : passes (peers_questions p pt) 
 
   -- the flags of the keys
   pub told-elsewhere :
-      (u : Units) (n : ℕ) (keys : List ℕ) (out : List Bool) (r : ChangeAnswer) (out' : List Bool) → TellsEach hot_elsewhere p pt 22 n keys out r out'
+      (u : Units) (n : ℕ) (keys : List ℕ) (out : List Bool) (r : Result Unit Refusal) (out' : List Bool) → TellsEach hot_elsewhere p pt 22 n keys out r out'
       → n * 22 ≤ length keys → n ≤ length out → take n out' ≡ map (λ (k : KeyRecord). hot_elsewhere k.key state) (key_records u n keys)
   unfolding key_of
   told-elsewhere u n keys out r out' e h g =
@@ -106,7 +107,7 @@ module _ (p : PeerDemand) (pt : PeerTables) (ok : passes (peers_questions p pt) 
 
   -- the totals of the hot keys
   pub told-totals :
-      (n : ℕ) (hot : List ℕ) (out : List Float) (r : ChangeAnswer) (out' : List Float) → TellsEach total p pt 6 n hot out r out'
+      (n : ℕ) (hot : List ℕ) (out : List Float) (r : Result Unit Refusal) (out' : List Float) → TellsEach total p pt 6 n hot out r out'
       → n * 6 ≤ length hot → n ≤ length out → take n out' ≡ map (λ (x : HotEntry). total x.key state) (entries n hot)
   unfolding entry entries
   told-totals n hot out r out' e h g =

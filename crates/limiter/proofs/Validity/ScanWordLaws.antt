@@ -3,7 +3,6 @@ use Prim.Native.Nat.{ℕ, ◌<◌}
 use mathlib.Core.Path.{◌≡◌, refl, sym, ap, ◌∙◌}
 use mathlib.Core.Bool.{Bool, true, false, true≢false, cond, ◌&&◌, and-true, and_assoc, and_comm}
 use mathlib.Core.List.{List, [], ◌∷◌}
-use mathlib.Core.Option.{Option, none, some}
 use native.Mathlib.Nat.{pos_of_ne-zero}
 use native.Mathlib.Omega.{arith}
 use borrow.Author.Tests.{ltb-true, lt-ltb, le-ltb, eq-eqb, ne_eqb}
@@ -28,7 +27,7 @@ use Rattle.records.proofs.Words.FieldLaws.{time-words}
 use Rattle.records.proofs.Tables.TypedLaws.{exact-words}
 use Rattle.hot.proofs.HotSet.Words.{bits_back}
 use Rattle.records.proofs.Tables.ScanLaws.{four-words, words-4, words-6, PassIs}
-use Rattle.limiter.specs.State.{float_word, float_of, is_f64, tat_time, tat_from, key_words, key_of, valid_limit, valid_key, shadow_words, shadow_of, valid_shadow}
+use Rattle.limiter.specs.State.{float_word, float_of, is_f64, key_words, key_of, valid_limit, valid_key, shadow_words, shadow_of, valid_shadow}
 use Rattle.limiter.specs.Steps.Scan.{is_limit, are_rates, is_meter, are_key_words, are_shadow_words, are_words}
 use Rattle.gcra.proofs.Packed.PackedWords.{word-is}
 
@@ -81,15 +80,11 @@ rate-word w =
 pub word_fits : (w : ℕ) → is_f64 (float_of w) ≡ true
 word_fits w = is_true (is_f64 (float_of w)) (of_bits-fits binary64 w)
 
-tat-there : (t : Option ℕ) → tat_time (tat_from t) ≡ t
-tat-there none = refl
-tat-there (some t) = refl
-
 abbrev tat_words : ℕ → ℕ → List ℕ
-tat_words flag tat = time_words (tat_time (tat_from (time_of flag tat)))
+tat_words flag tat = time_words (time_of flag tat)
 
 tat-words : (flag tat : ℕ) → same (tat_words flag tat) (flag ∷ tat ∷ []) ≡ is_time flag tat
-tat-words flag tat = ap (λ (t : Option ℕ). same (time_words t) (flag ∷ tat ∷ [])) (tat-there (time_of flag tat)) ∙ time-words flag tat
+tat-words flag tat = time-words flag tat
 
 same-words : (u : Units) (key packed flag tat : ℕ) → same (shadow_words u (shadow_of u (key ∷ packed ∷ flag ∷ tat ∷ []))) (key ∷ packed ∷ flag ∷ tat ∷ []) ≡ (eqb (pack u (unpack u packed)) packed && same (tat_words flag tat) (flag ∷ tat ∷ []))
 unfolding same shadow_words shadow_of

@@ -146,6 +146,11 @@ room_says l t e v =
       shadows = omega (arith, leb-true (4 * min c.table_size 4096) (length t.shadows) h.1);
     }
 
+-- the keys that hot entries and shadows are looked up in
+pub keys-lent : (l : Limiter) (t : LimiterTables) → have_room l.config (lengths t) ≡ true → valid_settings (settings_of l) ≡ true
+    → are_keys (units_in l) l.config.table_size (records 22 l.keys t.keys) ≡ true → KeysReady l.keys t.keys
+keys-lent l t room v e = keys-ready (units_in l) l.config.table_size l.keys t.keys (room_says l t room v).keys e
+
 -- ---- question 2
 by-table : (ek eh es s vk vh vs : Bool) → ((ek && (eh && es)) && (s && (vk && (vh && vs)))) ≡ (s && ((ek && vk) && ((eh && vh) && (es && vs))))
 by-table ek eh es s vk vh vs = simp (and_assoc, and_left)

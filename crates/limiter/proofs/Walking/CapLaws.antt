@@ -24,9 +24,6 @@ use Rattle.questions.proofs.Tests.{split, same_truth}
 use Rattle.questions.specs.Questions.{refused, given}
 use Rattle.questions.proofs.Answers.{alone-yes, given-passed}
 use Rattle.demand.specs.declared.demand.Demand.{Demand}
-use Rattle.demand.specs.declared.demand.Times.TheVariants as times
-use Rattle.demand.specs.declared.demand.RateAnswer.{RateAnswer}
-use Rattle.demand.specs.declared.demand.RateAnswer.TheVariants as rate-answer
 use Rattle.hot.specs.declared.hot_set.HotEntry.{HotEntry}
 use Rattle.demand.specs.Estimators.Estimator.{whole, alpha, unbiased, unbiased_from}
 use Rattle.demand.specs.Estimators.Calls as estimator-calls
@@ -49,6 +46,11 @@ use Rattle.limiter.proofs.States.StateValidLaws.{key_of_key}
 use Rattle.limiter.proofs.Walking.FlagLaws.{kept_by}
 use Rattle.limiter.proofs.Walking.RankLaws.{ranked, staying-says}
 use Rattle.gcra.specs.declared.Units.{Units}
+use Rattle.std.specs.declared.option.Option.TheVariants.{Some}
+use Rattle.std.specs.declared.result.Result.{Result}
+use Rattle.std.specs.declared.result.Result.TheVariants.{Ok, Err}
+use Rattle.questions.specs.declared.Refusal.{Refusal}
+use Rattle.questions.specs.Refusals.{answer_of, number}
 
 -- ---- hot keys
 
@@ -58,6 +60,12 @@ is_at (At i) = true
 is_at (Gap i) = false
 is_at Unfit = false
 
+-- and one that did not
+pub not-at : (f : Found) → ((i : ℕ) → f ≡ At i → ⊥) → false ≡ is_at f
+not-at (At i) h = absurd (h i refl)
+not-at (Gap i) h = refl
+not-at Unfit h = refl
+
 pub hot-found : (h : ℕ) (hot : List ℕ) (key : ℕ) → EntriesReady h hot → (f : Found) → f ≡ find_in 6 1 h key 0 hot → is_at f ≡ is_hot key (entries h hot)
 hot-found h hot key k (At i) e = ap present (got-at h hot k key i e)
 hot-found h hot key k (Gap i) e = ap present (got-gap h hot k key i e)
@@ -65,20 +73,20 @@ hot-found h hot key k Unfit e = never-unfit h hot k key e
 
 -- ---- unbiased rates
 
-pub rate-given : (d : Demand) (r : RateAnswer) (x : Float) → estimator-calls.rate_answer r ≡ estimator-calls.unbiased_rate d → r ≡ rate-answer.Is x → x ≡ unbiased d
-rate-given d r x e q = (given-passed (estimator-calls.ask d) x (unbiased d) (ap estimator-calls.rate_answer (sym q) ∙ e)).1
+pub rate-given : (d : Demand) (r : Result Float Refusal) (x : Float) → answer_of r ≡ estimator-calls.unbiased_rate d → r ≡ Ok x → x ≡ unbiased d
+rate-given d r x e q = (given-passed (estimator-calls.ask d) x (unbiased d) (ap answer_of (sym q) ∙ e)).1
 
-pub rate-never : (d : Demand) (r : RateAnswer) (n : ℕ) → estimator-calls.rate_answer r ≡ estimator-calls.unbiased_rate d → r ≡ rate-answer.No n → magnitude d.current_rate ≡ true → ⊥
+pub rate-never : (d : Demand) (r : Result Float Refusal) (n : Refusal) → answer_of r ≡ estimator-calls.unbiased_rate d → r ≡ Err n → magnitude d.current_rate ≡ true → ⊥
 rate-never d r n e q m =
-    let a : refused n ≡ estimator-calls.unbiased_rate d = ap estimator-calls.rate_answer (sym q) ∙ e in
+    let a : refused (number n) ≡ estimator-calls.unbiased_rate d = ap answer_of (sym q) ∙ e in
     let g : given (unbiased d) ≡ estimator-calls.unbiased_rate d = alone-yes 2 (unbiased d) m in
     let z : ◌≡◌ {A = ℕ} 0 1 = cc in
     omega arith
 
 -- the estimator's unbiased rate, by the word of its rate
-pub rate-of : (c rate last since : ℕ) (x : Float) → x ≡ of_bits binary64 rate → unbiased (record { current_rate = x; attempts_since_tick = 0; times = times.At last since; time_constant = c }) ≡ unbiased_rate c (record { rate = float_of rate; attempts = 0; last = last; since = since })
+pub rate-of : (c rate last since : ℕ) (x : Float) → x ≡ of_bits binary64 rate → unbiased (record { current_rate = x; attempts_since_tick = 0; times = Some (record { last_tick = last; since = since }); time_constant = c }) ≡ unbiased_rate c (record { rate = float_of rate; attempts = 0; last = last; since = since })
 unfolding unbiased_rate
-rate-of c rate last since x e = ap (λ (y : Float). unbiased (record { current_rate = y; attempts_since_tick = 0; times = times.At last since; time_constant = c })) e
+rate-of c rate last since x e = ap (λ (y : Float). unbiased (record { current_rate = y; attempts_since_tick = 0; times = Some (record { last_tick = last; since = since }); time_constant = c })) e
 
 -- every unbiased rate is an f64
 rate-fits : (c : ℕ) (e : Estimate) → T (fits binary64 (unbiased_rate c e))

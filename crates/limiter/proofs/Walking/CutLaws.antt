@@ -1,16 +1,18 @@
 -- Laws: the loops that count ranks below a limit, cut through them, and set a flag for each.
-use mathlib.Core.Path.{◌≡◌, refl, sym, ap, ◌∙◌, subst}
+use mathlib.Core.Path.{◌≡◌, refl, sym, ap, ◌∙◌}
 use mathlib.Core.Bool.{Bool, cond, not, ◌&&◌, ◌||◌}
 use mathlib.Core.List.{List, [], ◌∷◌, ◌++◌, append-nil, append_assoc}
 use Prim.Native.Nat.{ℕ, ◌+◌, ◌-◌, ◌≤◌, ◌<◌}
 use native.Mathlib.Numerals.{add-one}
 use native.Mathlib.Omega.{arith}
-use borrow.Author.Tests.{lt-ltb, le-ltb}
+use borrow.Author.Tests.{le-ltb}
 use lib.Dec.{ltb, eqb, lit<}
 use lib.ListN.{length, take, drop, get_or, set, length-set}
 use lib.Seq.{length-take-le, drop-length, drop-cons, take-suc-set, get_or-take}
-use Rattle.limiter.specs.Steps.TickSteps.{below, Cut, staying, top}
-use Rattle.limiter.proofs.Walking.RankLaws.{count_none, count_yes, count_no}
+use Rattle.std.specs.List.{filter}
+use Rattle.questions.specs.Lists.{only}
+use Rattle.limiter.specs.Steps.TickSteps.{below, staying, top}
+use Rattle.limiter.proofs.Walking.RankLaws.{count_none, count_no}
 
 -- ---- a list filled from its front
 fill_step : {A : Type 0} (t : List A) (i : ℕ) (v : A) (rest gs : List A) → i < length t → take i t ++ (v ∷ rest) ≡ gs → take (i + 1) (set t i v) ++ rest ≡ gs
@@ -43,6 +45,12 @@ fill-all {n = n} {t = t} {i = i} k h e =
     let z : n ≡ i = omega (arith, k.within) in
     ap (λ (m : ℕ). take m t) z ∙ sym (append-nil (take i t)) ∙ ap (λ zs. take i t ++ zs) (sym e) ∙ k.made
 
+-- std's filter
+pub filter-only : {A : Type 0} (p : A → Bool) (xs : List A) → filter p xs ≡ only p xs
+unfolding only
+filter-only p [] = refl
+filter-only p (x ∷ xs) = ap (λ zs. cond (p x) (x ∷ zs) zs) (filter-only p xs)
+
 -- ---- the first n ranks
 module _ (n : ℕ) (ws : List ℕ) (h : n ≤ length ws) where
   abbrev used : List ℕ
@@ -55,24 +63,6 @@ module _ (n : ℕ) (ws : List ℕ) (h : n ≤ length ws) where
 
   none-used : (i : ℕ) → i ≤ n → n ≤ i → drop i used ≡ []
   none-used i l k = let z : i ≡ length used = omega (arith, length-take-le n ws h) in ap (λ (m : ℕ). drop m used) z ∙ drop-length used
-
-  -- ---- counting
-  module _ (limit : ℕ) where
-    abbrev less : ℕ → Bool
-    less w = ltb w limit
-
-    pub count-more : (i count : ℕ) → i < n → count + below limit (drop i used) ≡ below limit used → get_or ws i 0 < limit → count + 1 + below limit (drop (i + 1) used) ≡ below limit used
-    count-more i count k e l =
-        let a = ap (below limit) (next-used i k) ∙ count_yes less (get_or ws i 0) (drop (i + 1) used) (lt-ltb (get_or ws i 0) limit l) in
-        omega (arith, e, a)
-
-    pub count_same : (i count : ℕ) → i < n → count + below limit (drop i used) ≡ below limit used → limit ≤ get_or ws i 0 → count + below limit (drop (i + 1) used) ≡ below limit used
-    count_same i count k e l =
-        let a = ap (below limit) (next-used i k) ∙ count_no less (get_or ws i 0) (drop (i + 1) used) (le-ltb (get_or ws i 0) limit l) in
-        omega (arith, e, a)
-
-    pub count-all : (i count : ℕ) → i ≤ n → n ≤ i → count + below limit (drop i used) ≡ below limit used → count ≡ below limit used
-    count-all i count l k e = omega (arith, e, ap (below limit) (none-used i l k) ∙ count_none less)
 
   -- ---- flags
   module _ (limit room : ℕ) (t₀ : List Bool) where
@@ -102,14 +92,3 @@ pub record Cutting (most : ℕ) (ws : List ℕ) (low high : ℕ) : Type 0 where
 
 pub cut-start : (most : ℕ) (ws : List ℕ) → Cutting most ws 0 top
 cut-start most ws = record { order = lit< tt; within = omega arith; room = omega (arith, below-zero ws); full = λ h. omega arith }
-
-pub cut_up : (most : ℕ) (ws : List ℕ) (low high m : ℕ) → Cutting most ws low high → m < high → below m ws ≤ most → Cutting most ws m high
-cut_up most ws low high m k h r = record { order = h; within = k.within; room = r; full = k.full }
-
-pub cut_down : (most : ℕ) (ws : List ℕ) (low high m : ℕ) → Cutting most ws low high → low < m → m ≤ high → most < below m ws → Cutting most ws low m
-cut_down most ws low high m k h l r = record { order = h; within = omega (arith, k.within); room = k.room; full = λ z. r }
-
-pub cut-done : (most : ℕ) (ws : List ℕ) (low high : ℕ) → Cutting most ws low high → high ≤ low + 1 → Cut top most ws low
-cut-done most ws low high k h =
-    let e : high ≡ low + 1 = omega (arith, k.order) in
-    record { small = omega (arith, k.order, k.within); room = k.room; full = λ z. subst (λ (m : ℕ). most < below m ws) e (k.full (omega arith)) }

@@ -22,11 +22,9 @@ use Rattle.questions.proofs.ListLaws.{all-index, map-map}
 use Rattle.demand.specs.Estimators.Estimator.{alpha, folded_by, ticked_from}
 use Rattle.demand.specs.Estimators.Estimator as estimator
 use Rattle.hot.proofs.HotSet.Words.{bits_back}
-use Rattle.limiter.specs.declared.Parameters.{Parameters}
-use Rattle.limiter.specs.declared.ticks.Alpha.{Alpha}
-use Rattle.limiter.specs.State.{Settings, Estimate, KeyRecord, valid_key, float_of, float_word, estimate_words, estimate_of, key_words, key_of}
-use Rattle.limiter.specs.Ticks.{Others, folded, folded_key}
-use Rattle.limiter.specs.Steps.TickSteps.{key_records, LentKeys, LentKey, folded_for, folded_row, alpha_of, AreAlphas}
+use Rattle.limiter.specs.State.{Estimate, KeyRecord, valid_key, float_of, float_word, estimate_words, estimate_of, key_words, key_of}
+use Rattle.limiter.specs.Ticks.{folded}
+use Rattle.limiter.specs.Steps.TickSteps.{key_records, LentKeys, LentKey, folded_for, folded_row}
 use Rattle.limiter.proofs.States.RecordValidLaws.{held, GoodEstimate}
 use Rattle.limiter.proofs.Walking.RowLaws.{get_d-mapped, Mapping, map-here}
 use Rattle.limiter.proofs.States.WrittenLaws.{key-long}
@@ -215,17 +213,3 @@ folded-at u c d now n xs i h = sym (get_d-mapped (folded_row u c d now) [] [] (r
 pub folded-rows : (u : Units) (c d now n : ℕ) (xs : List ℕ) → map (folded_row u c d now) (records 22 n xs) ≡ map (key_words u) (map (folded_for c d now) (key_records u n xs))
 folded-rows u c d now n xs =
     sym (ap (map (key_words u)) (map-map (folded_for c d now) (key_of u) (records 22 n xs)) ∙ map-map (key_words u) (λ (x : List ℕ). folded_for c d now (key_of u x)) (records 22 n xs))
-
--- as a tick folds them
-pub folded-key-is : (par : Parameters) (s : Settings) (o : Others) (now n : ℕ) (k : KeyRecord) → folded_key par s o now n k ≡ folded_for s.config.demand_time_constant par.denial_time_constant now k
-folded-key-is par s o now n k = refl
-
--- the first alphas
-pub first-alphas : (c d : ℕ) (a b : Alpha) → a ≡ alpha_of 0 c → b ≡ alpha_of 0 d → AreAlphas c d (record { demand = a; denials = b })
-first-alphas c d a b p q =
-    record {
-      demand_for = ap (λ (x : Alpha). x.time_constant) p;
-      demand = p ∙ ap (λ (x : Alpha). alpha_of x.elapsed x.time_constant) (sym p);
-      denials_for = ap (λ (x : Alpha). x.time_constant) q;
-      denials = q ∙ ap (λ (x : Alpha). alpha_of x.elapsed x.time_constant) (sym q);
-    }

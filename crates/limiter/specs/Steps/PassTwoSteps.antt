@@ -13,12 +13,12 @@ use Rattle.hot.specs.HotSet.Set.{is_hot}
 use Rattle.questions.specs.Lists.{only}
 use Rattle.hot.specs.HotSet.Steps.{EntriesReady}
 use Rattle.limiter.specs.declared.Limiter.{Limiter}
-use Rattle.limiter.specs.declared.LastTick.TheVariants.{At}
 use Rattle.limiter.specs.declared.pass_two.RateTerms.{RateTerms}
-use Rattle.limiter.specs.State.{KeyRecord, LimiterState, LimiterTables, cap_of, is_tracked, key_words, value_of, units_in, key_of}
+use Rattle.limiter.specs.State.{KeyRecord, LimiterState, LimiterTables, is_tracked, key_words, value_of, units_in, key_of}
 use Rattle.limiter.specs.Checks.{cap_or_none}
 use Rattle.limiter.specs.Calls.{Holds}
 use Rattle.limiter.specs.Steps.TickSteps.{stays_under, LentKeys, shadow_key}
+use Rattle.std.specs.declared.option.Option.TheVariants.{Some}
 
 -- ---- the rate of a key
 
@@ -29,7 +29,7 @@ terms_of l even n =
       even = even;
       alpha = l.config.alpha;
       floor_factor = l.config.floor_factor;
-      cap = cap_or_none (cap_of l.cap);
+      cap = cap_or_none l.cap;
       cluster_size = n;
     }
 
@@ -120,7 +120,7 @@ pub record Finished (l : Limiter) (keys : List ℕ) (es : List HotEntry) (h : �
       r ≡ record {
         config = l.config;
         cap = l.cap;
-        last_tick = At now;
+        last_tick = Some now;
         keys = length (keys_left l es set);
         hot = h;
         shadows = length (shadows_left l (keys_left l es set) shadows);

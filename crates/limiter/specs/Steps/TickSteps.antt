@@ -3,11 +3,8 @@ use Rattle.std.specs.Prelude.{ℕ, ◌+◌, ◌-◌, ◌*◌, ◌^◌, ◌≤◌
 use Rattle.float.specs.Order.{place}
 use Rattle.records.specs.Records.{records, ascending}
 use Rattle.hot.specs.declared.hot_set.HotEntry.{HotEntry}
-use Rattle.demand.specs.Estimators.Estimator.{alpha}
 use Rattle.hot.specs.HotSet.Set.{is_hot}
 use Rattle.questions.specs.Lists.{all, only}
-use Rattle.limiter.specs.declared.ticks.Alpha.{Alpha}
-use Rattle.limiter.specs.declared.ticks.Alphas.{Alphas}
 use Rattle.limiter.specs.declared.Parameters.{Parameters}
 use Rattle.limiter.specs.State.{Settings, KeyRecord, float_word, float_of, is_tracked, key_words, key_of, shadow_of, valid_key}
 use Rattle.limiter.specs.Ticks.{Others, updated, stays, folded, unbiased_rate, sorted, ranked_before}
@@ -81,20 +78,6 @@ pub record LentKeys (u : Units) (n : ℕ) (xs : List ℕ) : Type 0 where
   pub ascends : ascending 1 (records 22 n xs) ≡ true
 
 -- ---- the fold of a key's estimators
-
--- an alpha with what it was worked out from
-abbrev pub alpha_of : (elapsed c : ℕ) → Alpha
-alpha_of elapsed c = record { elapsed = elapsed; time_constant = c; value = alpha elapsed c }
-
-abbrev pub IsAlpha : Alpha → Type 0
-IsAlpha a = a ≡ alpha_of a.elapsed a.time_constant
-
--- the alphas of both time constants: that of demand, and that of requests and denials
-pub record AreAlphas (c d : ℕ) (a : Alphas) : Type 0 where
-  pub demand_for : a.demand.time_constant ≡ c
-  pub demand : IsAlpha a.demand
-  pub denials_for : a.denials.time_constant ≡ d
-  pub denials : IsAlpha a.denials
 
 -- `folded_key` by what it turns on
 abbrev pub folded_for : (c d now : ℕ) → KeyRecord → KeyRecord

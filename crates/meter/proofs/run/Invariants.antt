@@ -1,9 +1,5 @@
--- `meter::run` ends. The measure is the number of turns that are left.
 use Rattle.std.proofs.Common.{◌≡◌, length}
 use Rattle.meter.proofs.run.Given as goal
 
-abbrev pub invariant-loop-turns : goal.invariant-loop-turns
-invariant-loop-turns g l = (length l.input ≡ length l.initial.input) × (length l.out ≡ length l.initial.out)
-
-abbrev pub decreases-loop-turns : goal.decreases-loop-turns
-decreases-loop-turns g l = l.turns
+abbrev pub invariant-loop : goal.invariant-loop
+invariant-loop g l = length l.input ≡ length l.initial.input

@@ -4,7 +4,6 @@ use mathlib.Core.Path.{◌≡◌, refl, sym, ap, ◌∙◌, subst}
 use native.Mathlib.Omega.{arith}
 use mathlib.Core.Bool.{Bool, true, ◌&&◌}
 use mathlib.Core.List.{List, [], ◌∷◌, ◌++◌}
-use mathlib.Core.Option.{Option, none, some}
 use borrow.Author.Tests.{leb-true}
 use lib.Dec.{leb, lit<}
 use lib.Ieee.{Float}
@@ -20,6 +19,12 @@ use Rattle.limiter.specs.State.{Lengths, have_room}
 use Rattle.nultiway.specs.Values.{limiter_of, is_limiter, limiter_asked, room_asked}
 use Rattle.nultiway.specs.Calls.{Called, Changes, Answers, Tells, number_of, answer_put, decision_words}
 use Rattle.nultiway.specs.LimiterCalls.{cap_given, shadow_given, shadow_words}
+use Rattle.std.specs.declared.option.Option.{Option}
+use Rattle.std.specs.declared.option.Option.TheVariants.{None, Some}
+use Rattle.std.specs.declared.result.Result.{Result}
+use Rattle.std.specs.declared.result.Result.TheVariants.{Ok, Err}
+use Rattle.questions.specs.declared.Refusal.{Refusal}
+use Rattle.questions.specs.Refusals.{asked, answer_of}
 
 pub refused-call : {U X : Type 0} (qs : List Question) (r : ℕ) → r ≡ first_no qs → (r ≡ 0 → ⊥) → U → Called qs r U X
 refused-call qs r e h u = record { refused = λ p. (e, u); answered = λ p. absurd (h (e ∙ none_passed qs p)) }
@@ -126,11 +131,11 @@ module _ {B R A : Type 0} {promise : B → R → Type 0} {said : R → Answer A}
 
 -- ---- arguments with a flag, and the words of decisions
 
-pub cap-set : (flag : ℕ) (x : Float) → (flag ≡ 0 → ⊥) → some x ≡ cap_given flag x
+pub cap-set : (flag : ℕ) (x : Float) → (flag ≡ 0 → ⊥) → Some x ≡ cap_given flag x
 cap-set zero x h = absurd (h refl)
 cap-set (suc flag) x h = refl
 
-pub shadow-set : (flag : ℕ) (l : Limit) → (flag ≡ 0 → ⊥) → some l ≡ shadow_given flag l
+pub shadow-set : (flag : ℕ) (l : Limit) → (flag ≡ 0 → ⊥) → Some l ≡ shadow_given flag l
 shadow-set zero l h = absurd (h refl)
 shadow-set (suc flag) l h = refl
 
@@ -147,9 +152,14 @@ pub traced-apart :
     ∷ get_or (shadow_words x) 2 0
     ∷ []
     ≡ decision_words d ++ shadow_words x
-traced-apart Allow none = refl
-traced-apart Allow (some Allow) = refl
-traced-apart Allow (some (Deny t)) = refl
-traced-apart (Deny u) none = refl
-traced-apart (Deny u) (some Allow) = refl
-traced-apart (Deny u) (some (Deny t)) = refl
+traced-apart Allow None = refl
+traced-apart Allow (Some Allow) = refl
+traced-apart Allow (Some (Deny t)) = refl
+traced-apart (Deny u) None = refl
+traced-apart (Deny u) (Some Allow) = refl
+traced-apart (Deny u) (Some (Deny t)) = refl
+
+-- the number of a result that is no answer yet
+pub number-asked : {A : Type 0} (r : Result A Refusal) → number_of (answer_of r) ≡ asked r
+number-asked (Ok a) = refl
+number-asked (Err x) = refl

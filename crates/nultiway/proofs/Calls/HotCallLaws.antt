@@ -9,13 +9,15 @@ use Rattle.records.specs.Words.{paste}
 use Rattle.records.specs.Fields.{flag_of}
 use Rattle.records.proofs.Words.FieldLaws.{flag_is}
 use Rattle.hot.specs.declared.hot_set.HotSet.{HotSet}
-use Rattle.hot.specs.declared.hot_set.UpdateAnswer.{UpdateAnswer}
 use Rattle.hot.specs.HotSet.Calls.{UpdatedWith}
 use Rattle.nultiway.specs.HotCalls.{hot_set_words, hot_set_left}
+use Rattle.std.specs.declared.result.Result.{Result}
+use Rattle.questions.specs.declared.Refusal.{Refusal}
+use Rattle.hot.specs.declared.hot_set.Updated.{Updated}
 
 -- the words of the set that it leaves, of the set that was read
 pub left-put :
-    (ws : List ℕ) {s s₀ left : HotSet} (x : UpdateAnswer) {ws' : List ℕ}
+    (ws : List ℕ) {s s₀ left : HotSet} (x : Result Updated Refusal) {ws' : List ℕ}
     → s ≡ s₀
     → left ≡ hot_set_left s x
     → ws' ≡ paste 0 (hot_set_words left) ws
@@ -24,7 +26,7 @@ left-put ws x e k w = w ∙ ap (λ (s : HotSet). paste 0 (hot_set_words s) ws) (
 
 -- the flag, as the code reads it
 pub with-flag :
-    {s : HotSet} {xs : List ℕ} {key : ℕ} {demand threshold : Float} {now : ℕ} (flag : ℕ) {x : UpdateAnswer} {ys : List ℕ}
+    {s : HotSet} {xs : List ℕ} {key : ℕ} {demand threshold : Float} {now : ℕ} (flag : ℕ) {x : Result Updated Refusal} {ys : List ℕ}
     → UpdatedWith s xs key demand threshold now (not (eqb flag 0)) x ys
     → UpdatedWith s xs key demand threshold now (flag_of flag) x ys
 with-flag {s} {xs} {key} {demand} {threshold} {now} flag {x} {ys} =

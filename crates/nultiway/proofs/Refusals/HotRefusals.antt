@@ -9,8 +9,6 @@ use Rattle.records.specs.Words.{paste}
 use Rattle.questions.specs.Questions.{Question, passes}
 use Rattle.questions.proofs.Tests.{both}
 use Rattle.hot.specs.declared.hot_set.HotSet.{HotSet}
-use Rattle.hot.specs.declared.hot_set.UpdateAnswer.{UpdateAnswer}
-use Rattle.hot.specs.declared.hot_set.UpdateAnswer.TheVariants.{No, Is}
 use Rattle.hot.specs.HotSet.Set.{update_with}
 use Rattle.hot.specs.HotSet.Calls as hot
 use Rattle.nultiway.specs.Calls.{number_of}
@@ -18,6 +16,11 @@ use Rattle.nultiway.specs.HotCalls.{hot_set_words, hot_set_of, hot_set_left, hot
 use Rattle.nultiway.proofs.Calls.RoomLaws.{both_long}
 use Rattle.nultiway.proofs.Words.HotWordLaws.{hot-set-back}
 use Rattle.nultiway.proofs.Refusals.RefusalLaws.{not-all, no_words, kept, answered-or-not}
+use Rattle.std.specs.declared.result.Result.{Result}
+use Rattle.std.specs.declared.result.Result.TheVariants.{Ok, Err}
+use Rattle.questions.specs.declared.Refusal.{Refusal}
+use Rattle.hot.specs.declared.hot_set.Updated.{Updated}
+use Rattle.questions.specs.Refusals.{answer_of}
 
 -- the set's words are there
 three : (ws answer : List ℕ) → passes (hot_set_answer_asked ws answer 1) ≡ true → 3 ≤ length ws
@@ -25,9 +28,9 @@ unfolding passes
 three ws answer p = (both_long 3 (length ws) 1 (length answer) (both _ true p).0).0
 
 -- a set that an update does not change
-left-kept : (s : HotSet) (x : UpdateAnswer) → (number_of (hot.update_answer x) ≡ 0 → ⊥) → hot_set_left s x ≡ s
-left-kept s (No n) h = refl
-left-kept s (Is u) h = absurd (h refl)
+left-kept : (s : HotSet) (x : Result Updated Refusal) → (number_of (answer_of x) ≡ 0 → ⊥) → hot_set_left s x ≡ s
+left-kept s (Err n) h = refl
+left-kept s (Ok u) h = absurd (h refl)
 
 module _ (ws xs : List ℕ) (r : ℕ) (ws' xs' : List ℕ) (h : r ≡ 0 → ⊥) where
   pub update-with-unmoved :
@@ -39,13 +42,13 @@ module _ (ws xs : List ℕ) (r : ℕ) (ws' xs' : List ℕ) (h : r ≡ 0 → ⊥)
       (λ p a.
       let x = a.result in
       let s : HotSet = hot_set_of ws in
-      let z : number_of (hot.update_answer x) ≡ 0 → ⊥ = λ e. h (a.number ∙ e) in
+      let z : number_of (answer_of x) ≡ 0 → ⊥ = λ e. h (a.number ∙ e) in
       let qs : List Question = hot.ask_update s xs demand in
       let o = update_with hot.eviction_margin s key demand threshold now elsewhere (hot.entries_of s xs) in
-      let n : passes qs ≡ false = not-all (hot.updated s o) qs (hot.update_answer x) a.kept.answered z in (
+      let n : passes qs ≡ false = not-all (hot.updated s o) qs (answer_of x) a.kept.answered z in (
         a.value ∙ ap (λ (t : HotSet). paste 0 (hot_set_words t) ws) (left-kept s x z) ∙ hot-set-back ws (three ws answer p),
         kept qs _ _ xs' a.kept.left n,
-        no_words (hot.update_answer x) updated_words answer answer' z a.answer,
+        no_words (answer_of x) updated_words answer answer' z a.answer,
       ))
 
   pub update-unmoved :
@@ -63,10 +66,10 @@ module _ (ws xs : List ℕ) (r : ℕ) (ws' xs' : List ℕ) (h : r ≡ 0 → ⊥)
       (λ p a.
       let x = a.result in
       let s : HotSet = hot_set_of ws in
-      let z : number_of (hot.each_answer x) ≡ 0 → ⊥ = λ e. h (a.number ∙ e) in
+      let z : number_of (answer_of x) ≡ 0 → ⊥ = λ e. h (a.number ∙ e) in
       let qs : List Question = hot.ask_each s xs keys width count demands thresholds elsewhere (length out) in
-      let n : passes qs ≡ false = not-all _ qs (hot.each_answer x) a.kept.answered z in (
-        no_words (hot.each_answer x) hot_set_words ws ws' z a.answer,
+      let n : passes qs ≡ false = not-all _ qs (answer_of x) a.kept.answered z in (
+        no_words (answer_of x) hot_set_words ws ws' z a.answer,
         kept qs _ _ xs' a.kept.left n,
         kept qs _ _ out' a.kept.output n,
       ))

@@ -15,11 +15,9 @@ use Rattle.gcra.specs.Calls as gcra
 use Rattle.gcra.specs.Meter.{decision}
 use Rattle.questions.proofs.Tests.{both}
 use Rattle.peers.specs.declared.peer_demand.PeerDemand.{PeerDemand}
-use Rattle.peers.specs.declared.peer_demand.ChangeAnswer.{ChangeAnswer}
 use Rattle.peers.specs.declared.peer_demand.PeersChanged.{PeersChanged}
 use Rattle.peers.specs.Peers.State as peer-state
 use Rattle.peers.specs.Peers.State.{PeersState, PeerTables}
-use Rattle.demand.specs.Answers.{len_answer}
 use Rattle.peers.specs.Peers.Calls as demand
 use Rattle.limiter.specs.State.{LimiterTables, lengths}
 use Rattle.image.specs.Image.{image}
@@ -35,6 +33,9 @@ use Rattle.nultiway.proofs.Refusals.RefusalLaws.{not-all, no_words, kept, answer
 use Rattle.nultiway.proofs.Words.GcraWordLaws.{gcra-all, gcra-kept}
 use Rattle.nultiway.proofs.Words.ReportLaws.{report-all}
 use Rattle.nultiway.proofs.Calls.RoomLaws.{peers-three}
+use Rattle.std.specs.declared.result.Result.{Result}
+use Rattle.questions.specs.declared.Refusal.{Refusal}
+use Rattle.questions.specs.Refusals.{answer_of}
 
 -- ---- a Gcra
 
@@ -56,10 +57,10 @@ module _ (ws : List ℕ) (r : ℕ) (ws' : List ℕ) (h : r ≡ 0 → ⊥) where
       (λ p a.
       let x = a.result in
       let qs : List Question = gcra.ask_quota (gcra_of ws).quota in
-      let q : passes qs ≡ false = not-all (decision (gcra_of ws) now) qs (gcra.check_answer x.answer) a.kept.decided
+      let q : passes qs ≡ false = not-all (decision (gcra_of ws) now) qs (answer_of x.answer) a.kept.decided
       (λ z. h (a.number ∙ z)) in (
         gcra-words-kept ws ws' (leb 2 (length out)) x.gcra p (kept qs _ _ x.gcra a.kept.left q) a.value,
-        no_words (gcra.check_answer x.answer) decision_words out out' (λ z. h (a.number ∙ z)) a.answer,
+        no_words (answer_of x.answer) decision_words out out' (λ z. h (a.number ∙ z)) a.answer,
       ))
 
   pub gcra-set-quota-unmoved : (q : Quota) (now : ℕ) → GcraSetQuota ws q now r ws' → ws' ≡ ws
@@ -68,7 +69,7 @@ module _ (ws : List ℕ) (r : ℕ) (ws' : List ℕ) (h : r ≡ 0 → ⊥) where
       (λ p a.
       let x = a.result in
       let qs : List Question = gcra.ask_quotas (gcra_of ws) q in
-      let n : passes qs ≡ false = not-all tt qs (gcra.set_answer x.answer) a.kept.set (λ z. h (a.number ∙ z)) in
+      let n : passes qs ≡ false = not-all tt qs (answer_of x.answer) a.kept.set (λ z. h (a.number ∙ z)) in
       gcra-words-kept ws ws' true x.gcra p (kept qs _ _ x.gcra a.kept.left n) a.value)
 
 -- ---- the image
@@ -84,8 +85,8 @@ save-unmoved ws t ps pt out answer r out' answer' h c =
     let x = a.result in
     let qs : List Question = image-calls.save_questions (limiter_of ws) t (peers_of ps) pt out in
     let v : ℕ = length (image (image-calls.here (limiter_of ws) t (peers_of ps) pt)) in
-    let n : passes qs ≡ false = not-all v qs (len_answer x) a.kept.answered (λ z. h (a.number ∙ z)) in
-    (kept qs _ _ out' a.kept.output n, no_words (len_answer x) one_word answer answer' (λ z. h (a.number ∙ z)) a.answer))
+    let n : passes qs ≡ false = not-all v qs (answer_of x) a.kept.answered (λ z. h (a.number ∙ z)) in
+    (kept qs _ _ out' a.kept.output n, no_words (answer_of x) one_word answer answer' (λ z. h (a.number ∙ z)) a.answer))
 
 pub load-unmoved :
     (bs ws : List ℕ) (t : LimiterTables) (ps : List ℕ) (pt : PeerTables) (r : ℕ) (ws' : List ℕ) (t' : LimiterTables) (ps' : List ℕ) (pt' : PeerTables)
@@ -95,7 +96,7 @@ pub load-unmoved :
 load-unmoved bs ws t ps pt r ws' t' ps' pt' h c =
     answered-or-not (room_asked (leb 16 (length ws) && leb 3 (length ps))) r c
     (λ p a.
-    let x = image-calls.load_answer a.result in
+    let x = answer_of a.result in
     let qs : List Question = image-calls.load_questions bs t pt in
     let v = image-calls.values_of (state_read bs) in
     let n : passes qs ≡ false = not-all v qs x a.kept.answered (λ z. h (a.put.number ∙ z)) in (
@@ -113,11 +114,11 @@ change-unmoved :
     → (r ≡ 0 → ⊥)
     → 3 ≤ length ps
     → demand.Changes qs change (peers_of ps) t x t'
-    → r ≡ number_of (demand.change_answer x.answer)
+    → r ≡ number_of (answer_of x.answer)
     → ps' ≡ paste 0 (peers_words x.peers) ps
     → (ps' ≡ ps) × (t' ≡ t)
 change-unmoved ps t r ps' t' qs change x h l k e w =
-    let n : passes qs ≡ false = not-all tt qs (demand.change_answer x.answer) k.answered (λ z. h (e ∙ z)) in (
+    let n : passes qs ≡ false = not-all tt qs (answer_of x.answer) k.answered (λ z. h (e ∙ z)) in (
       w ∙ ap (λ (p : PeerDemand). paste 0 (peers_words p) ps) (kept qs _ _ x.peers k.value n) ∙ peers-back ps l,
       kept qs _ _ t' k.words n,
     )
@@ -154,13 +155,13 @@ module _ (ps : List ℕ) (t : PeerTables) (r : ℕ) (ps' : List ℕ) (t' : PeerT
 -- of many keys
 module _ (ps : List ℕ) (t : PeerTables) (keys : List ℕ) (width count : ℕ) (r : ℕ) (h : r ≡ 0 → ⊥) where
   each-unmoved :
-      {A : Type 0} (tell : ℕ → PeersState → A) (out out' : List A) (x : ChangeAnswer)
+      {A : Type 0} (tell : ℕ → PeersState → A) (out out' : List A) (x : Result Unit Refusal)
       → demand.TellsEach tell (peers_of ps) t width count keys out x out'
-      → r ≡ number_of (demand.change_answer x)
+      → r ≡ number_of (answer_of x)
       → out' ≡ out
   each-unmoved tell out out' x k e =
       let qs : List Question = demand.each_questions (peers_of ps) t (length keys) width count (length out) in
-      kept qs _ _ out' k.output (not-all tt qs (demand.change_answer x) k.answered (λ z. h (e ∙ z)))
+      kept qs _ _ out' k.output (not-all tt qs (answer_of x) k.answered (λ z. h (e ∙ z)))
 
   pub total-of-each-unmoved : (out out' : List Float) → TotalOfEach ps t keys width count out r out' → out' ≡ out
   total-of-each-unmoved out out' c =

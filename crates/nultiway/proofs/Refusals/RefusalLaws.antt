@@ -3,7 +3,6 @@ use Prim.Native.Nat.{ℕ}
 use mathlib.Core.Path.{◌≡◌, refl, sym, ap, ◌∙◌}
 use mathlib.Core.Bool.{Bool, true, false, cond}
 use mathlib.Core.List.{List, [], ◌∷◌, ◌++◌}
-use mathlib.Core.Option.{Option}
 use lib.Dec.{leb}
 use lib.Ieee.{Float}
 use lib.ListN.{length}
@@ -12,14 +11,11 @@ use Rattle.records.specs.Records.{fits}
 use Rattle.questions.proofs.Tests.{split, contradiction}
 use Rattle.questions.specs.Questions.{Question, Answer, refused, given, answer, passes, first_no, changed}
 use Rattle.questions.proofs.Answers.{answer-passed}
-use Rattle.demand.specs.declared.answers.LenAnswer.{LenAnswer}
 use Rattle.peers.specs.Peers.State as peer-state
 use Rattle.peers.specs.Peers.State.{PeerTables}
-use Rattle.peers.specs.Peers.Calls.{change_answer}
-use Rattle.demand.specs.Answers.{len_answer}
 use Rattle.limiter.specs.declared.Limit.{Limit}
 use Rattle.limiter.specs.declared.Limiter.{Limiter}
-use Rattle.limiter.specs.declared.Changed.{Changed}
+use Rattle.limiter.specs.Answered.{Changed}
 use Rattle.limiter.specs.declared.Tally.{Tally}
 use Rattle.limiter.specs.State.{LimiterState, LimiterTables, Lengths, lengths}
 use Rattle.limiter.specs.Calls.{Acts, Ticking, Lists, state_questions, each_asked, output_questions}
@@ -28,6 +24,10 @@ use Rattle.nultiway.specs.Calls.{Called, Tells, number_of, answer_put, decision_
 use Rattle.nultiway.specs.LimiterCalls.{traced_words, SetCap, Record, Tick, TickWithShares, CheckEach, Check, CheckIn, CheckInTraced, HotDemand, MostDenied, MostShadowDenied}
 use Rattle.nultiway.proofs.Calls.CallLaws.{by-questions, Open, was-open}
 use Rattle.nultiway.proofs.Words.ValueLaws.{limiter-back}
+use Rattle.std.specs.declared.option.Option.{Option}
+use Rattle.std.specs.declared.result.Result.{Result}
+use Rattle.questions.specs.declared.Refusal.{Refusal}
+use Rattle.questions.specs.Refusals.{answer_of}
 
 -- ---- an answer that is a 'no'
 
@@ -97,22 +97,22 @@ module _ (ws ws' : List ℕ) (m : Lengths) (room : Bool) (r : ℕ) (p : passes (
   tick-unmoved :
       {qs : List Question} {after : LimiterState} {t : LimiterTables} {x : Changed} {t' : LimiterTables}
       → Ticking qs after (limiter_of ws) t x t'
-      → r ≡ number_of (change_answer x.answer)
+      → r ≡ number_of (answer_of x.answer)
       → ws' ≡ paste 0 (limiter_words x.limiter) ws
       → (ws' ≡ ws) × (t' ≡ t)
   tick-unmoved {qs} {after} {t} {x} {t'} a n w =
-      let q : passes qs ≡ false = not-all tt qs (change_answer x.answer) a.answered (λ z. h (n ∙ z)) in
+      let q : passes qs ≡ false = not-all tt qs (answer_of x.answer) a.answered (λ z. h (n ∙ z)) in
       (words-kept ws ws' m room x.limiter (was-open ws m room p) (kept qs _ _ x.limiter a.limiter q) w, a.unmoved q)
 
 -- an output of entries
 list-unmoved :
-    {l : Limiter} {t : LimiterTables} {entries : List (List ℕ)} {out : List ℕ} {x : LenAnswer} {out' : List ℕ}
+    {l : Limiter} {t : LimiterTables} {entries : List (List ℕ)} {out : List ℕ} {x : Result ℕ Refusal} {out' : List ℕ}
     → Lists l t entries out x out'
-    → (number_of (len_answer x) ≡ 0 → ⊥)
+    → (number_of (answer_of x) ≡ 0 → ⊥)
     → out' ≡ out
 list-unmoved {l} {t} {entries} {out} {x} {out'} c h =
     let qs : List Question = state_questions l t ++ output_questions entries out in
-    kept qs _ _ out' c.output (not-all (length entries) qs (len_answer x) c.answered h)
+    kept qs _ _ out' c.output (not-all (length entries) qs (answer_of x) c.answered h)
 
 -- ---- the library's
 
@@ -132,22 +132,22 @@ module _ (ws : List ℕ) (t : LimiterTables) (out answer : List ℕ) (r : ℕ) (
   hot-demand-unmoved c =
       answered-or-not (limiter_asked ws (lengths t) (leb 1 (length answer))) r c
       (λ p a.
-      let z : number_of (len_answer a.result) ≡ 0 → ⊥ = λ e. h (a.number ∙ e) in
-      (list-unmoved a.kept z, no_words (len_answer a.result) one_word answer answer' z a.answer))
+      let z : number_of (answer_of a.result) ≡ 0 → ⊥ = λ e. h (a.number ∙ e) in
+      (list-unmoved a.kept z, no_words (answer_of a.result) one_word answer answer' z a.answer))
 
   pub most-denied-unmoved : (k : ℕ) → MostDenied ws t k out answer r out' answer' → (out' ≡ out) × (answer' ≡ answer)
   most-denied-unmoved k c =
       answered-or-not (limiter_asked ws (lengths t) (leb 1 (length answer))) r c
       (λ p a.
-      let z : number_of (len_answer a.result) ≡ 0 → ⊥ = λ e. h (a.number ∙ e) in
-      (list-unmoved a.kept z, no_words (len_answer a.result) one_word answer answer' z a.answer))
+      let z : number_of (answer_of a.result) ≡ 0 → ⊥ = λ e. h (a.number ∙ e) in
+      (list-unmoved a.kept z, no_words (answer_of a.result) one_word answer answer' z a.answer))
 
   pub most-shadow-denied-unmoved : (k : ℕ) → MostShadowDenied ws t k out answer r out' answer' → (out' ≡ out) × (answer' ≡ answer)
   most-shadow-denied-unmoved k c =
       answered-or-not (limiter_asked ws (lengths t) (leb 1 (length answer))) r c
       (λ p a.
-      let z : number_of (len_answer a.result) ≡ 0 → ⊥ = λ e. h (a.number ∙ e) in
-      (list-unmoved a.kept z, no_words (len_answer a.result) one_word answer answer' z a.answer))
+      let z : number_of (answer_of a.result) ≡ 0 → ⊥ = λ e. h (a.number ∙ e) in
+      (list-unmoved a.kept z, no_words (answer_of a.result) one_word answer answer' z a.answer))
 
 -- changes and checks
 module _ (ws : List ℕ) (t : LimiterTables) (r : ℕ) (ws' : List ℕ) (h : r ≡ 0 → ⊥) where
@@ -157,7 +157,7 @@ module _ (ws : List ℕ) (t : LimiterTables) (r : ℕ) (ws' : List ℕ) (h : r �
       (λ p a.
       let x = a.result in
       let qs : List Question = state_questions (limiter_of ws) t in
-      let q : passes qs ≡ false = not-all tt qs (change_answer x.answer) a.kept.answered (λ z. h (a.number ∙ z)) in
+      let q : passes qs ≡ false = not-all tt qs (answer_of x.answer) a.kept.answered (λ z. h (a.number ∙ z)) in
       words-kept ws ws' (lengths t) true x.limiter (was-open ws (lengths t) true p) (kept qs _ _ x.limiter a.kept.limiter q) a.value)
 
   module _ (t' : LimiterTables) where

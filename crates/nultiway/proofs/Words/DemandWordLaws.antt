@@ -12,8 +12,6 @@ use Rattle.records.specs.Words.{paste}
 use Rattle.questions.specs.Questions.{passes, first_no}
 use Rattle.questions.proofs.Tests.{both, and_intro}
 use Rattle.questions.proofs.Answers.{first-no, first-yes, first-none, passed_none}
-use Rattle.demand.specs.declared.demand.Times.{Times}
-use Rattle.demand.specs.declared.demand.Times.TheVariants.{Unset, At}
 use Rattle.demand.specs.declared.demand.Demand.{Demand}
 use Rattle.demand.specs.Estimators.Estimator.{valid}
 use Rattle.hot.proofs.HotSet.Words.{bits_back}
@@ -22,6 +20,9 @@ use Rattle.limiter.specs.State.{float_word, float_of, is_f64}
 use Rattle.image.proofs.Reading.StateWordLaws.{float_of_word}
 use Rattle.nultiway.specs.DemandCalls.{times_words, times_of, demand_words, demand_of, is_demand, demand_asked}
 use Rattle.nultiway.proofs.Words.ValueLaws.{paste-front, paste-same}
+use Rattle.std.specs.declared.option.Option.{Option}
+use Rattle.std.specs.declared.option.Option.TheVariants.{None, Some}
+use Rattle.demand.specs.declared.demand.Times.{Times}
 
 -- ---- questions 1 and 2
 
@@ -57,12 +58,12 @@ demand-passed ws room {n} e z = demand-all ws room (passed_none (demand_asked ws
 
 -- ---- reading and writing
 
-pub times-set : (flag last since : ℕ) → (flag ≡ 0 → ⊥) → At last since ≡ times_of flag last since
+pub times-set : (flag last since : ℕ) → (flag ≡ 0 → ⊥) → Some (record { last_tick = last; since = since }) ≡ times_of flag last since
 times-set zero last since h = absurd (h refl)
 times-set (suc flag) last since h = refl
 
 pub demand-read :
-    (ws : List ℕ) {x : Float} {t : Times}
+    (ws : List ℕ) {x : Float} {t : Option Times}
     → x ≡ float_of (get_or ws 0 0)
     → t ≡ times_of (get_or ws 2 0) (get_or ws 3 0) (get_or ws 4 0)
     → ◌≡◌ {A = Demand}
@@ -72,7 +73,7 @@ demand-read ws e f = λ i.
     record { current_rate = e i; attempts_since_tick = get_or ws 1 0; times = f i; time_constant = get_or ws 5 0 }
 
 pub words-with :
-    (d : Demand) {w : ℕ} {t : Times}
+    (d : Demand) {w : ℕ} {t : Option Times}
     → w ≡ float_word d.current_rate
     → d.times ≡ t
     → (w ∷ d.attempts_since_tick ∷ (times_words t ++ (d.time_constant ∷ []))) ≡ demand_words d
@@ -81,12 +82,12 @@ words-with d e f = λ i. e i ∷ d.attempts_since_tick ∷ (times_words (sym f i
 -- ---- the round trip
 
 by-times :
-    (x : Float) (n : ℕ) (t : Times) (c : ℕ) (rest : List ℕ)
+    (x : Float) (n : ℕ) (t : Option Times) (c : ℕ) (rest : List ℕ)
     → is_f64 x ≡ true
     → let d : Demand = record { current_rate = x; attempts_since_tick = n; times = t; time_constant = c } in
     demand_of (demand_words d ++ rest) ≡ d
-by-times x n Unset c rest e = rw (float_of_word x e)
-by-times x n (At last since) c rest e = rw (float_of_word x e)
+by-times x n None c rest e = rw (float_of_word x e)
+by-times x n (Some t) c rest e = rw (float_of_word x e)
 
 -- an estimator is read back from its words, whatever comes after them
 pub demand-back : (d : Demand) (rest : List ℕ) → is_f64 d.current_rate ≡ true → demand_of (demand_words d ++ rest) ≡ d
@@ -105,10 +106,10 @@ pub demand-same :
     → d ≡ e
 demand-same d e f g h = sym (demand-back d [] f) ∙ ap (λ (ws : List ℕ). demand_of (ws ++ [])) h ∙ demand-back e [] g
 
-are-times : (t : Times) (x n c : ℕ) (rest : List ℕ) → is_demand ((x ∷ n ∷ (times_words t ++ (c ∷ []))) ++ rest) ≡ true
+are-times : (t : Option Times) (x n c : ℕ) (rest : List ℕ) → is_demand ((x ∷ n ∷ (times_words t ++ (c ∷ []))) ++ rest) ≡ true
 unfolding is_time
-are-times Unset x n c rest = refl
-are-times (At last since) x n c rest = refl
+are-times None x n c rest = refl
+are-times (Some t) x n c rest = refl
 
 -- words that were written are an estimator's
 pub demand-is : (d : Demand) (ws : List ℕ) → is_demand (paste 0 (demand_words d) ws) ≡ true

@@ -8,8 +8,6 @@ use borrow.Author.Tests.{leb-true, ltb-true, eqb-true, le-leb, lt-leb, lt-ltb, l
 use lib.Dec.{leb, ltb}
 use lib.ListN.{length, get_or}
 use Rattle.records.specs.Words.{paste}
-use Rattle.gcra.specs.declared.Tat.{Tat}
-use Rattle.gcra.specs.declared.Tat.TheVariants.{Unset, At}
 use Rattle.gcra.specs.declared.Gcra.{Gcra}
 use Rattle.gcra.specs.declared.Decision.{Decision}
 use Rattle.gcra.specs.declared.Decision.TheVariants.{Allow, Deny}
@@ -18,9 +16,10 @@ use Rattle.questions.specs.Questions.{passes, first_no}
 use Rattle.questions.proofs.Tests.{both, and_intro}
 use Rattle.questions.proofs.Answers.{first-no, first-yes, first-none, passed_none}
 use Rattle.records.specs.Fields.{time_flag, time_word, time_words, time_of, is_time}
-use Rattle.limiter.specs.State.{tat_time, tat_from}
 use Rattle.nultiway.specs.Calls.{decision_words}
 use Rattle.nultiway.specs.LoneCalls.{gcra_words, gcra_of, is_gcra, gcra_asked, stepped_words}
+use Rattle.std.specs.declared.option.Option.{Option}
+use Rattle.std.specs.declared.option.Option.TheVariants.{None, Some}
 
 -- ---- whether words are a Gcra's, as the code tests it
 
@@ -68,7 +67,7 @@ room_fits = leb-true
 
 -- ---- reading and writing
 
-pub tat-set : (flag time : ℕ) → (flag ≡ 0 → ⊥) → At time ≡ tat_from (time_of flag time)
+pub tat-set : (flag time : ℕ) → (flag ≡ 0 → ⊥) → Some time ≡ (time_of flag time)
 tat-set zero time h = absurd (h refl)
 tat-set (suc flag) time h = refl
 
@@ -76,13 +75,13 @@ pub gcra-burst : (ws : List ℕ) → is_gcra ws ≡ true → get_or ws 1 0 < 2 ^
 gcra-burst ws e = ltb-true (get_or ws 1 0) (2 ^ 32) (both (ltb (get_or ws 1 0) (2 ^ 32)) _ e).0
 
 pub gcra-read :
-    (ws : List ℕ) {t : Tat}
-    → t ≡ tat_from (time_of (get_or ws 2 0) (get_or ws 3 0))
+    (ws : List ℕ) {t : Option ℕ}
+    → t ≡ (time_of (get_or ws 2 0) (get_or ws 3 0))
     → ◌≡◌ {A = Gcra} (record { quota = record { interval = get_or ws 0 0; burst = get_or ws 1 0 }; tat = t }) (gcra_of ws)
-gcra-read ws e = ap (λ (t : Tat). record { quota = record { interval = get_or ws 0 0; burst = get_or ws 1 0 }; tat = t }) e
+gcra-read ws e = ap (λ (t : Option ℕ). record { quota = record { interval = get_or ws 0 0; burst = get_or ws 1 0 }; tat = t }) e
 
-pub words-with : (g : Gcra) {t : Tat} → g.tat ≡ t → (g.quota.interval ∷ g.quota.burst ∷ time_words (tat_time t)) ≡ gcra_words g
-words-with g e = sym (ap (λ (t : Tat). g.quota.interval ∷ g.quota.burst ∷ time_words (tat_time t)) e)
+pub words-with : (g : Gcra) {t : Option ℕ} → g.tat ≡ t → (g.quota.interval ∷ g.quota.burst ∷ time_words t) ≡ gcra_words g
+words-with g e = sym (ap (λ (t : Option ℕ). g.quota.interval ∷ g.quota.burst ∷ time_words t) e)
 
 -- ---- a step's words
 
@@ -95,18 +94,18 @@ step_words s e = ap (λ (ws : List ℕ). get_or ws 0 0 ∷ get_or ws 1 0 ∷ s.t
 
 -- ---- the round trip
 
-tat-back : (t : Tat) → tat_from (time_of (time_flag (tat_time t)) (time_word (tat_time t))) ≡ t
-tat-back Unset = refl
-tat-back (At time) = refl
+tat-back : (t : Option ℕ) → (time_of (time_flag t) (time_word t)) ≡ t
+tat-back None = refl
+tat-back (Some time) = refl
 
-time-back : (flag time : ℕ) → is_time flag time ≡ true → time_words (tat_time (tat_from (time_of flag time))) ≡ (flag ∷ time ∷ [])
+time-back : (flag time : ℕ) → is_time flag time ≡ true → time_words (time_of flag time) ≡ (flag ∷ time ∷ [])
 unfolding is_time
 time-back zero time e = ap (λ (t : ℕ). 0 ∷ t ∷ []) (sym (eqb-true time 0 e))
 time-back (suc flag) time e = ap (λ (f : ℕ). f ∷ time ∷ []) (sym (eqb-true (suc flag) 1 e))
 
 -- what was written is read back
 pub gcra-back : (g : Gcra) (rest : List ℕ) → gcra_of (gcra_words g ++ rest) ≡ g
-gcra-back g rest = ap (λ (t : Tat). record { quota = g.quota; tat = t }) (tat-back g.tat)
+gcra-back g rest = ap (λ (t : Option ℕ). record { quota = g.quota; tat = t }) (tat-back g.tat)
 
 -- words that are a Gcra are written back as they were
 pub gcra-kept : (ws : List ℕ) → 4 ≤ length ws → is_gcra ws ≡ true → paste 0 (gcra_words (gcra_of ws)) ws ≡ ws

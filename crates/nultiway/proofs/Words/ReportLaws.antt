@@ -4,7 +4,7 @@ use mathlib.Core.Path.{◌≡◌, sym, ap, ◌∙◌}
 use mathlib.Core.Bool.{Bool, true, false, not, ◌&&◌}
 use mathlib.Core.List.{List, [], ◌∷◌, ◌++◌, map, append_assoc, map-append}
 use native.Mathlib.Omega.{arith}
-use borrow.Author.Tests.{leb-true, lt-ltb, le-ltb}
+use borrow.Author.Tests.{leb-true}
 use lib.Dec.{leb, eqb}
 use lib.Ieee.{Float, binary32, of_bits}
 use lib.ListN.{length, get_or, set, take, drop, replicate, length-map}
@@ -22,14 +22,6 @@ use Rattle.records.proofs.Words.FieldLaws.{flag_is}
 use Rattle.nultiway.specs.PeerCalls.{is_listed, listed_of, blank_key, keys_of, report_of, report_asked, Sent}
 
 -- ---- a key
-
-pub is-listed-yes : (w : List ℕ) → get_or w 1 0 < 2 ^ 32 → leb (get_or w 2 0) 1 ≡ is_listed w
-unfolding is_listed
-is-listed-yes w h = rw (lt-ltb (get_or w 1 0) (2 ^ 32) h)
-
-pub is-listed-no : (w : List ℕ) → 2 ^ 32 ≤ get_or w 1 0 → false ≡ is_listed w
-unfolding is_listed
-is-listed-no w h = rw (le-ltb (get_or w 1 0) (2 ^ 32) h)
 
 pub listed-read :
     (w : List ℕ) {x : Float}

@@ -1,30 +1,24 @@
 -- Values in words: how they are written and read, and that they come back.
-use Prim.Native.Nat.{ℕ, ◌+◌, ◌*◌, ◌^◌, ◌≤◌, ◌<◌}
+use Prim.Native.Nat.{ℕ, ◌+◌, ◌^◌, ◌≤◌}
 use mathlib.Core.Path.{◌≡◌, refl, sym, ap, ◌∙◌}
 use mathlib.Core.Bool.{true}
 use mathlib.Core.List.{List, [], ◌∷◌, ◌++◌, append-nil}
-use mathlib.Core.Option.{Option, none, some}
 use native.Mathlib.Nat.{zero-add}
 use native.Mathlib.Omega.{arith}
-use borrow.Author.Tests.{lt-ltb, le-leb}
-use lib.Dec.{ltb, eqb}
+use lib.Dec.{ltb}
 use lib.Ieee.{Float}
 use lib.ListN.{length, take, drop, get_or, length-append, take-append-drop, drop_of_length-le}
 use lib.Seq.{length-take-le, take_at}
 use Rattle.records.specs.Words.{paste}
-use Rattle.records.specs.Records.{records, flat, table, fits, splice, overwrite_at, removable, overwritable, overwritten}
-use Rattle.questions.proofs.Tests.{both, and_intro, eqb-self}
+use Rattle.questions.proofs.Tests.{both}
 use Rattle.records.proofs.Order.OrderLaws.{same-eq, eq-same}
 use Rattle.peers.specs.declared.peer_demand.PeerDemand.{PeerDemand}
 use Rattle.records.specs.Fields.{time_of, time_words}
 use Rattle.records.proofs.Words.FieldLaws.{time-of-words}
 use Rattle.limiter.specs.declared.Config.{Config}
-use Rattle.limiter.specs.declared.Cap.{Cap}
-use Rattle.limiter.specs.declared.LastTick.{LastTick}
 use Rattle.limiter.specs.declared.Limiter.{Limiter}
-use Rattle.limiter.specs.State.{settings_words, settings_of, is_f64, cap_fits, cap_words, cap_of, last_tick_of, cap_from, last_tick_from}
+use Rattle.limiter.specs.State.{settings_words, settings_of, is_f64, cap_fits, cap_words}
 use Rattle.limiter.specs.State.{LimiterTables, valid_cap, state_of, valid, units_of, units_in}
-use Rattle.limiter.proofs.Checking.LiftLaws.{cap-forth, tick-forth}
 use Rattle.limiter.proofs.States.RecordValidLaws.{limit-rate, limit-burst}
 use Rattle.limiter.proofs.States.StateValidLaws.{valid-says}
 use Rattle.image.proofs.Loading.JudgeLaws.{small-burst}
@@ -33,21 +27,14 @@ use Rattle.image.specs.LoadSteps.{config_from}
 use Rattle.image.proofs.Reading.StateWordLaws.{float_of_word, settings-long}
 use Rattle.nultiway.specs.Values.{limiter_words, limiter_of, is_limiter, peers_words, peers_of}
 use Rattle.nultiway.specs.LimiterCalls.{config_words}
+use Rattle.std.specs.declared.option.Option.{Option}
+use Rattle.std.specs.declared.option.Option.TheVariants.{None, Some}
 
 -- ---- words at the front
 
 pub paste-front : (r xs : List ℕ) → paste 0 r xs ≡ r ++ drop (length r) xs
 unfolding paste
 paste-front r xs = ap (λ (k : ℕ). r ++ drop k xs) (zero-add (length r))
-
--- one record written over the first is a paste
-pub overwritten-front : (r xs : List ℕ) → 0 < length r → length r ≤ length xs → overwritten (length r) 1 0 r xs ≡ paste 0 r xs
-unfolding overwritten overwritable removable fits table overwrite_at splice records flat
-overwritten-front r xs p h =
-    let e : overwritable (length xs) (length r) 1 0 (length r) ≡ true =
-    and_intro (eqb (length r) (length r)) _ (eqb-self (length r))
-    (and_intro (ltb 0 1) _ refl (and_intro (ltb 0 (length r)) _ (lt-ltb _ _ p) (le-leb (1 * length r) (length xs) (omega (arith, h))))) in
-    rw e (ap (λ (l : List ℕ). l ++ drop (length l) xs) (append-nil r) ∙ sym (paste-front r xs))
 
 -- as many words as there are leave nothing behind them
 pub paste-whole : (r xs ys : List ℕ) → ys ≡ paste 0 r xs → length xs ≡ length r → ys ≡ r
@@ -66,11 +53,11 @@ paste-same n r xs e h =
 
 -- what was read is the limiter of the words
 pub limiter-read :
-    (ws w : List ℕ) (g : Config) (x : Cap) (t : LastTick)
+    (ws w : List ℕ) (g : Config) (x : Option Float) (t : Option ℕ)
     → w ≡ take 13 ws
     → g ≡ config_from w
-    → cap_of x ≡ reader.cap_from (get_or w 9 0) (get_or w 10 0)
-    → last_tick_of t ≡ time_of (get_or w 11 0) (get_or w 12 0)
+    → x ≡ reader.cap_from (get_or w 9 0) (get_or w 10 0)
+    → t ≡ time_of (get_or w 11 0) (get_or w 12 0)
     → ◌≡◌ {A = Limiter}
     (record { config = g; cap = x; last_tick = t; keys = get_or ws 13 0; hot = get_or ws 14 0; shadows = get_or ws 15 0 })
     (limiter_of ws)
@@ -78,8 +65,8 @@ unfolding limiter_of
 limiter-read ws w g x t e a b c = λ i.
     record {
       config = (a ∙ ap config_from e) i;
-      cap = (sym (cap-forth x) ∙ ap cap_from (b ∙ ap (λ (l : List ℕ). reader.cap_from (get_or l 9 0) (get_or l 10 0)) e)) i;
-      last_tick = (sym (tick-forth t) ∙ ap last_tick_from (c ∙ ap (λ (l : List ℕ). time_of (get_or l 11 0) (get_or l 12 0)) e)) i;
+      cap = (b ∙ ap (λ (l : List ℕ). reader.cap_from (get_or l 9 0) (get_or l 10 0)) e) i;
+      last_tick = (c ∙ ap (λ (l : List ℕ). time_of (get_or l 11 0) (get_or l 12 0)) e) i;
       keys = get_or ws 13 0;
       hot = get_or ws 14 0;
       shadows = get_or ws 15 0;
@@ -95,19 +82,19 @@ apart :
     (c : Config) (x : Option Float) (t : Option ℕ) (rest : List ℕ)
     → one_by_one (config_words c) (cap_words x) (time_words t) rest ≡ settings_words (record { config = c; cap = x; last_tick = t }) ++ rest
 unfolding settings_words
-apart c none t rest = refl
-apart c (some x) t rest = refl
+apart c None t rest = refl
+apart c (Some x) t rest = refl
 
 pub limiter-written :
     (l : Limiter) {w c t : List ℕ}
     → w ≡ config_words l.config
-    → c ≡ cap_words (cap_of l.cap)
-    → t ≡ time_words (last_tick_of l.last_tick)
+    → c ≡ cap_words l.cap
+    → t ≡ time_words l.last_tick
     → one_by_one w c t (l.keys ∷ l.hot ∷ l.shadows ∷ []) ≡ limiter_words l
 unfolding limiter_words
 limiter-written l e f g =
     let rest : List ℕ = l.keys ∷ l.hot ∷ l.shadows ∷ [] in
-    (λ i. one_by_one (e i) (f i) (g i) rest) ∙ apart l.config (cap_of l.cap) (last_tick_of l.last_tick) rest
+    (λ i. one_by_one (e i) (f i) (g i) rest) ∙ apart l.config l.cap l.last_tick rest
 
 -- ---- the limiter comes back
 
@@ -117,11 +104,11 @@ pub record Typed (l : Limiter) : Type 0 where
   pub burst : ltb l.config.limit.burst (2 ^ 32) ≡ true
   pub alpha : is_f64 l.config.alpha ≡ true
   pub floor : is_f64 l.config.floor_factor ≡ true
-  pub cap : cap_fits (cap_of l.cap) ≡ true
+  pub cap : cap_fits l.cap ≡ true
 
 cap-fits : (x : Option Float) → valid_cap x ≡ true → cap_fits x ≡ true
-cap-fits none e = refl
-cap-fits (some x) e = (both (is_f64 x) _ e).0
+cap-fits None e = refl
+cap-fits (Some x) e = (both (is_f64 x) _ e).0
 
 -- a limiter that is valid with its tables is of its types
 pub valid-typed : (l : Limiter) (t : LimiterTables) → let x = state_of (units_in l) l t in valid (units_of x.settings) x ≡ true → Typed l
@@ -133,7 +120,7 @@ valid-typed l t v =
       burst = small-burst l.config.limit.burst (limit-burst l.config.limit g.config.limit);
       alpha = (both (is_f64 l.config.alpha) _ g.config.alpha).0;
       floor = (both (is_f64 l.config.floor_factor) _ g.config.floor).0;
-      cap = cap-fits (cap_of l.cap) g.cap;
+      cap = cap-fits l.cap g.cap;
     }
 
 by-cap :
@@ -144,24 +131,24 @@ by-cap :
     → is_f64 g.floor_factor ≡ true
     → cap_fits x ≡ true
     → limiter_of ((settings_words (record { config = g; cap = x; last_tick = t }) ++ (a ∷ b ∷ c ∷ [])) ++ rest)
-    ≡ record { config = g; cap = cap_from x; last_tick = last_tick_from t; keys = a; hot = b; shadows = c }
+    ≡ record { config = g; cap = x; last_tick = t; keys = a; hot = b; shadows = c }
 unfolding limiter_of config_from settings_words
-by-cap g none t a b c rest r u f h v =
+by-cap g None t a b c rest r u f h v =
     rw (float_of_word g.limit.rate r, u, float_of_word g.alpha f, float_of_word g.floor_factor h, time-of-words t)
-by-cap g (some x) t a b c rest r u f h v =
+by-cap g (Some x) t a b c rest r u f h v =
     rw (float_of_word g.limit.rate r, u, float_of_word g.alpha f, float_of_word g.floor_factor h, float_of_word x v, time-of-words t)
 
 -- a limiter is read back from its words, whatever comes after them
 pub limiter-forth : (l : Limiter) (rest : List ℕ) → Typed l → limiter_of (limiter_words l ++ rest) ≡ l
 unfolding limiter_words
 limiter-forth l rest y =
-    by-cap l.config (cap_of l.cap) (last_tick_of l.last_tick) l.keys l.hot l.shadows rest
+    by-cap l.config l.cap l.last_tick l.keys l.hot l.shadows rest
     y.rate y.burst y.alpha y.floor y.cap
     ∙ (λ i.
     record {
       config = l.config;
-      cap = cap-forth l.cap i;
-      last_tick = tick-forth l.last_tick i;
+      cap = l.cap;
+      last_tick = l.last_tick;
       keys = l.keys;
       hot = l.hot;
       shadows = l.shadows;

@@ -1,30 +1,36 @@
 -- Laws: a call's answer by the number of its first 'no'.
-use Rattle.std.proofs.Common.{◌≡◌, ℕ, true, List, [], ◌∷◌, refl, ap, ◌∙◌, arith}
-use Rattle.questions.proofs.Tests.{split, both, and_intro}
+use Rattle.std.proofs.Common.{◌≡◌, ℕ, true, List, refl, ap, ◌∙◌, arith}
+use Rattle.questions.proofs.Tests.{both, and_intro}
 use Rattle.peers.specs.declared.peer_demand.DemandReport.{DemandReport}
 use Rattle.peers.specs.declared.peer_demand.PeerDemand.{PeerDemand}
 use Rattle.peers.specs.declared.peer_demand.PeersChanged.{PeersChanged}
-use Rattle.questions.specs.Questions.{Question, Answer, refused, given, answer, passes, changed, first_no}
+use Rattle.questions.specs.Questions.{Question, given, answer, passes, changed, first_no}
 use Rattle.questions.proofs.Answers.{Numbered, given-passed, answer-no, answer-passed, kept-no, changed-passed, passed_none}
 use Rattle.peers.specs.Peers.State.{PeersState, PeerTables, lengths, have_room, state_of, is_valid, with_counts, written}
 use Rattle.peers.specs.Peers.Steps.Runs.{Stores, Becomes}
-use Rattle.peers.specs.Peers.Calls.{change_answer, peers_questions, report_questions, Changes}
+use Rattle.peers.specs.Peers.Calls.{peers_questions, report_questions, Changes}
 use Rattle.peers.specs.Peers.Steps.Stays.{Valid, refused_with, done_with}
+use Rattle.questions.specs.declared.Refusal.{Refusal}
+use Rattle.questions.specs.Refusals.{number, answer_of}
+use Rattle.questions.proofs.RefusalLaws.{number-nonzero}
 
 module _ (qs : List Question) (change : PeersState → PeersState) (p : PeerDemand) (t : PeerTables) where
   -- a 'no' changes nothing
-  pub changes-not : (n : ℕ) (r : PeersChanged) → n ≡ first_no qs → (n ≡ 0 → ⊥) → r ≡ refused_with n p → Changes qs change p t r t
-  changes-not n r e h f = record {
-    answered = ap (λ (x : PeersChanged). change_answer x.answer) f ∙ answer-no tt qs n e h;
-    value = ap (λ (x : PeersChanged). x.peers) f ∙ kept-no _ p qs n e h;
-    words = kept-no _ t qs n e h;
-  }
+  pub changes-not : (x : Refusal) (r : PeersChanged) → number x ≡ first_no qs → r ≡ refused_with x p → Changes qs change p t r t
+  changes-not x r e f =
+      let n : ℕ = number x in
+      let h = number-nonzero x in
+      record {
+        answered = ap (λ (y : PeersChanged). answer_of y.answer) f ∙ answer-no tt qs n e h;
+        value = ap (λ (y : PeersChanged). y.peers) f ∙ kept-no _ p qs n e h;
+        words = kept-no _ t qs n e h;
+      }
 
   pub changes-done : (n : ℕ) (r : PeersChanged) (p' : PeerDemand) (t' : PeerTables) → Numbered qs → n ≡ first_no qs → n ≡ 0 → r ≡ done_with p' → Stores (change (state_of p t)) p t p' t' → Changes qs change p t r t'
   changes-done n r p' t' w e h f s =
       let passed : passes qs ≡ true = passed_none qs n w e h in
       record {
-        answered = ap (λ (x : PeersChanged). change_answer x.answer) f ∙ answer-passed tt qs passed;
+        answered = ap (λ (x : PeersChanged). answer_of x.answer) f ∙ answer-passed tt qs passed;
         value = ap (λ (x : PeersChanged). x.peers) f ∙ s.value ∙ changed-passed _ p qs passed;
         words = s.words ∙ changed-passed _ t qs passed;
       }
@@ -63,16 +69,7 @@ passes-valid p t e =
 pub asked-all : (p : PeerDemand) (t : PeerTables) (n : ℕ) → n ≡ first_no (peers_questions p t) → n ≡ 0 → Valid p t
 asked-all p t n e h = passes-valid p t (passed_none (peers_questions p t) n (peers-numbered p t) e h)
 
--- ---- one call's answer by another's that asks the same: a 'no' stays, a value is worked out from the other's
-pub refused-any : {A B : Type 0} (qs : List Question) (n : ℕ) (a : A) (b : B) → refused n ≡ answer qs a → refused n ≡ answer qs b
-unfolding answer
-refused-any [] n a b e =
-    let z : ◌≡◌ {A = ℕ} 0 1 = cc in
-    absurd (omega arith)
-refused-any {A} (q ∷ qs) n a b e = split q.passed
-    (λ p. rw p (refused-any qs n a b (rw p at e)))
-    (λ p. let h : ◌≡◌ {A = Answer A} (refused n) (refused q.number) = rw p at e in let k : n ≡ q.number = cc in rw (p, k))
-
+-- ---- one call's answer by another's that asks the same: a value is worked out from the other's
 pub given_by : {A B : Type 0} (f : A → B) (qs : List Question) (u v : A) → given u ≡ answer qs v → given (f u) ≡ answer qs (f v)
 given_by {A} f qs u v e =
     let g = given-passed qs u v e in

@@ -1,6 +1,5 @@
 -- Closed points of the peers' definitions: 01's, and a run of one peer as peer_demand.rs has it.
 use Rattle.std.proofs.Common.{◌≡◌, ℕ, Bool, true, false, List, [], ◌∷◌, refl}
-use mathlib.Core.Option.{Option, none, some}
 use lib.Ieee.{binary32, binary64, of_bits, to_bits, lt, add, of_fields, odd, size, span, climb, round, units, sum}
 use Rattle.records.specs.Records.{same, ascending, leads, before}
 use Rattle.peers.specs.declared.peer_demand.KeyDemand.{KeyDemand}
@@ -10,6 +9,8 @@ use Rattle.peers.specs.Peers.Records.{PeerRecord, SnapshotKey, ContestedKey, pee
 use Rattle.peers.specs.Peers.State.{PeersState, is_known, has_snapshot, valid_peer, valid_snapshot_key, valid_contested, valid_peers, valid_snapshot_keys, valid_contesteds, valid}
 use Rattle.peers.specs.Peers.Changes.{newer, implausible, implausible_jump, stale_after_rounds, exceeds, collected, merge_keys, oldest, without_oldests, trimmed, contest, same_keys, takes, contests, verdict, take_report, contest_report, apply, hold_peer, leave, expire_holds, is_exempt, expire_age, expire_empty, expire}
 use Rattle.peers.specs.Peers.Readers.{heard, total_from, total, hot_elsewhere, sum_over, peer_len, len}
+use Rattle.std.specs.declared.option.Option.{Option}
+use Rattle.std.specs.declared.option.Option.TheVariants.{None, Some}
 
 -- 01: newer(1, 65535) yes; (32768, 0) and (0, 32768) no
 newer-wraps : newer 1 65535 ≡ true
@@ -44,7 +45,7 @@ none_yet = record { peers = []; snapshot_keys = []; contested = [] }
 
 abbrev peer : Option ℕ → ℕ → ℕ → ℕ → List ℕ → PeerRecord
 peer held epoch round at past =
-    record { id = 5; held_until = held; snapshot = some (record { epoch = epoch; round = round; heard_at = at }); past_epochs = past }
+    record { id = 5; held_until = held; snapshot = Some (record { epoch = epoch; round = round; heard_at = at }); past_epochs = past }
 
 abbrev taken : ℕ → ℕ → Bool → SnapshotKey
 taken k bits primary = record { peer = 5; key = k; demand = bits; primary = primary }
@@ -58,7 +59,7 @@ first = report 1 10 1 (key 7 0x40000000 true ∷ [])
 
 abbrev after_first : PeersState
 after_first =
-    record { peers = peer none 1 10 100 [] ∷ []; snapshot_keys = taken 7 0x40000000 true ∷ []; contested = [] }
+    record { peers = peer None 1 10 100 [] ∷ []; snapshot_keys = taken 7 0x40000000 true ∷ []; contested = [] }
 
 first-is-taken : apply implausible_jump 5 first 100 none_yet ≡ after_first
 unfolding apply verdict take_report collected only those replaced of_bits of_fields odd to_bits size span climb
@@ -76,7 +77,7 @@ old = report 1 9 2 (key 8 0x3f800000 false ∷ key 7 0x40400000 false ∷ [])
 abbrev after-old : PeersState
 after-old =
     record {
-      peers = peer none 1 10 100 [] ∷ [];
+      peers = peer None 1 10 100 [] ∷ [];
       snapshot_keys = taken 7 0x40000000 true ∷ [];
       contested = contested 7 0x40400000 false 9 200 ∷ contested 8 0x3f800000 false 9 200 ∷ [];
     }
@@ -86,7 +87,7 @@ unfolding apply verdict newer take_report contest_report contest merge_keys with
 old-is-contested = refl
 
 -- the higher demand with its round, and primary since the snapshot's is
-heard-joined : heard 5 7 after-old ≡ some (record { demand = of_bits binary32 0x40400000; primary = true; round = 9; heard_at = 200 })
+heard-joined : heard 5 7 after-old ≡ Some (record { demand = of_bits binary32 0x40400000; primary = true; round = 9; heard_at = 200 })
 unfolding heard only those lt of_bits of_fields odd
 heard-joined = refl
 
@@ -98,7 +99,7 @@ len-two = refl
 abbrev held : PeersState
 held =
     record {
-      peers = peer (some 350) 1 10 100 [] ∷ [];
+      peers = peer (Some 350) 1 10 100 [] ∷ [];
       snapshot_keys = taken 7 0x40000000 true ∷ [];
       contested = contested 7 0x40400000 false 9 200 ∷ contested 8 0x3f800000 false 9 200 ∷ [];
     }
@@ -113,7 +114,7 @@ restart = report 2 0 3 (key 9 0x40400000 true ∷ key 4 0x3f800000 true ∷ key 
 abbrev after-restart : PeersState
 after-restart =
     record {
-      peers = peer none 2 0 400 (1 ∷ []) ∷ [];
+      peers = peer None 2 0 400 (1 ∷ []) ∷ [];
       snapshot_keys = taken 4 0x3f800000 true ∷ taken 9 0x3f800000 false ∷ [];
       contested = contested 7 0x40400000 true 9 200 ∷ contested 8 0x3f800000 false 9 200 ∷ [];
     }
@@ -158,7 +159,7 @@ primary-elsewhere = refl
 expired : PeersState
 expired =
     record {
-      peers = peer none 2 0 400 (1 ∷ []) ∷ [];
+      peers = peer None 2 0 400 (1 ∷ []) ∷ [];
       snapshot_keys = taken 4 0x3f800000 true ∷ taken 9 0x3f800000 false ∷ [];
       contested = [];
     }
@@ -191,10 +192,10 @@ unfolding valid valid_peers valid_snapshot_keys valid_contesteds valid_peer vali
 valid-restart = refl
 
 -- the words of a peer's record, and the record of the words
-peer-words : peer_words (peer (some 350) 2 0 400 (1 ∷ [])) ≡ 5 ∷ 1 ∷ 350 ∷ 1 ∷ 2 ∷ 0 ∷ 400 ∷ 1 ∷ 1 ∷ 0 ∷ 0 ∷ 0 ∷ []
+peer-words : peer_words (peer (Some 350) 2 0 400 (1 ∷ [])) ≡ 5 ∷ 1 ∷ 350 ∷ 1 ∷ 2 ∷ 0 ∷ 400 ∷ 1 ∷ 1 ∷ 0 ∷ 0 ∷ 0 ∷ []
 unfolding peer_words
 peer-words = refl
 
-peer-of-words : peer_of (5 ∷ 1 ∷ 350 ∷ 1 ∷ 2 ∷ 0 ∷ 400 ∷ 1 ∷ 1 ∷ 0 ∷ 0 ∷ 0 ∷ []) ≡ peer (some 350) 2 0 400 (1 ∷ [])
+peer-of-words : peer_of (5 ∷ 1 ∷ 350 ∷ 1 ∷ 2 ∷ 0 ∷ 400 ∷ 1 ∷ 1 ∷ 0 ∷ 0 ∷ 0 ∷ []) ≡ peer (Some 350) 2 0 400 (1 ∷ [])
 unfolding peer_of
 peer-of-words = refl

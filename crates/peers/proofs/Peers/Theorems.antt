@@ -8,13 +8,12 @@ use Rattle.questions.proofs.Answers.{changed-passed, given-passed, none_passed}
 use Rattle.peers.specs.declared.peer_demand.DemandReport.{DemandReport}
 use Rattle.peers.specs.declared.peer_demand.PeerDemand.{PeerDemand}
 use Rattle.peers.specs.declared.peer_demand.PeersChanged.{PeersChanged}
-use Rattle.peers.specs.declared.peer_demand.PeersAnswer.{PeersAnswer}
 use Rattle.questions.specs.Lists.{all}
 use Rattle.peers.specs.Peers.Records.{PeerRecord, peer_words, snapshot_key_words, contested_words, peer_of, snapshot_key_of, contested_of}
 use Rattle.peers.specs.Peers.State.{PeersState, PeerTables, peers_size, snapshot_keys_size, contested_size, valid_peer, valid_snapshot_key, valid_contested, valid, valid_peers, valid_snapshot_keys, valid_contesteds, lengths, have_room, state_of, are_exact, is_valid, new_peers, with_counts, written}
 use Rattle.records.specs.Typed.{exact}
 use Rattle.peers.specs.Peers.Changes as changes
-use Rattle.peers.specs.Peers.Calls.{Widths, fits_widths, peers_answer, new_questions, peers_questions, report_questions, Changes, IsNew, Applies, Forgets, Leaves, Expires}
+use Rattle.peers.specs.Peers.Calls.{Widths, fits_widths, new_questions, peers_questions, report_questions, Changes, IsNew, Applies, Forgets, Leaves, Expires}
 use Rattle.peers.specs.Peers.Steps.Stays.{Valid}
 use Rattle.peers.proofs.Peers.Tables.WordLaws.{peer-of-words, snapshot-key-of-words, contested-of-words, peer-long, key-long, contested-long}
 use Rattle.records.proofs.Tables.TypedLaws.{all_back, all-exact, records-written, length-written}
@@ -27,6 +26,9 @@ use Rattle.peers.proofs.Peers.Reports.TakeLaws.{past-few}
 use Rattle.peers.proofs.Peers.Reports.ApplyLaws.{passed-says}
 use Rattle.peers.proofs.Peers.Reports.ReportValidLaws.{apply-valid}
 use Rattle.peers.proofs.Peers.Departures.DepartureLaws.{forget-valid, leave-valid, expire-valid}
+use Rattle.std.specs.declared.result.Result.{Result}
+use Rattle.questions.specs.declared.Refusal.{Refusal}
+use Rattle.questions.specs.Refusals.{answer_of}
 
 -- a valid peer comes back from its words
 pub peer-back : (x : PeerRecord) → valid_peer x ≡ true → peer_of (peer_words x) ≡ x
@@ -140,7 +142,7 @@ new-valid : (t : PeerTables) → is_valid new_peers t ≡ true
 unfolding is_valid are_exact state_of records valid valid_peers valid_snapshot_keys valid_contesteds all ascending
 new-valid t = refl
 
-pub new-passes : (t : PeerTables) (r : PeersAnswer) (p : PeerDemand) → IsNew t r → peers_answer r ≡ given p → passes (peers_questions p t) ≡ true
+pub new-passes : (t : PeerTables) (r : Result PeerDemand Refusal) (p : PeerDemand) → IsNew t r → answer_of r ≡ given p → passes (peers_questions p t) ≡ true
 unfolding passes
 new-passes t r p c e =
     let w = given-passed (new_questions t) p new_peers (sym e ∙ c) in

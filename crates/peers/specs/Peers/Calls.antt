@@ -1,6 +1,5 @@
 -- The promise of each call on the peers: 01's questions in their order, its answer, and what the value and the tables hold afterwards. Definitions only.
 use Rattle.std.specs.Prelude.{◌≡◌, ℕ, ◌^◌, ◌<◌, Bool, ◌&&◌, ◌||◌, List, [], ◌∷◌, ◌++◌, length, ◌==◌, nat_le, nat_lt, Float}
-use Rattle.std.proofs.Math.Option.{Option, none, some}
 use Rattle.std.specs.Float.{binary32}
 use Rattle.std.specs.Float.Ieee.{fits}
 use Rattle.records.specs.Records as records
@@ -9,20 +8,8 @@ use Rattle.peers.specs.declared.peer_demand.KeyDemand.{KeyDemand}
 use Rattle.peers.specs.declared.peer_demand.DemandReport.{DemandReport}
 use Rattle.peers.specs.declared.peer_demand.Heard.{Heard}
 use Rattle.peers.specs.declared.peer_demand.PeerDemand.{PeerDemand}
-use Rattle.peers.specs.declared.peer_demand.RoundsAnswer.{RoundsAnswer}
-use Rattle.peers.specs.declared.peer_demand.RoundsAnswer.TheVariants as rounds-answer
-use Rattle.peers.specs.declared.peer_demand.PeersAnswer.{PeersAnswer}
-use Rattle.peers.specs.declared.peer_demand.PeersAnswer.TheVariants as peers-answer
-use Rattle.peers.specs.declared.peer_demand.ChangeAnswer.{ChangeAnswer}
-use Rattle.peers.specs.declared.peer_demand.ChangeAnswer.TheVariants as change-answer
 use Rattle.peers.specs.declared.peer_demand.PeersChanged.{PeersChanged}
-use Rattle.peers.specs.declared.peer_demand.HeardAnswer.{HeardAnswer}
-use Rattle.peers.specs.declared.peer_demand.HeardAnswer.TheVariants as heard-answer
-use Rattle.peers.specs.declared.peer_demand.TotalAnswer.{TotalAnswer}
-use Rattle.peers.specs.declared.peer_demand.TotalAnswer.TheVariants as total-answer
-use Rattle.demand.specs.declared.answers.FlagAnswer.{FlagAnswer}
-use Rattle.demand.specs.declared.answers.LenAnswer.{LenAnswer}
-use Rattle.questions.specs.Questions.{Question, ◌asks◌, Answer, refused, given, answer, changed, first_no}
+use Rattle.questions.specs.Questions.{Question, ◌asks◌, answer, changed, first_no}
 use Rattle.demand.specs.Allocation.{is_cluster_size}
 use Rattle.questions.specs.Lists.{all}
 use Rattle.peers.specs.Peers.Records.{PeerRecord}
@@ -30,30 +17,10 @@ use Rattle.peers.specs.Peers.State.{PeersState, PeerTables, max_peers, max_deman
 use Rattle.records.specs.Typed.{is_word}
 use Rattle.peers.specs.Peers.Changes as changes
 use Rattle.peers.specs.Peers.Readers as readers
-use Rattle.demand.specs.Answers.{flag_answer, len_answer}
-
--- ---- 01's number and values for each case of the answers
-
-abbrev pub rounds_answer : RoundsAnswer → Answer ℕ
-rounds_answer (rounds-answer.No n) = refused n
-rounds_answer (rounds-answer.Is n) = given n
-
-abbrev pub peers_answer : PeersAnswer → Answer PeerDemand
-peers_answer (peers-answer.No n) = refused n
-peers_answer (peers-answer.Is p) = given p
-
-abbrev pub change_answer : ChangeAnswer → Answer (Unit {0})
-change_answer (change-answer.No n) = refused n
-change_answer change-answer.Done = given tt
-
-abbrev pub heard_answer : HeardAnswer → Answer (Option Heard)
-heard_answer (heard-answer.No n) = refused n
-heard_answer heard-answer.Nothing = given none
-heard_answer (heard-answer.Is h) = given (some h)
-
-abbrev pub total_answer : TotalAnswer → Answer Float
-total_answer (total-answer.No n) = refused n
-total_answer (total-answer.Is x) = given x
+use Rattle.std.specs.declared.option.Option.{Option}
+use Rattle.std.specs.declared.result.Result.{Result}
+use Rattle.questions.specs.declared.Refusal.{Refusal}
+use Rattle.questions.specs.Refusals.{answer_of}
 
 -- ---- questions
 
@@ -105,7 +72,7 @@ fits_widths k = is_word k.key_hash && fits binary32 k.demand
 
 -- the answer; and where every question is answered 'yes', the value with the counts of the state changed and the tables that hold it
 pub record Changes (qs : List Question) (change : PeersState → PeersState) (p : PeerDemand) (t : PeerTables) (r : PeersChanged) (t' : PeerTables) : Type 0 where
-  pub answered : change_answer r.answer ≡ answer qs tt
+  pub answered : answer_of r.answer ≡ answer qs tt
   pub value : r.peers ≡ changed qs p (with_counts p (change (state_of p t)))
   pub words : t' ≡ changed qs t (written (change (state_of p t)) t)
 
@@ -127,35 +94,35 @@ Expires p t at max_age r t' = Changes (peers_questions p t) (changes.expire at m
 abbrev pub Asks : PeerDemand → PeerTables → ℕ → Type 0
 Asks p t r = r ≡ first_no (peers_questions p t)
 
-abbrev pub IsNew : PeerTables → PeersAnswer → Type 0
-IsNew t r = peers_answer r ≡ answer (new_questions t) new_peers
+abbrev pub IsNew : PeerTables → Result PeerDemand Refusal → Type 0
+IsNew t r = answer_of r ≡ answer (new_questions t) new_peers
 
-abbrev pub Gets : PeerDemand → PeerTables → ℕ → ℕ → HeardAnswer → Type 0
-Gets p t id key r = heard_answer r ≡ answer (peers_questions p t) (readers.heard id key (state_of p t))
+abbrev pub Gets : PeerDemand → PeerTables → ℕ → ℕ → Result (Option Heard) Refusal → Type 0
+Gets p t id key r = answer_of r ≡ answer (peers_questions p t) (readers.heard id key (state_of p t))
 
-abbrev pub Totals : PeerDemand → PeerTables → ℕ → TotalAnswer → Type 0
-Totals p t key r = total_answer r ≡ answer (peers_questions p t) (readers.total key (state_of p t))
+abbrev pub Totals : PeerDemand → PeerTables → ℕ → Result Float Refusal → Type 0
+Totals p t key r = answer_of r ≡ answer (peers_questions p t) (readers.total key (state_of p t))
 
-abbrev pub TellsHotElsewhere : PeerDemand → PeerTables → ℕ → FlagAnswer → Type 0
-TellsHotElsewhere p t key r = flag_answer r ≡ answer (peers_questions p t) (readers.hot_elsewhere key (state_of p t))
+abbrev pub TellsHotElsewhere : PeerDemand → PeerTables → ℕ → Result Bool Refusal → Type 0
+TellsHotElsewhere p t key r = answer_of r ≡ answer (peers_questions p t) (readers.hot_elsewhere key (state_of p t))
 
-abbrev pub Counts : PeerDemand → PeerTables → LenAnswer → Type 0
-Counts p t r = len_answer r ≡ answer (peers_questions p t) (readers.len (state_of p t))
+abbrev pub Counts : PeerDemand → PeerTables → Result ℕ Refusal → Type 0
+Counts p t r = answer_of r ≡ answer (peers_questions p t) (readers.len (state_of p t))
 
-abbrev pub TellsEmpty : PeerDemand → PeerTables → FlagAnswer → Type 0
-TellsEmpty p t r = flag_answer r ≡ answer (peers_questions p t) (readers.len (state_of p t) == 0)
+abbrev pub TellsEmpty : PeerDemand → PeerTables → Result Bool Refusal → Type 0
+TellsEmpty p t r = answer_of r ≡ answer (peers_questions p t) (readers.len (state_of p t) == 0)
 
-abbrev pub StaleRounds : ℕ → RoundsAnswer → Type 0
-StaleRounds n r = rounds_answer r ≡ answer (cluster_questions n) (changes.stale_after_rounds n)
+abbrev pub StaleRounds : ℕ → Result ℕ Refusal → Type 0
+StaleRounds n r = answer_of r ≡ answer (cluster_questions n) (changes.stale_after_rounds n)
 
 -- ---- calls that read of many keys, and write what they tell to a lent output
 
-pub record TellsEach {A : Type 0} (tell : ℕ → PeersState → A) (p : PeerDemand) (t : PeerTables) (w n : ℕ) (keys : List ℕ) (out : List A) (r : ChangeAnswer) (out' : List A) : Type 0 where
-  pub answered : change_answer r ≡ answer (each_questions p t (length keys) w n (length out)) tt
+pub record TellsEach {A : Type 0} (tell : ℕ → PeersState → A) (p : PeerDemand) (t : PeerTables) (w n : ℕ) (keys : List ℕ) (out : List A) (r : Result Unit Refusal) (out' : List A) : Type 0 where
+  pub answered : answer_of r ≡ answer (each_questions p t (length keys) w n (length out)) tt
   pub output : out' ≡ changed (each_questions p t (length keys) w n (length out)) out (readers.told tell (state_of p t) w n keys out)
 
-abbrev pub TotalsEach : PeerDemand → PeerTables → ℕ → ℕ → List ℕ → List Float → ChangeAnswer → List Float → Type 0
+abbrev pub TotalsEach : PeerDemand → PeerTables → ℕ → ℕ → List ℕ → List Float → Result Unit Refusal → List Float → Type 0
 TotalsEach = TellsEach readers.total
 
-abbrev pub TellsHotElsewhereEach : PeerDemand → PeerTables → ℕ → ℕ → List ℕ → List Bool → ChangeAnswer → List Bool → Type 0
+abbrev pub TellsHotElsewhereEach : PeerDemand → PeerTables → ℕ → ℕ → List ℕ → List Bool → Result Unit Refusal → List Bool → Type 0
 TellsHotElsewhereEach = TellsEach readers.hot_elsewhere

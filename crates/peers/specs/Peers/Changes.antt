@@ -1,6 +1,5 @@
 -- What reports, departures and time do to the peers' state (peer_demand.rs). Definitions only.
 use Rattle.std.specs.Prelude.{ℕ, zero, suc, ◌+◌, ◌-◌, ◌*◌, ◌%◌, ◌^◌, min, max, Bool, true, false, cond, not, ◌&&◌, ◌||◌, List, [], ◌∷◌, map, length, take, ◌==◌, from_bits, nat_eq, nat_le, nat_lt, to_bits}
-use Rattle.std.proofs.Math.Option.{Option, none, some}
 use Rattle.std.specs.Float.{binary32}
 use Rattle.std.specs.Float.Ieee.{lt}
 use Rattle.records.specs.Records.{same}
@@ -9,6 +8,8 @@ use Rattle.peers.specs.declared.peer_demand.DemandReport.{DemandReport}
 use Rattle.questions.specs.Lists.{only, any, first, those, replaced}
 use Rattle.peers.specs.Peers.Records.{max_past_epochs, Snapshot, PeerRecord, SnapshotKey, ContestedKey, snapshot_key_words}
 use Rattle.peers.specs.Peers.State.{PeersState, max_contested, peer_with, snapshot_keys_of, contested_keys_of, is_taken, is_held, is_known, has_snapshot}
+use Rattle.std.specs.declared.option.Option.{Option}
+use Rattle.std.specs.declared.option.Option.TheVariants.{None, Some}
 
 -- ---- rounds (01, 'Reports (002)')
 
@@ -82,8 +83,8 @@ merged round at k c =
     }
 
 abbrev pub contested_with : (round at : ℕ) → SnapshotKey → Option ContestedKey → ContestedKey
-contested_with round at k none = fresh round at k
-contested_with round at k (some c) = merged round at k c
+contested_with round at k None = fresh round at k
+contested_with round at k (Some c) = merged round at k c
 
 abbrev pub merge_key : (round at : ℕ) → SnapshotKey → List ContestedKey → List ContestedKey
 merge_key round at k cs =
@@ -154,17 +155,17 @@ not_taken epoch round old alike = cond (old.epoch == epoch && (old.round == roun
 
 -- the verdict on a report of the given epoch and round; `alike`: it has the keys of the snapshot
 abbrev pub verdict_on : (jump epoch round : ℕ) → Option Snapshot → List ℕ → Bool → Verdict
-verdict_on jump epoch round none past alike = takes [] false
-verdict_on jump epoch round (some old) past alike =
+verdict_on jump epoch round None past alike = takes [] false
+verdict_on jump epoch round (Some old) past alike =
     cond (is_news epoch round old past) (taken jump epoch round old past) (not_taken epoch round old alike)
 
 abbrev pub snapshot_in : Option PeerRecord → Option Snapshot
-snapshot_in none = none
-snapshot_in (some p) = p.snapshot
+snapshot_in None = None
+snapshot_in (Some p) = p.snapshot
 
 abbrev pub past_in : Option PeerRecord → List ℕ
-past_in none = []
-past_in (some p) = p.past_epochs
+past_in None = []
+past_in (Some p) = p.past_epochs
 
 -- the verdict on a report of the peer id that lists the keys ks
 unfoldable pub verdict : (jump id epoch round : ℕ) → List SnapshotKey → PeersState → Verdict
@@ -186,16 +187,16 @@ with_contested id new cs = replaced (λ (c : ContestedKey). c.peer) id new cs
 
 -- the contested keys cs of a peer after a report replaced its snapshot, whose keys are ks and are contested or not
 abbrev pub keep_replaced : Bool → Option Snapshot → List SnapshotKey → List ContestedKey → List ContestedKey
-keep_replaced keep none ks cs = cs
-keep_replaced keep (some old) ks cs = cond keep (contest old.round old.heard_at ks cs) cs
+keep_replaced keep None ks cs = cs
+keep_replaced keep (Some old) ks cs = cond keep (contest old.round old.heard_at ks cs) cs
 
 -- the peer with the report as its snapshot, and no hold
 abbrev pub taken_peer : (id epoch round at : ℕ) → List ℕ → PeerRecord
 taken_peer id epoch round at past =
     record {
       id = id;
-      held_until = none;
-      snapshot = some (record { epoch = epoch; round = round; heard_at = at });
+      held_until = None;
+      snapshot = Some (record { epoch = epoch; round = round; heard_at = at });
       past_epochs = past;
     }
 
@@ -247,7 +248,7 @@ forget id s =
     }
 
 abbrev pub hold : ℕ → PeerRecord → PeerRecord
-hold until p = record { id = p.id; held_until = some until; snapshot = p.snapshot; past_epochs = p.past_epochs }
+hold until p = record { id = p.id; held_until = Some until; snapshot = p.snapshot; past_epochs = p.past_epochs }
 
 unfoldable pub hold_peer : (id until : ℕ) → PeersState → PeersState
 hold_peer id until s =
@@ -266,8 +267,8 @@ leave id at time s = cond (time == 0) (forget id s) (hold_peer id (later at time
 -- a hold ends, whatever the age
 
 abbrev pub hold_ended : ℕ → Option ℕ → Bool
-hold_ended at none = false
-hold_ended at (some until) = nat_le until at
+hold_ended at None = false
+hold_ended at (Some until) = nat_le until at
 
 abbrev pub not_ended : ℕ → List PeerRecord → List PeerRecord
 not_ended at ps = only (λ (p : PeerRecord). not (hold_ended at p.held_until)) ps
@@ -288,14 +289,14 @@ abbrev pub is_fresh : (at max_age heard_at : ℕ) → Bool
 is_fresh at max_age heard_at = nat_lt at (later heard_at max_age)
 
 abbrev pub is_fresh_snapshot : (at max_age : ℕ) → Option Snapshot → Bool
-is_fresh_snapshot at max_age none = false
-is_fresh_snapshot at max_age (some s) = is_fresh at max_age s.heard_at
+is_fresh_snapshot at max_age None = false
+is_fresh_snapshot at max_age (Some s) = is_fresh at max_age s.heard_at
 
 -- a stale snapshot goes with its past epochs
 abbrev pub age_peer : (PeerRecord → Bool) → ℕ → ℕ → PeerRecord → PeerRecord
 age_peer exempt at max_age p =
     cond (exempt p || is_fresh_snapshot at max_age p.snapshot) p
-    (record { id = p.id; held_until = p.held_until; snapshot = none; past_epochs = [] })
+    (record { id = p.id; held_until = p.held_until; snapshot = None; past_epochs = [] })
 
 abbrev pub aged_peers : (PeerRecord → Bool) → ℕ → ℕ → PeersState → List PeerRecord
 aged_peers exempt at max_age s = map (age_peer exempt at max_age) s.peers

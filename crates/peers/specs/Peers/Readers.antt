@@ -1,6 +1,5 @@
 -- What the peers' state says of a key (peer_demand.rs: `heard`, `get`, `total`, `hot_elsewhere`, `len`). Definitions only.
 use Rattle.std.specs.Prelude.{ℕ, ◌+◌, Bool, false, cond, not, ◌||◌, List, [], ◌∷◌, ◌++◌, map, length, drop, from_bits, nat_eq, slice_index, Float}
-use Rattle.std.proofs.Math.Option.{Option, none, some}
 use Rattle.std.specs.Float.{binary32, binary64}
 use Rattle.std.specs.Float.Ieee.{add, lt}
 use Rattle.records.specs.Records.{records}
@@ -8,18 +7,20 @@ use Rattle.peers.specs.declared.peer_demand.Heard.{Heard}
 use Rattle.questions.specs.Lists.{only, any, first, those}
 use Rattle.peers.specs.Peers.Records.{Snapshot, PeerRecord, SnapshotKey, ContestedKey}
 use Rattle.peers.specs.Peers.State.{PeersState, peer_with, snapshot_keys_of, contested_keys_of}
+use Rattle.std.specs.declared.option.Option.{Option}
+use Rattle.std.specs.declared.option.Option.TheVariants.{None, Some}
 
 -- the snapshot's word on a key, and the contested one
 abbrev pub heard_taken : Option Snapshot → Option SnapshotKey → Option Heard
-heard_taken none k = none
-heard_taken (some s) none = none
-heard_taken (some s) (some k) =
-    some (record { demand = from_bits binary32 k.demand; primary = k.primary; round = s.round; heard_at = s.heard_at })
+heard_taken None k = None
+heard_taken (Some s) None = None
+heard_taken (Some s) (Some k) =
+    Some (record { demand = from_bits binary32 k.demand; primary = k.primary; round = s.round; heard_at = s.heard_at })
 
 abbrev pub heard_contested : Option ContestedKey → Option Heard
-heard_contested none = none
-heard_contested (some c) =
-    some (record { demand = from_bits binary32 c.demand; primary = c.primary; round = c.round; heard_at = c.heard_at })
+heard_contested None = None
+heard_contested (Some c) =
+    Some (record { demand = from_bits binary32 c.demand; primary = c.primary; round = c.round; heard_at = c.heard_at })
 
 -- the higher of the two, the snapshot's where they are equal; primary if either is
 abbrev pub higher : Heard → Heard → Heard
@@ -35,9 +36,9 @@ joined taken contested =
     }
 
 abbrev pub join : Option Heard → Option Heard → Option Heard
-join none contested = contested
-join (some taken) none = some taken
-join (some taken) (some contested) = some (joined taken contested)
+join None contested = contested
+join (Some taken) None = Some taken
+join (Some taken) (Some contested) = Some (joined taken contested)
 
 abbrev pub snapshot_key_at : (id key : ℕ) → List SnapshotKey → Option SnapshotKey
 snapshot_key_at id key ks = first (those (λ (k : SnapshotKey). k.key) key (snapshot_keys_of id ks))
@@ -52,8 +53,8 @@ peer_heard key s p =
     (heard_contested (contested_at p.id key s.contested))
 
 abbrev pub heard_in : ℕ → PeersState → Option PeerRecord → Option Heard
-heard_in key s none = none
-heard_in key s (some p) = peer_heard key s p
+heard_in key s None = None
+heard_in key s (Some p) = peer_heard key s p
 
 -- `PeerDemand::get`: a peer that is not known has said nothing
 unfoldable pub heard : (id key : ℕ) → PeersState → Option Heard
@@ -61,8 +62,8 @@ heard id key s = heard_in key s (peer_with id s.peers)
 
 -- adds what was heard; an f64 holds every f32 exactly
 abbrev pub add_heard : Float → Option Heard → Float
-add_heard sum none = sum
-add_heard sum (some h) = add binary64 sum h.demand
+add_heard sum None = sum
+add_heard sum (Some h) = add binary64 sum h.demand
 
 unfoldable pub total_from : Float → ℕ → PeersState → List PeerRecord → Float
 total_from sum key s [] = sum
@@ -73,8 +74,8 @@ abbrev pub total : ℕ → PeersState → Float
 total key s = total_from (from_bits binary64 0) key s s.peers
 
 abbrev pub is_primary : Option Heard → Bool
-is_primary none = false
-is_primary (some h) = h.primary
+is_primary None = false
+is_primary (Some h) = h.primary
 
 -- `PeerDemand::hot_elsewhere`: a peer has the key as primary
 unfoldable pub hot_elsewhere : ℕ → PeersState → Bool

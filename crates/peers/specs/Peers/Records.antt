@@ -1,8 +1,9 @@
 -- What is kept of the peers (peer_demand.rs: `Peer`, `Snapshot`, `Contested`), and its words in a table and in an image (01, 'The saved image', kinds 5 to 7).
 -- Definitions only. A demand is kept as the bit pattern of its f32.
 use Rattle.std.specs.Prelude.{ℕ, zero, suc, Bool, List, [], ◌∷◌, ◌++◌, length, take, drop, slice_index}
-use Rattle.std.proofs.Math.Option.{Option, none, some}
 use Rattle.records.specs.Fields.{flag_word, flag_of, time_words, time_of}
+use Rattle.std.specs.declared.option.Option.{Option}
+use Rattle.std.specs.declared.option.Option.TheVariants.{None, Some}
 
 -- the most past epochs that are kept of a peer: `PAST_EPOCHS`
 abbrev pub max_past_epochs : ℕ
@@ -41,8 +42,8 @@ pub record ContestedKey : Type 0 where
 
 -- snapshot flag, epoch, round, heard at; absent parts are 0
 abbrev pub snapshot_words : Option Snapshot → List ℕ
-snapshot_words none = 0 ∷ 0 ∷ 0 ∷ 0 ∷ []
-snapshot_words (some s) = 1 ∷ s.epoch ∷ s.round ∷ s.heard_at ∷ []
+snapshot_words None = 0 ∷ 0 ∷ 0 ∷ 0 ∷ []
+snapshot_words (Some s) = 1 ∷ s.epoch ∷ s.round ∷ s.heard_at ∷ []
 
 -- count of past epochs, four past epochs
 abbrev pub past_words : List ℕ → List ℕ
@@ -60,8 +61,8 @@ contested_words c = c.peer ∷ c.key ∷ c.demand ∷ flag_word c.primary ∷ c.
 -- ---- the record of words
 
 abbrev pub snapshot_of : ℕ → ℕ → ℕ → ℕ → Option Snapshot
-snapshot_of zero epoch round heard_at = none
-snapshot_of (suc flag) epoch round heard_at = some (record { epoch = epoch; round = round; heard_at = heard_at })
+snapshot_of zero epoch round heard_at = None
+snapshot_of (suc flag) epoch round heard_at = Some (record { epoch = epoch; round = round; heard_at = heard_at })
 
 unfoldable pub peer_of : List ℕ → PeerRecord
 peer_of ws =

@@ -1,11 +1,12 @@
 -- The peers' state, when it is valid (01, 'The saved image'), and the tables that hold it. Definitions only.
 use Rattle.std.specs.Prelude.{ℕ, ◌*◌, ◌^◌, Bool, true, ◌&&◌, ◌||◌, ltb, leb, List, map, length, ◌==◌, nat_eq, nat_le, nat_lt}
-use Rattle.std.proofs.Math.Option.{Option, none, some}
 use Rattle.records.specs.Records.{records, table, ascending}
 use Rattle.peers.specs.declared.peer_demand.PeerDemand.{PeerDemand}
 use Rattle.questions.specs.Lists.{all, any, first, present, those}
 use Rattle.peers.specs.Peers.Records.{max_past_epochs, Snapshot, PeerRecord, SnapshotKey, ContestedKey, peer_words, snapshot_key_words, contested_words, peer_of, snapshot_key_of, contested_of}
 use Rattle.records.specs.Typed.{exact, is_word}
+use Rattle.std.specs.declared.option.Option.{Option}
+use Rattle.std.specs.declared.option.Option.TheVariants.{None, Some}
 
 -- the peers by id; the keys of their snapshots, and their contested keys, by peer and then key
 pub record PeersState : Type 0 where
@@ -55,8 +56,8 @@ is_demand w = nat_lt w 0x7f800000
 
 -- values fit their Rust widths
 abbrev pub valid_snapshot : Option Snapshot → Bool
-valid_snapshot none = true
-valid_snapshot (some s) = nat_lt s.epoch (2 ^ 32) && nat_lt s.round (2 ^ 16)
+valid_snapshot None = true
+valid_snapshot (Some s) = nat_lt s.epoch (2 ^ 32) && nat_lt s.round (2 ^ 16)
 
 abbrev pub valid_past : List ℕ → Bool
 valid_past es = nat_le (length es) max_past_epochs && all (λ (e : ℕ). ltb e (2 ^ 32)) es

@@ -10,7 +10,8 @@ use lib.Dec.{ltb, leb, eqb}
 use lib.ListN.{length, take, drop, get_or, length-drop}
 use lib.Seq.{slice, length-slice, take-nil, drop-nil, take-take, length-take-le}
 use Rattle.records.specs.declared.Found.TheVariants.{At, Gap, Unfit}
-use Rattle.records.specs.declared.Span.TheVariants.{Between, NoSpan}
+use Rattle.std.specs.Prelude.{Some, None}
+use Rattle.std.specs.declared.ops.Range.{Range}
 use Rattle.records.specs.Records.{records, table, fits, keyed, lower_bound, find, find_in, range_of, range_in, splice, insert_at, overwrite_at, spliceable, spliced, insertable, inserted, overwritable, overwritten, removable}
 use Rattle.questions.proofs.Tests.{split, and_intro}
 use Rattle.records.proofs.Words.RecordLaws.{fits-pos, fits_le, fits_intro, sub-mul, length-records, take-records, drop-records}
@@ -36,78 +37,79 @@ tabled-as {n} {rs} {xs} e f = subst (Tabled n rs xs) (sym e) f
 
 -- ---- what a search answered
 pub range-bounds :
-    (w n a lo hi : ℕ) (xs : List ℕ)
+    (w n a : ℕ) (span : Range ℕ) (xs : List ℕ)
     → fits (length xs) w n ≡ true
-    → range_in w n a xs ≡ Between lo hi
-    → (lo ≡ lower_bound 1 (a ∷ []) (records w n xs)) × (hi ≡ lower_bound 1 ((a + 1) ∷ []) (records w n xs))
+    → range_in w n a xs ≡ Some span
+    → (span.start ≡ lower_bound 1 (a ∷ []) (records w n xs)) × (span.end ≡ lower_bound 1 ((a + 1) ∷ []) (records w n xs))
 unfolding range_in range_of
-range-bounds w n a lo hi xs f e =
-    let q : range_of a (records w n xs) ≡ Between lo hi = sym (ap (λ (b : Bool). cond b (range_of a (records w n xs)) NoSpan) f) ∙ e in
-    (cc, cc)
+range-bounds w n a span xs f e =
+    let q : Some (range_of a (records w n xs)) ≡ Some span = sym (ap (λ (b : Bool). cond b (Some (range_of a (records w n xs))) None) f) ∙ e in
+    let r : range_of a (records w n xs) ≡ span = cc in
+    (sym (ap (λ (s : Range ℕ). s.start) r), sym (ap (λ (s : Range ℕ). s.end) r))
 
-pub range-fits : {P : Type 0} (w n a : ℕ) (xs : List ℕ) → fits (length xs) w n ≡ true → range_in w n a xs ≡ NoSpan → P
+pub range-fits : {P : Type 0} (w n a : ℕ) (xs : List ℕ) → fits (length xs) w n ≡ true → range_in w n a xs ≡ None → P
 unfolding range_in range_of
 range-fits w n a xs f e =
-    let q : range_of a (records w n xs) ≡ NoSpan = sym (ap (λ (b : Bool). cond b (range_of a (records w n xs)) NoSpan) f) ∙ e in
+    let q : Some (range_of a (records w n xs)) ≡ None = sym (ap (λ (b : Bool). cond b (Some (range_of a (records w n xs))) None) f) ∙ e in
     let z : ◌≡◌ {A = ℕ} 0 1 = cc in
     absurd (omega arith)
 
 -- ---- replaced
-module _ (w n a lo hi : ℕ) (new xs : List ℕ) (p : Replaceable w n a new xs) (e : range_in w n a xs ≡ Between lo hi) where
+module _ (w n a : ℕ) (span : Range ℕ) (new xs : List ℕ) (p : Replaceable w n a new xs) (e : range_in w n a xs ≡ Some span) where
   width : 0 < w
   width = fits-pos (length xs) w n p.fit
 
   wide : Wide w (records w n xs)
   wide = wide-records w n xs (fits_le (length xs) w n p.fit)
 
-  low : lo ≡ lower_bound 1 (a ∷ []) (records w n xs)
-  low = (range-bounds w n a lo hi xs p.fit e).0
+  low : span.start ≡ lower_bound 1 (a ∷ []) (records w n xs)
+  low = (range-bounds w n a span xs p.fit e).0
 
-  high : hi ≡ lower_bound 1 ((a + 1) ∷ []) (records w n xs)
-  high = (range-bounds w n a lo hi xs p.fit e).1
+  high : span.end ≡ lower_bound 1 ((a + 1) ∷ []) (records w n xs)
+  high = (range-bounds w n a span xs p.fit e).1
 
-  pub run-ordered : lo ≤ hi
+  pub run-ordered : span.start ≤ span.end
   run-ordered = omega (arith, low, high, range-ordered p.depth w a (records w n xs) p.some_words width wide p.ascends)
 
-  pub run-within : hi ≤ n
+  pub run-within : span.end ≤ n
   run-within = omega (arith, high, length-records w n xs, (first-cut p.depth w (a + 1) (records w n xs) p.some_words width wide p.ascends).within)
 
-  pub run-words : (lo * w ≤ hi * w) × (hi * w ≤ length xs)
+  pub run-words : (span.start * w ≤ span.end * w) × (span.end * w ≤ length xs)
   run-words = (mul-le-mul_right w run-ordered, omega (arith, mul-le-mul_right w run-within, fits_le (length xs) w n p.fit))
 
-  pub run-replaced : replaced_run w n a new xs ≡ splice lo hi (records w (length new / w) new) (records w n xs)
+  pub run-replaced : replaced_run w n a new xs ≡ splice span.start span.end (records w (length new / w) new) (records w n xs)
   run-replaced =
       replaced-splice p.depth w a (records w n xs) p.some_words width wide p.ascends (records w (length new / w) new)
       ∙ sym (λ k. splice (low k) (high k) (records w (length new / w) new) (records w n xs))
 
-  pub run-those : those (word 0) a (records w n xs) ≡ slice lo hi (records w n xs)
+  pub run-those : those (word 0) a (records w n xs) ≡ slice span.start span.end (records w n xs)
   run-those =
       those-range p.depth w a (records w n xs) p.some_words width wide p.ascends
       ∙ sym (λ k. slice (low k) (high k) (records w n xs))
 
-  pub run-any : ltb lo hi ≡ any (λ (r : List ℕ). eqb (word 0 r) a) (records w n xs)
+  pub run-any : ltb span.start span.end ≡ any (λ (r : List ℕ). eqb (word 0 r) a) (records w n xs)
   run-any =
-      let l : length (those (word 0) a (records w n xs)) ≡ hi - lo = ap length run-those ∙ length-slice lo hi (records w n xs) (omega (arith, run-within, length-records w n xs)) in
+      let l : length (those (word 0) a (records w n xs)) ≡ span.end - span.start = ap length run-those ∙ length-slice span.start span.end (records w n xs) (omega (arith, run-within, length-records w n xs)) in
       by-gap (length (those (word 0) a (records w n xs))) (sym l) ∙ sym (any-number (word 0) a (records w n xs))
     where
-      by-gap : (m : ℕ) → hi - lo ≡ m → ltb lo hi ≡ ltb 0 m
-      by-gap m e = split (ltb lo hi)
-          (λ f. f ∙ sym (lt-ltb 0 m (omega (arith, ltb-true lo hi f))))
-          (λ f. f ∙ sym (le-ltb 0 m (omega (arith, ltb-false lo hi f))))
+      by-gap : (m : ℕ) → span.end - span.start ≡ m → ltb span.start span.end ≡ ltb 0 m
+      by-gap m e = split (ltb span.start span.end)
+          (λ f. f ∙ sym (lt-ltb 0 m (omega (arith, ltb-true span.start span.end f))))
+          (λ f. f ∙ sym (le-ltb 0 m (omega (arith, ltb-false span.start span.end f))))
 
-  pub run-count : n - (hi - lo) + length new / w ≡ length (replaced_run w n a new xs)
+  pub run-count : n - (span.end - span.start) + length new / w ≡ length (replaced_run w n a new xs)
   run-count =
       sym
       (ap length run-replaced
-      ∙ length-splice lo hi (records w (length new / w) new) (records w n xs) (omega (arith, run-ordered, run-within, length-records w n xs))
+      ∙ length-splice span.start span.end (records w (length new / w) new) (records w n xs) (omega (arith, run-ordered, run-within, length-records w n xs))
       ∙ omega (arith, run-ordered, run-within, length-records w n xs, length-records w (length new / w) new))
 
-  can : spliceable (length xs) w n lo hi (length new) ≡ true
+  can : spliceable (length xs) w n span.start span.end (length new) ≡ true
   can =
       let whole : length new / w * w ≡ length new = omega (arith, div-add-mod' (length new) w, p.whole) in
-      let r : (n - (hi - lo)) * w + length new ≡ length (replaced_run w n a new xs) * w =
-      ap (λ (m : ℕ). (n - (hi - lo)) * w + m) (sym whole) ∙ sym (add-mul (n - (hi - lo)) (length new / w) w) ∙ ap (λ (m : ℕ). m * w) run-count in
-      splice-intro (length xs) w n lo hi (length new) (record {
+      let r : (n - (span.end - span.start)) * w + length new ≡ length (replaced_run w n a new xs) * w =
+      ap (λ (m : ℕ). (n - (span.end - span.start)) * w + m) (sym whole) ∙ sym (add-mul (n - (span.end - span.start)) (length new / w) w) ∙ ap (λ (m : ℕ). m * w) run-count in
+      splice-intro (length xs) w n span.start span.end (length new) (record {
         width = width;
         within = fits_le (length xs) w n p.fit;
         order = run-ordered;
@@ -116,12 +118,12 @@ module _ (w n a lo hi : ℕ) (new xs : List ℕ) (p : Replaceable w n a new xs) 
         room = omega (arith, r, p.room);
       })
 
-  pub run-tabled : Tabled (n - (hi - lo) + length new / w) (replaced_run w n a new xs) xs (spliced w n lo hi new xs)
+  pub run-tabled : Tabled (n - (span.end - span.start) + length new / w) (replaced_run w n a new xs) xs (spliced w n span.start span.end new xs)
   unfolding spliced
   run-tabled = record {
     count = run-count;
     words =
-        ap (λ (b : Bool). cond b (table (splice lo hi (records w (length new / w) new) (records w n xs)) xs) xs) can
+        ap (λ (b : Bool). cond b (table (splice span.start span.end (records w (length new / w) new) (records w n xs)) xs) xs) can
         ∙ ap (λ (l : List (List ℕ)). table l xs) (sym run-replaced);
   }
 
@@ -158,28 +160,28 @@ records-part w n lo hi xs h l =
     ∙ records-take w (hi - lo) (drop (lo * w) xs)
     ∙ sym (slice-records w n lo hi xs h l)
 
-module _ (w n a lo hi : ℕ) (xs run : List ℕ) (p : Replaceable w n a [] xs) (e : range_in w n a xs ≡ Between lo hi) where
+module _ (w n a : ℕ) (span : Range ℕ) (xs run : List ℕ) (p : Replaceable w n a [] xs) (e : range_in w n a xs ≡ Some span) where
   abbrev part : List ℕ
-  part = take (hi * w - lo * w) (drop (lo * w) xs)
+  part = take (span.end * w - span.start * w) (drop (span.start * w) xs)
 
-  part_length : length part ≡ (hi - lo) * w
+  part_length : length part ≡ (span.end - span.start) * w
   part_length =
-      let l = sub-mul w hi lo (run-ordered w n a lo hi [] xs p e) in
-      length-take-le (hi * w - lo * w) (drop (lo * w) xs) (omega (arith, run-words w n a lo hi [] xs p e, length-drop (lo * w) xs)) ∙ omega (arith, l)
+      let l = sub-mul w span.end span.start (run-ordered w n a span [] xs p e) in
+      length-take-le (span.end * w - span.start * w) (drop (span.start * w) xs) (omega (arith, run-words w n a span [] xs p e, length-drop (span.start * w) xs)) ∙ omega (arith, l)
 
   load-width : 0 < w
   load-width = fits-pos (length xs) w n p.fit
 
-  part_count : length part / w ≡ hi - lo
-  part_count = ap (λ (m : ℕ). m / w) part_length ∙ mul-div_left (hi - lo) load-width
+  part_count : length part / w ≡ span.end - span.start
+  part_count = ap (λ (m : ℕ). m / w) part_length ∙ mul-div_left (span.end - span.start) load-width
 
-  part-records : records w (hi - lo) part ≡ those (word 0) a (records w n xs)
-  part-records = records-part w n lo hi xs (run-ordered w n a lo hi [] xs p e) (run-within w n a lo hi [] xs p e) ∙ sym (run-those w n a lo hi [] xs p e)
+  part-records : records w (span.end - span.start) part ≡ those (word 0) a (records w n xs)
+  part-records = records-part w n span.start span.end xs (run-ordered w n a span [] xs p e) (run-within w n a span [] xs p e) ∙ sym (run-those w n a span [] xs p e)
 
-  load-count : hi - lo ≡ length (those (word 0) a (records w n xs))
-  load-count = sym (length-records w (hi - lo) part) ∙ ap length part-records
+  load-count : span.end - span.start ≡ length (those (word 0) a (records w n xs))
+  load-count = sym (length-records w (span.end - span.start) part) ∙ ap length part-records
 
-  pub loaded : length (those (word 0) a (records w n xs)) * w ≤ length run → Front w (hi - lo) (those (word 0) a (records w n xs)) (spliced w 0 0 0 part run)
+  pub loaded : length (those (word 0) a (records w n xs)) * w ≤ length run → Front w (span.end - span.start) (those (word 0) a (records w n xs)) (spliced w 0 0 0 part run)
   unfolding splice records
   loaded room =
       let s : spliceable (length run) w 0 0 0 (length part) ≡ true = splice-intro (length run) w 0 0 0 (length part) (record {
@@ -187,10 +189,10 @@ module _ (w n a lo hi : ℕ) (xs run : List ℕ) (p : Replaceable w n a [] xs) (
         within = omega (arith, zero-mul w);
         order = omega arith;
         last = omega arith;
-        whole = ap (λ (m : ℕ). m % w) part_length ∙ mul-mod_left (hi - lo) w;
+        whole = ap (λ (m : ℕ). m % w) part_length ∙ mul-mod_left (span.end - span.start) w;
         room = omega (arith, zero-mul w, part_length, ap (λ (m : ℕ). m * w) load-count);
       }) in
-      let k : 0 - (0 - 0) + length part / w ≡ hi - lo = omega (arith, part_count) in
+      let k : 0 - (0 - 0) + length part / w ≡ span.end - span.start = omega (arith, part_count) in
       record {
         count = load-count;
         front =

@@ -6,14 +6,15 @@ use Prim.Native.Nat.{ℕ, ◌+◌, ◌-◌, ◌*◌, ◌/◌, ◌%◌, ◌≤◌
 use native.Mathlib.Nat.{mul-le-mul_right, div-add-mod', div_self, mod_self, zero-div, zero-mod}
 use native.Mathlib.Numerals.{add-one}
 use native.Mathlib.Omega.{arith}
-use borrow.Author.Tests.{leb-true, lt-ltb, le-ltb, le-leb, lt-leb, eqb-true, eq-eqb, ne_eqb}
+use borrow.Author.Tests.{leb-true, lt-ltb, le-ltb, le-leb, eqb-true, eq-eqb, ne_eqb}
 use lib.Dec.{ltb, leb, eqb}
 use lib.ListN.{length, take, drop, length-append}
 use lib.Seq.{take-add, slice, length-slice, length-take-le, drop_at, take_all}
+use Rattle.std.specs.List as within
 use Rattle.records.specs.Words.{copy_within, paste}
 use Rattle.records.specs.Records.{records, flat, table, fits, splice, insert_at, remove_at, overwrite_at, spliceable, spliced, insertable, inserted, removable, removed, overwritable, overwritten}
 use Rattle.questions.proofs.Tests.{both, and_second, and_intro, leb-same, same_truth, cond_same}
-use Rattle.records.proofs.Words.WordLaws.{paste-copy}
+use Rattle.records.proofs.Words.WordLaws.{paste-copy, copy-here}
 use Rattle.records.proofs.Words.RecordLaws.{fits-pos, fits_le, fits_intro, row, sub-mul, take-records, drop-records, flat_append, flat-records}
 
 -- what `spliceable` says
@@ -50,22 +51,6 @@ module _ (len w n i j k : ℕ) where
       (and_intro (leb j n) _ (le-leb j n s.last)
       (and_intro (eqb (k % w) 0) _ (eq-eqb (k % w) 0 s.whole) (le-leb ((n - (j - i)) * w + k) len s.room))))
 
-  pub no-fit : fits len w n ≡ false → spliceable len w n i j k ≡ false
-  unfolding spliceable
-  no-fit e = rw e
-
-  pub no-order : fits len w n ≡ true → j < i → spliceable len w n i j k ≡ false
-  unfolding spliceable
-  no-order e h = rw (e, lt-leb i j h)
-
-  pub no_last : fits len w n ≡ true → i ≤ j → n < j → spliceable len w n i j k ≡ false
-  unfolding spliceable
-  no_last e h g = rw (e, le-leb i j h, lt-leb j n g)
-
-  pub no_whole : fits len w n ≡ true → i ≤ j → j ≤ n → (k % w ≡ 0 → ⊥) → spliceable len w n i j k ≡ false
-  unfolding spliceable
-  no_whole e h g q = rw (e, le-leb i j h, le-leb j n g, ne_eqb (k % w) 0 q)
-
   pub kept-le : fits len w n ≡ true → (n - (j - i)) * w ≤ len
   kept-le e =
       let h : n - (j - i) ≤ n = omega arith in
@@ -81,6 +66,17 @@ module _ (len w n i j k : ℕ) where
 pub slice_is : (f m : ℕ) (xs : List ℕ) → f + m ≤ length xs → take m (drop f xs) ≡ slice f (f + m) xs
 slice_is f m xs h =
     sym (ap (drop f) (take-add f m xs) ∙ drop_at (take f xs) (take m (drop f xs)) f (length-take-le f xs (omega arith)))
+
+-- std's copy
+pub copy_is : (f t d : ℕ) (xs : List ℕ) → f ≤ t → t ≤ length xs → within.copy_within xs f t d ≡ copy_within f t d xs
+unfolding copy_within
+copy_is f t d xs h k =
+    let e : f + (t - f) ≡ t = omega arith in
+    append_assoc (take d xs) (take (t - f) (drop f xs)) (drop (d + (t - f)) xs)
+    ∙ ap (λ (l : List ℕ). take d xs ++ (l ++ drop (d + (t - f)) xs)) (slice_is f (t - f) xs (omega arith) ∙ ap (λ (m : ℕ). slice f m xs) e)
+
+pub copy_stays : (f t d : ℕ) (xs : List ℕ) → f ≤ t → t ≤ length xs → d ≡ f → copy_within f t d xs ≡ xs
+copy_stays f t d xs h k e = ap (λ (m : ℕ). copy_within f t m xs) e ∙ copy-here f t xs h k
 
 -- the words of the spliced records
 module _ (w n i j : ℕ) (new xs : List ℕ) (s : Spliceable (length xs) w n i j (length new)) where
@@ -142,6 +138,12 @@ module _ (w n i j : ℕ) (new xs : List ℕ) (s : Spliceable (length xs) w n i j
 pub splice-done : (w n i j : ℕ) (new xs : List ℕ) → spliceable (length xs) w n i j (length new) ≡ true → paste (i * w) new (copy_within (j * w) (n * w) (i * w + length new) xs) ≡ spliced w n i j new xs
 unfolding spliced
 splice-done w n i j new xs e = rw e (splice-words w n i j new xs (splice-says (length xs) w n i j (length new) e))
+
+-- the products of a splice that is not refused
+pub splice-sizes : (w n i j : ℕ) (new xs : List ℕ) → spliceable (length xs) w n i j (length new) ≡ true → (i * w ≤ j * w) × (j * w ≤ n * w) × (n * w ≤ length xs) × (i * w + length new + (n * w - j * w) ≤ length xs)
+splice-sizes w n i j new xs e =
+    let p = splice-says (length xs) w n i j (length new) e in
+    (mul-le-mul_right w p.order, mul-le-mul_right w p.last, p.within, room-words w n i j new xs p)
 
 pub splice-refused : (w n i j : ℕ) (new xs : List ℕ) → spliceable (length xs) w n i j (length new) ≡ false → xs ≡ spliced w n i j new xs
 unfolding spliced
@@ -261,3 +263,6 @@ overwrite-past len w n i k h = and_second (eqb k w) (removable len w n i) (remov
 pub not-overwritten : (w n i : ℕ) (r xs : List ℕ) → overwritable (length xs) w n i (length r) ≡ false → xs ≡ overwritten w n i r xs
 unfolding overwritten
 not-overwritten w n i r xs e = rw e
+
+-- what the edits of one record answer, and the words after them
+pub ruleset edits = (insertable-is, inserted-is, insert-refused, not-inserted, removable-is, removed-is, remove-refused, not-removed, overwritable-is, overwritten-is, overwrite-refused, overwrite-past, not-overwritten)

@@ -5,13 +5,9 @@ use mathlib.Core.List.{List, [], ◌∷◌, map}
 use Prim.Native.Nat.{ℕ, zero, suc, ◌+◌, ◌*◌, ◌≤◌, ◌<◌}
 use native.Mathlib.Nat.{le_of_suc-le-suc, not-suc-le-zero, zero-mul, suc-mul, add_comm}
 use native.Mathlib.Numerals.{add-one}
-use borrow.Author.Tests.{eqb-true, eqb-false}
-use lib.Dec.{eqb}
 use lib.ListN.{length, take, drop, get_or}
 use lib.Seq.{drop-cons, drop-drop, get_or-drop, get_or-take}
-use Rattle.records.specs.Records.{records, same}
-use Rattle.records.proofs.Order.OrderLaws.{same-equal, same-differ}
-use Rattle.questions.proofs.Tests.{contradiction, split}
+use Rattle.records.specs.Records.{records}
 use Rattle.questions.specs.Lists.{all, any}
 
 -- past the end nothing is left
@@ -23,30 +19,6 @@ drop-end (x ∷ xs) (suc n) h = drop-end xs n (le_of_suc-le-suc h)
 
 pub next_of : {A : Type 0} (xs : List A) (i : ℕ) (z : A) → i < length xs → drop i xs ≡ get_or xs i z ∷ drop (i + 1) xs
 next_of xs i z h = drop-cons xs i z h ∙ ap (λ (n : ℕ). get_or xs i z ∷ drop n xs) (sym (add-one i))
-
--- ---- the same words
-same-lengths : (a b : List ℕ) → same a b ≡ true → length a ≡ length b
-unfolding same
-same-lengths [] [] e = refl
-same-lengths [] (y ∷ b) e = contradiction (sym e)
-same-lengths (x ∷ a) [] e = contradiction (sym e)
-same-lengths (x ∷ a) (y ∷ b) e = split (eqb x y)
-    (λ q. ap suc (same-lengths a b (sym (same-equal x y a b (eqb-true x y q)) ∙ e)))
-    (λ q. contradiction (sym e ∙ same-differ x y a b (eqb-false x y q)))
-
-pub same-short : (a b : List ℕ) → (length a ≡ length b → ⊥) → false ≡ same a b
-same-short a b h = split (same a b) (λ e. absurd (h (same-lengths a b e))) sym
-
-module _ (a b : List ℕ) (i : ℕ) (ha : i < length a) (hb : i < length b) where
-  pub same_next : get_or a i 0 ≡ get_or b i 0 → same (drop (i + 1) a) (drop (i + 1) b) ≡ same (drop i a) (drop i b)
-  same_next e = sym ((λ k. same (next_of a i 0 ha k) (next_of b i 0 hb k)) ∙ same-equal (get_or a i 0) (get_or b i 0) (drop (i + 1) a) (drop (i + 1) b) e)
-
-  pub same_stop : (get_or a i 0 ≡ get_or b i 0 → ⊥) → same (drop i a) (drop i b) ≡ false
-  same_stop e = (λ k. same (next_of a i 0 ha k) (next_of b i 0 hb k)) ∙ same-differ (get_or a i 0) (get_or b i 0) (drop (i + 1) a) (drop (i + 1) b) e
-
-pub same_end : (a b : List ℕ) (i : ℕ) → length a ≤ i → length b ≤ i → same (drop i a) (drop i b) ≡ true
-unfolding same
-same_end a b i ha hb = (λ k. same (drop-end a i ha k) (drop-end b i hb k))
 
 -- ---- any and all of them
 module _ {A : Type 0} (p : A → Bool) (z : A) (xs : List A) (i : ℕ) where

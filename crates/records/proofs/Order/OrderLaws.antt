@@ -1,15 +1,16 @@
 -- Laws of the order of records.
 use mathlib.Core.Path.{◌≡◌, refl, sym, ap, ◌∙◌, subst}
 use mathlib.Core.Logic.{◌⊎◌, inl, inr, ⊎_elim}
-use mathlib.Core.Bool.{Bool, true, false, ◌&&◌, or-false, and_assoc}
+use mathlib.Core.Bool.{Bool, true, false, ◌&&◌, ◌||◌, or-false, and_assoc}
 use mathlib.Core.List.{List, [], ◌∷◌, ◌++◌}
 use Prim.Native.Nat.{ℕ, zero, suc, ◌+◌, ◌-◌, ◌≤◌, ◌<◌, zero-le, suc-le-suc}
 use native.Mathlib.Nat.{add-suc, le_of_suc-le-suc, not-suc-le-zero}
 use native.Mathlib.Numerals.{add-one}
 use native.Mathlib.Omega.{arith}
-use borrow.Author.Tests.{ltb-true, ltb-false, leb-true, lt-ltb, le-ltb, le-leb, lt-leb, eqb-true, eqb-false, eq-eqb, ne_eqb}
+use borrow.Author.Tests.{ltb-true, ltb-false, leb-true, lt-ltb, le-ltb, le-leb, eqb-true, eqb-false, eq-eqb, ne_eqb}
 use lib.Dec.{ltb, leb, eqb}
 use lib.ListN.{length, take, drop, get_or}
+use lib.Pointwise.{pointwise}
 use lib.Seq.{drop-cons}
 use Rattle.records.specs.Records.{fits, key, keyed, before, same, leads, ascending}
 use Rattle.questions.proofs.Tests.{contradiction, split, both, and_second}
@@ -114,6 +115,14 @@ same-before a b p = ne_same a b (λ e. contradiction {A = ⊥} (sym p ∙ ap (λ
 pub same_after : (a b : List ℕ) → before b a ≡ true → same a b ≡ false
 same_after a b p = ne_same a b (λ e. contradiction {A = ⊥} (sym p ∙ ap (λ (z : List ℕ). before b z) e ∙ before-irrefl b))
 
+-- std's test of two slices
+pub same_is : (a b : List ℕ) → pointwise eqb a b ≡ same a b
+unfolding same
+same_is [] [] = refl
+same_is [] (y ∷ b) = refl
+same_is (x ∷ a) [] = refl
+same_is (x ∷ a) (y ∷ b) = ap (λ (t : Bool). eqb x y && t) (same_is a b)
+
 -- two parts after one another
 pub same-append : (xs us ys vs : List ℕ) → length xs ≡ length us → same (xs ++ ys) (us ++ vs) ≡ (same xs us && same ys vs)
 unfolding same
@@ -138,18 +147,6 @@ module _ (len w d n : ℕ) where
       let b = both (leb d 2) _ a.1 in
       let c = both (leb d w) _ b.1 in
       record { some_words = leb-true 1 d a.0; two_words = leb-true d 2 b.0; in_record = leb-true d w c.0; fit = c.1 }
-
-  pub no_key : d ≡ 0 → keyed len w d n ≡ false
-  unfolding keyed
-  no_key h = rw (lt-leb 1 d (omega arith))
-
-  pub long-key : 2 < d → keyed len w d n ≡ false
-  unfolding keyed
-  long-key h = rw (le-leb 1 d (omega arith), lt-leb d 2 h)
-
-  pub wide_key : (d ≡ 0 → ⊥) → d ≤ 2 → w < d → keyed len w d n ≡ false
-  unfolding keyed
-  wide_key h k l = rw (le-leb 1 d (omega arith), le-leb d 2 k, lt-leb d w l)
 
   pub keyed-is : (d ≡ 0 → ⊥) → d ≤ 2 → d ≤ w → fits len w n ≡ keyed len w d n
   unfolding keyed
@@ -197,6 +194,19 @@ module _ (xs : List ℕ) (i : ℕ) (ys : List ℕ) (j d : ℕ) (h : (1 ≤ d) ×
       ∙ (λ m. before (key_one xs (suc i) (omega arith) m) (key_one ys (suc j) (omega arith) m))
       ∙ before-word (get_or xs (suc i) 0) (get_or ys (suc j) 0)
       ∙ (λ m. ltb (get_or xs (sym (add-one i) m) 0) (get_or ys (sym (add-one j) m) 0))
+
+-- the same by tests of the words
+pub keys_are : (xs : List ℕ) (i : ℕ) (ys : List ℕ) (j d : ℕ) → (1 ≤ d) × (d ≤ 2) × (i + d ≤ length xs) × (j + d ≤ length ys) → before (key d (drop i xs)) (key d (drop j ys)) ≡ (ltb (get_or xs i 0) (get_or ys j 0) || ((eqb (get_or xs i 0) (get_or ys j 0) && eqb d 2) && ltb (get_or xs (i + 1) 0) (get_or ys (j + 1) 0)))
+keys_are xs i ys j d h = split (ltb (get_or xs i 0) (get_or ys j 0))
+    (λ l. keys-less xs i ys j d h (ltb-true (get_or xs i 0) (get_or ys j 0) l) ∙ sym (rw l))
+    (λ l. split (eqb (get_or xs i 0) (get_or ys j 0))
+    (λ e. split (eqb d 2)
+    (λ q. keys-two xs i ys j d h (eqb-true (get_or xs i 0) (get_or ys j 0) e) (λ z. omega (arith, eqb-true d 2 q)) ∙ sym (rw (l, e, q)))
+    (λ q. keys-one xs i ys j d h (eqb-true (get_or xs i 0) (get_or ys j 0) e) (one (eqb-false d 2 q)) ∙ sym (rw (l, e, q))))
+    (λ e. keys-more xs i ys j d h (ltb-false (get_or xs i 0) (get_or ys j 0) l) (eqb-false (get_or xs i 0) (get_or ys j 0) e) ∙ sym (rw (l, e))))
+  where
+    one : (d ≡ 2 → ⊥) → d ≡ 1
+    one z = omega arith
 
 -- ---- ascending records
 abbrev pub key_at : ℕ → List (List ℕ) → ℕ → List ℕ

@@ -10,7 +10,8 @@ use borrow.Author.Tests.{ltb-true, ltb-false, lt-ltb, le-ltb}
 use lib.Dec.{ltb}
 use lib.ListN.{length, take, drop, get_or}
 use Rattle.records.specs.declared.Found.TheVariants.{At, Gap, Unfit}
-use Rattle.records.specs.declared.Span.TheVariants.{Between, NoSpan}
+use Rattle.std.specs.Prelude.{Some, None}
+use Rattle.std.specs.declared.ops.Range.{Range}
 use Rattle.records.specs.Records.{records, fits, key, keyed, before, same, bisect, is_below, lower_bound, found_at, find, find_in, range_of, range_in}
 use Rattle.questions.proofs.Tests.{contradiction, split}
 use Rattle.records.proofs.Words.RecordLaws.{fits-pos, fits_le, row, length-records, key-at, sub-mul}
@@ -208,13 +209,19 @@ module _ (w d n a b : ℕ) (xs : List ℕ) (i : ℕ) (g : keyed (length xs) w d 
 pub keyed-one : (len w n : ℕ) → fits len w n ≡ true → keyed len w 1 n ≡ true
 keyed-one len w n e = sym (keyed-is len w 1 n (λ z. omega arith) (omega arith) (omega (arith, fits-pos len w n e))) ∙ e
 
-pub range-unfit : (w n a : ℕ) (xs : List ℕ) → fits (length xs) w n ≡ false → range_in w n a xs ≡ NoSpan
+pub range-unfit : (w n a : ℕ) (xs : List ℕ) → fits (length xs) w n ≡ false → range_in w n a xs ≡ None
 unfolding range_in
 range-unfit w n a xs e = rw e
 
-pub range-is : (w n a lo hi : ℕ) (xs : List ℕ) → fits (length xs) w n ≡ true → lo ≡ lower_bound 1 (a ∷ []) (records w n xs) → hi ≡ lower_bound 1 ((a + 1) ∷ []) (records w n xs) → Between lo hi ≡ range_in w n a xs
+pub range-is : (w n a : ℕ) (span : Range ℕ) (xs : List ℕ) → fits (length xs) w n ≡ true → span.start ≡ lower_bound 1 (a ∷ []) (records w n xs) → span.end ≡ lower_bound 1 ((a + 1) ∷ []) (records w n xs) → Some span ≡ range_in w n a xs
 unfolding range_in range_of
-range-is w n a lo hi xs e p q = rw (e, p, q)
+range-is w n a span xs e p q =
+    sym
+    (ap (λ (b : Bool). cond b (Some (range_of a (records w n xs))) None) e
+    ∙ sym (λ k. Some (the_range (p k) (q k))))
+  where
+    the_range : ℕ → ℕ → Range ℕ
+    the_range start end = record { start = start; end = end }
 
 -- where every word is below a, every record is
 pub lower-bound-top : (w n a : ℕ) (xs : List ℕ) → fits (length xs) w n ≡ true → ((i : ℕ) → get_or xs i 0 < a) → n ≡ lower_bound 1 (a ∷ []) (records w n xs)

@@ -1,9 +1,8 @@
 -- Flags, and times that may be missing, as words: there and back.
 use Prim.Native.Nat.{ℕ, zero, suc}
 use mathlib.Core.Path.{◌≡◌, refl, sym, ap, ◌∙◌}
-use mathlib.Core.Bool.{Bool, true, false, not, and-true}
+use mathlib.Core.Bool.{Bool, true, false, not, ◌&&◌, ◌||◌, and-true, or-false}
 use mathlib.Core.List.{[], ◌∷◌}
-use mathlib.Core.Option.{Option, none, some}
 use native.Mathlib.Omega.{arith}
 use borrow.Author.Tests.{ne_eqb, eqb-true, lt-leb}
 use lib.Dec.{leb, eqb, eqb-suc-zero}
@@ -11,6 +10,8 @@ use Rattle.records.specs.Records.{same}
 use Rattle.questions.proofs.Tests.{eqb-self, eqb-turn}
 use Rattle.records.specs.Fields.{flag_word, flag_of, time_flag, time_word, time_words, time_of, is_time}
 use Rattle.records.specs.Typed.{is_word}
+use Rattle.std.specs.declared.option.Option.{Option}
+use Rattle.std.specs.declared.option.Option.TheVariants.{None, Some}
 
 pub flag-of-word : (b : Bool) → flag_of (flag_word b) ≡ b
 flag-of-word false = refl
@@ -40,17 +41,17 @@ flag-fits false = refl
 
 -- a time
 pub time-of-words : (t : Option ℕ) → time_of (time_flag t) (time_word t) ≡ t
-time-of-words none = refl
-time-of-words (some t) = refl
+time-of-words None = refl
+time-of-words (Some t) = refl
 
 pub time-flag-fits : (t : Option ℕ) → is_word (time_flag t) ≡ true
-time-flag-fits none = refl
-time-flag-fits (some t) = refl
+time-flag-fits None = refl
+time-flag-fits (Some t) = refl
 
 pub time-is : (t : Option ℕ) → is_time (time_flag t) (time_word t) ≡ true
 unfolding is_time
-time-is none = refl
-time-is (some t) = refl
+time-is None = refl
+time-is (Some t) = refl
 
 pub time-words : (flag time : ℕ) → same (time_words (time_of flag time)) (flag ∷ time ∷ []) ≡ is_time flag time
 unfolding same is_time
@@ -67,11 +68,8 @@ unfolding is_time
 time-word-back zero time e = sym (eqb-true time 0 e)
 time-word-back (suc flag) time e = refl
 
-pub time-absent : (flag time : ℕ) → flag ≡ 0 → eqb time 0 ≡ is_time flag time
+-- the same by tests of the words
+pub time_is : (flag time : ℕ) → is_time flag time ≡ (eqb flag 1 || (eqb flag 0 && eqb time 0))
 unfolding is_time
-time-absent flag time e = sym (ap (λ (f : ℕ). is_time f time) e)
-
-pub time-present : (flag time : ℕ) → (flag ≡ 0 → ⊥) → eqb flag 1 ≡ is_time flag time
-unfolding is_time
-time-present zero time h = absurd (h refl)
-time-present (suc flag) time h = refl
+time_is zero time = refl
+time_is (suc flag) time = rw (eqb-suc-zero flag, or-false)

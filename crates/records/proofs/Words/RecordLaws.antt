@@ -1,16 +1,16 @@
 -- Laws of records and their words.
 use mathlib.Core.Path.{◌≡◌, refl, sym, ap, ◌∙◌}
-use mathlib.Core.Bool.{true, false}
+use mathlib.Core.Bool.{true, false, not, ◌&&◌}
 use mathlib.Core.List.{List, [], ◌∷◌, ◌++◌, append_assoc}
 use Prim.Native.Nat.{ℕ, zero, suc, ◌+◌, ◌-◌, ◌*◌, ◌/◌, ◌≤◌, ◌<◌}
 use native.Mathlib.Nat.{zero-add, suc-add, add_comm, zero-mul, suc-mul, add-mul, mul-le-mul_right, le-mul_of_pos_right, le_of_suc-le-suc, not-suc-le-zero, le-div_iff_mul-le}
 use native.Mathlib.Omega.{arith}
-use borrow.Author.Tests.{ltb-true, leb-true, lt-ltb, le-ltb, le-leb}
-use lib.Dec.{ltb, leb}
+use borrow.Author.Tests.{eqb-true, eqb-false, ltb-true, leb-true, lt-ltb, le-ltb, le-leb}
+use lib.Dec.{ltb, leb, eqb}
 use lib.ListN.{length, take, drop, get_or, length-drop}
 use lib.Seq.{take-add, drop-drop, take-take, take_at, drop_at, length-take-le}
 use Rattle.records.specs.Records.{records, flat, fits}
-use Rattle.questions.proofs.Tests.{both, and_first, and-skip, leb-same}
+use Rattle.questions.proofs.Tests.{split, both, and_first, and-skip, leb-same}
 
 -- ---- sizes
 pub fits-pos : (len w n : ℕ) → fits len w n ≡ true → 0 < w
@@ -37,6 +37,11 @@ pub fits_div : (len w n : ℕ) → (w ≡ 0 → ⊥) → leb n (len / w) ≡ fit
 fits_div len w n h =
     let p : 0 < w = omega arith in
     leb-same n (len / w) (n * w) len (le-div_iff_mul-le p).0 (le-div_iff_mul-le p).1 ∙ sym (fits-is len w n p)
+
+pub fits_are : (len w n : ℕ) → fits len w n ≡ (not (eqb w 0) && leb n (len / w))
+fits_are len w n = split (eqb w 0)
+    (λ e. fits-zero len w n (eqb-true w 0 e) ∙ sym (rw e))
+    (λ e. sym (fits_div len w n (eqb-false w 0 e)) ∙ sym (rw e))
 
 -- record i, of n, is within the words
 pub row : (w n i : ℕ) → i < n → i * w + w ≤ n * w

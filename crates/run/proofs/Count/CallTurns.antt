@@ -3,7 +3,6 @@ use Prim.Native.Nat.{ℕ}
 use mathlib.Core.Path.{◌≡◌, refl, ap, ◌∙◌, subst}
 use mathlib.Core.Bool.{Bool, true, false, cond, not, true≢false}
 use mathlib.Core.List.{List, [], ◌∷◌, map}
-use mathlib.Core.Option.{Option, none, some}
 use borrow.Author.Tests.{eqb-true}
 use lib.Dec.{leb, eqb}
 use lib.ListN.{length}
@@ -31,6 +30,8 @@ use Rattle.run.specs.Trace.{meter_in, if_key}
 use Rattle.run.proofs.Count.Turns.{Gate, unchecked, Turn, absent, drops, makes, keeps, sets}
 use Rattle.limiter.proofs.States.KeyLaws.{key_of, found_here, found-later, found_nowhere, found-only, put-own, put_other, only-once}
 use Rattle.limiter.proofs.States.StateValidLaws.{units-of-accepted}
+use Rattle.std.specs.declared.option.Option.{Option}
+use Rattle.std.specs.declared.option.Option.TheVariants.{None, Some}
 
 -- a turn at the units u; and the key stays, or has no debt at the reading, where the cap spares it
 pub record Acts (u : Units) (Spared : Type 0) (t : ℕ) (m : Option Gcra) (a : ℕ) (m' : Option Gcra) : Type 0 where
@@ -42,8 +43,8 @@ meter k = k.gcra
 
 -- A call may leave the key as it is.
 pub unmoved : {u : Units} {S : Type 0} {t : ℕ} (m : Option Gcra) → Acts u S t m 0 m
-unmoved none = record { turn = absent; kept = λ s. tt }
-unmoved (some g) = record { turn = keeps unchecked; kept = λ s. tt }
+unmoved None = record { turn = absent; kept = λ s. tt }
+unmoved (Some g) = record { turn = keeps unchecked; kept = λ s. tt }
 
 -- ---- what validity says
 
@@ -81,9 +82,9 @@ module _ (s : LimiterState) (k : ℕ) (x : Limit) (now n : ℕ) where
 
   -- A key that is found keeps its meter, and one that is made has a new one.
   found-or-made : valid_burst x.burst ≡ true → (o : Option KeyRecord) {a : ℕ} {h : Gcra} → Gate now (found_or new x o).gcra a h
-      → Turn (units_of s.settings) now (of_key meter o) a (some h)
-  found-or-made b none gate = makes (cold-valid s.settings x n b) gate
-  found-or-made b (some y) gate = keeps gate
+      → Turn (units_of s.settings) now (of_key meter o) a (Some h)
+  found-or-made b None gate = makes (cold-valid s.settings x n b) gate
+  found-or-made b (Some y) gate = keeps gate
 
 -- A call on the key k that puts its record back, checked at most once, is a turn of each key.
 pub entered :
@@ -100,28 +101,28 @@ entered key s k x now n b {a} r e gate =
     (record { turn = found-or-made s key x now n b (key_with key s.keys) g; kept = λ t. kept-some (meter_in key s) }))
     (λ h. rw (h, put_other key r s.keys (ap (λ (j : ℕ). eqb j key) e ∙ h)) (unmoved (meter_in key s)))
   where
-    kept-some : (m : Option Gcra) → seen.stays now m (some r.gcra)
-    kept-some none = tt
-    kept-some (some g) = tt
+    kept-some : (m : Option Gcra) → seen.stays now m (Some r.gcra)
+    kept-some None = tt
+    kept-some (Some g) = tt
 
 -- ---- a tick
 
 module _ (key : ℕ) (st : Settings) (o : Others) (now n : ℕ) where
   -- what pass one leaves of the key's record: 'folds estimators .. and drops idle keys'
   data Settles : Option KeyRecord → Option KeyRecord → Type 0 where
-    untracked : Settles none none
-    idle : {k : KeyRecord} → has_debt k.gcra now ≡ false → Settles (some k) none
-    folded : {k : KeyRecord} → valid_burst k.limit.burst ≡ true → Settles (some k) (some (folded_key (parameters_of st) st o now n k))
+    untracked : Settles None None
+    idle : {k : KeyRecord} → has_debt k.gcra now ≡ false → Settles (Some k) None
+    folded : {k : KeyRecord} → valid_burst k.limit.burst ≡ true → Settles (Some k) (Some (folded_key (parameters_of st) st o now n k))
 
   -- A key that is not tracked is not tracked after it.
-  none-settles : {a b : Option KeyRecord} → Settles a b → a ≡ none → b ≡ none
+  none-settles : {a b : Option KeyRecord} → Settles a b → a ≡ None → b ≡ None
   none-settles untracked e = refl
   none-settles (idle d) e = refl
   none-settles (folded v) e = absurd (true≢false (ap tracked e))
     where
       tracked : Option KeyRecord → Bool
-      tracked none = false
-      tracked (some k) = true
+      tracked None = false
+      tracked (Some k) = true
 
   -- A key that does not stay has no debt.
   idle-owes-nothing : (k : KeyRecord) (hot : Bool) → stays (parameters_of st) st o now n k hot ≡ false → has_debt k.gcra now ≡ false
@@ -159,13 +160,13 @@ module _ (key : ℕ) (st : Settings) (o : Others) (now n : ℕ) where
 
   -- Then the cap removes it, or leaves it.
   cap : (es : List HotEntry) (ks : List KeyRecord)
-      → key_with key (capped (parameters_of st) st o now n es ks) ≡ cond (not (is_tracked (victims (parameters_of st) st o now n es ks) key)) (key_with key ks) none
+      → key_with key (capped (parameters_of st) st o now n es ks) ≡ cond (not (is_tracked (victims (parameters_of st) st o now n es ks) key)) (key_with key ks) None
   unfolding capped
   cap es ks = found-only key (λ (j : ℕ). not (is_tracked (victims (parameters_of st) st o now n es ks) j)) ks
 
   -- Both passes and the cap are a turn.
   settled : (removed : Bool) (es : List HotEntry) {a b : Option KeyRecord} → Settles a b
-      → Acts (units_of st) (removed ≡ false) now (of_key meter a) 0 (of_key meter (cond (not removed) (mapped (with_quota (parameters_of st) st o now n (units_of st) es) b) none))
+      → Acts (units_of st) (removed ≡ false) now (of_key meter a) 0 (of_key meter (cond (not removed) (mapped (with_quota (parameters_of st) st o now n (units_of st) es) b) None))
   settled true es untracked = record { turn = absent; kept = λ e. tt }
   settled true es (idle d) = record { turn = drops; kept = λ e. absurd (true≢false e) }
   settled true es (folded v) = record { turn = drops; kept = λ e. absurd (true≢false e) }

@@ -4,14 +4,11 @@ use Prim.Native.Nat.{ℕ, zero, suc, ◌+◌, ◌-◌, ◌*◌, ◌/◌, ◌^◌
 use mathlib.Core.Path.{◌≡◌, refl, subst}
 use mathlib.Core.Bool.{true, false, cond}
 use mathlib.Core.List.{List, [], ◌∷◌, ◌++◌}
-use mathlib.Core.Option.{Option, none, some}
 use native.Mathlib.Omega.{arith}
 use native.Mathlib.Nat.{mul-le-mul_right, add-zero}
 use Rattle.questions.proofs.Tests.{split}
 use Rattle.gcra.specs.declared.Units.{Units}
 use Rattle.gcra.specs.declared.Quota.{Quota}
-use Rattle.gcra.specs.declared.Tat.{Tat}
-use Rattle.gcra.specs.declared.Tat.TheVariants.{Unset, At}
 use Rattle.gcra.specs.declared.Gcra.{Gcra}
 use Rattle.gcra.specs.Packed.{Accepted, max_burst, valid_quota}
 use Rattle.gcra.specs.Rate.{carried, same_quota}
@@ -24,6 +21,8 @@ use Rattle.gcra.proofs.Rate.Carry.{carry-keeps}
 use Rattle.run.specs.Seen.{Seen, goes_on, change, changes, share, shares, last, allowed_in, burst_of, bound, KeepsToTheBound, Onward, stays, Kept, largest_burst, IsSmall, Small, Premises}
 use Rattle.run.proofs.Count.Slots.{Carries, carried-over}
 use Rattle.run.proofs.Count.Turns.{Gate, unchecked, checked, Turn, absent, drops, makes, keeps, sets, Turns, carried_to, gate-quota, Fits}
+use Rattle.std.specs.declared.option.Option.{Option}
+use Rattle.std.specs.declared.option.Option.TheVariants.{None, Some}
 
 module _ (u : Units) (a : Accepted u) (largest : ℕ) where
   -- the most slots that are ahead of a reading
@@ -47,8 +46,8 @@ module _ (u : Units) (a : Accepted u) (largest : ℕ) where
 
   -- an untracked key owes nothing
   abbrev Fair : Option Gcra → (f t n : ℕ) → Type 0
-  Fair none f t n = n ≡ 0
-  Fair (some g) f t n = Owes g f t n
+  Fair None f t n = n ≡ 0
+  Fair (Some g) f t n = Owes g f t n
 
   -- after a call that allowed c checks: where it ends a stretch, those owed are at most the burst and the share
   record Counts (m : Option Gcra) (f t n c : ℕ) : Type 0 where
@@ -56,7 +55,7 @@ module _ (u : Units) (a : Accepted u) (largest : ℕ) where
     ends : 0 < c → n ≤ burst_of m + share m f t
 
   -- An untracked key.
-  untracked : {f t : ℕ} → Counts none f t 0 0
+  untracked : {f t : ℕ} → Counts None f t 0 0
   untracked = record { fair = refl; ends = λ l. omega arith }
 
   -- Every meter owes 0 slots of a spell that begins.
@@ -65,14 +64,14 @@ module _ (u : Units) (a : Accepted u) (largest : ℕ) where
 
   -- Time passes.
   waits : (m : Option Gcra) (f s t n : ℕ) → s ≤ t → Fair m f s n → Fair m f t n
-  waits none f s t n l o = o
-  waits (some g) f s t n l o = record { sound = o.sound; began = omega arith; owed = omega arith; most = omega arith }
+  waits None f s t n l o = o
+  waits (Some g) f s t n l o = record { sound = o.sound; began = omega arith; owed = omega arith; most = omega arith }
 
   -- ---- a check
 
   -- An allowed one: a slot more is owed.
   passed : (g : Gcra) (f t n : ℕ) → Allowed g.quota g.tat t → tat_word (check g t).tat < 2 ^ 64 → Owes g f t n
-      → Counts (some (check g t)) f t (n + 1) 1
+      → Counts (Some (check g t)) f t (n + 1) 1
   passed g f t n c fits o =
       let v = valid-quota u g.quota o.sound.valid in
       let T = g.quota.interval in
@@ -89,11 +88,11 @@ module _ (u : Units) (a : Accepted u) (largest : ℕ) where
       })
 
   -- A denied one, or none: nothing changes.
-  denied : {g : Gcra} {f t n : ℕ} → Owes g f t n → Counts (some g) f t (n + 0) 0
+  denied : {g : Gcra} {f t n : ℕ} → Owes g f t n → Counts (Some g) f t (n + 0) 0
   denied o = record { fair = rw add-zero o; ends = λ l. omega arith }
 
   -- Either: a slot more is owed for each check that is allowed.
-  gated : {t : ℕ} {g : Gcra} {c : ℕ} {h : Gcra} (f n : ℕ) → t < 2 ^ 62 → Gate t g c h → Owes g f t n → Counts (some h) f t (n + c) c
+  gated : {t : ℕ} {g : Gcra} {c : ℕ} {h : Gcra} (f n : ℕ) → t < 2 ^ 62 → Gate t g c h → Owes g f t n → Counts (Some h) f t (n + c) c
   gated f n early unchecked o = denied o
   gated {t} {g} f n early checked o =
       let v = valid-quota u g.quota o.sound.valid in
@@ -104,12 +103,12 @@ module _ (u : Units) (a : Accepted u) (largest : ℕ) where
   -- ---- a change of quota
 
   -- The carry loses less than one slot.
-  carries : (old new : Quota) (tat : Tat) (t : ℕ) → valid_quota u old ≡ true → valid_quota u new ≡ true → tat_word tat < 2 ^ 64 → t < 2 ^ 62
+  carries : (old new : Quota) (tat : Option ℕ) (t : ℕ) → valid_quota u old ≡ true → valid_quota u new ≡ true → tat_word tat < 2 ^ 64 → t < 2 ^ 62
       → new.interval * largest ≤ 2 ^ 61
       → Carries B old.interval new.interval t (max (tat_word tat) t) (max (tat_word (carried tat old new t)) t)
-  carries old new Unset t vo vn fits early small zero few owed = omega (arith, (valid-quota u new vn).least)
-  carries old new Unset t vo vn fits early small (suc p) few owed = absurd (omega (arith, (valid-quota u old vo).least))
-  carries old new (At tat) t vo vn fits early small p few owed =
+  carries old new None t vo vn fits early small zero few owed = omega (arith, (valid-quota u new vn).least)
+  carries old new None t vo vn fits early small (suc p) few owed = absurd (omega (arith, (valid-quota u old vo).least))
+  carries old new (Some tat) t vo vn fits early small p few owed =
       let l : p ≤ largest = omega arith in
       let m = mul-le-mul_right new.interval l in
       omega (arith, carry-keeps u a old new vo vn tat t p fits early (omega arith) (omega arith) (omega arith))
@@ -134,7 +133,7 @@ module _ (u : Units) (a : Accepted u) (largest : ℕ) where
   -- ---- one call
 
   -- A meter is sound whose quota the key has after the check.
-  sound-of : {t : ℕ} {g : Gcra} {c : ℕ} {h : Gcra} → Gate t g c h → valid_quota u g.quota ≡ true → Fits (some g) → burst_of (some h) ≤ largest
+  sound-of : {t : ℕ} {g : Gcra} {c : ℕ} {h : Gcra} → Gate t g c h → valid_quota u g.quota ≡ true → Fits (Some g) → burst_of (Some h) ≤ largest
       → Sound g
   sound-of {g} gate v fits l =
       let w = valid-quota u g.quota v in
@@ -149,7 +148,7 @@ module _ (u : Units) (a : Accepted u) (largest : ℕ) where
   begun {t} f s n (makes v gate) early l o = gated t 0 early gate (nothing t (sound-of gate v (omega arith) l))
   begun {t} f s n (keeps gate) early l o = gated t 0 early gate (nothing t o.sound)
   begun {t} {c} f s n (sets {g} q {h} v gate) early l o =
-      by-quota (λ (k : Gcra). Gate t k c h → Fits (some k) → Counts (some h) t t (0 + c) c) g q t
+      by-quota (λ (k : Gcra). Gate t k c h → Fits (Some k) → Counts (Some h) t t (0 + c) c) g q t
       (λ same fits. gated t 0 early same (nothing t o.sound))
       (λ other carried fits. gated t 0 early carried (nothing t (sound-of carried v fits l)))
       gate (set-fits g q t o.sound.fits)
@@ -163,14 +162,14 @@ module _ (u : Units) (a : Accepted u) (largest : ℕ) where
     enough : (S : ℕ → ℕ) → n + c + S f' ≤ n' + cond (goes_on m m') (S f) (share m f t + S t) + 2 * change t m m'
 
   -- The spell goes on.
-  goes_on_lem : {t : ℕ} {g : Gcra} {c : ℕ} {h : Gcra} (f n : ℕ) → t < 2 ^ 62 → Gate t g c h → Owes g f t n → Turned (some g) (some h) f t n c
+  goes_on_lem : {t : ℕ} {g : Gcra} {c : ℕ} {h : Gcra} (f n : ℕ) → t < 2 ^ 62 → Gate t g c h → Owes g f t n → Turned (Some g) (Some h) f t n c
   goes_on_lem {g} {c} {h} f n early gate o =
       let e : same_quota h.quota g.quota ≡ true = rw (gate-quota gate) (equal-same g.quota g.quota refl) in
       record { f' = f; n' = n + c; counts = gated f n early gate o; enough = λ S. rw e (omega arith) }
 
   -- Another begins, with another quota.
-  changes-quota : {t : ℕ} {g : Gcra} {c : ℕ} {h : Gcra} (q : Quota) (f n : ℕ) → t < 2 ^ 62 → IsSmall largest (some h) → same_quota q g.quota ≡ false
-      → Gate t (carried_to g q t) c h → Sound (carried_to g q t) → Owes g f t n → Turned (some g) (some h) f t n c
+  changes-quota : {t : ℕ} {g : Gcra} {c : ℕ} {h : Gcra} (q : Quota) (f n : ℕ) → t < 2 ^ 62 → IsSmall largest (Some h) → same_quota q g.quota ≡ false
+      → Gate t (carried_to g q t) c h → Sound (carried_to g q t) → Owes g f t n → Turned (Some g) (Some h) f t n c
   changes-quota {t} {g} {c} {h} q f n early small other gate s o =
       let e : same_quota h.quota g.quota ≡ false = rw (gate-quota gate) other in
       let n' = n - ((t - f) / g.quota.interval + 2) in
@@ -193,7 +192,7 @@ module _ (u : Units) (a : Accepted u) (largest : ℕ) where
       record { f' = t; n' = 0 + c; counts = begun f t n (makes v gate) early l o; enough = λ S. omega arith }
   turned f n (keeps gate) early kept l small o = goes_on_lem f n early gate o
   turned {t} {c} f n (sets {g} q {h} v gate) early kept l small o =
-      by-quota (λ (k : Gcra). Gate t k c h → Fits (some k) → Turned (some g) (some h) f t n c) g q t
+      by-quota (λ (k : Gcra). Gate t k c h → Fits (Some k) → Turned (Some g) (Some h) f t n c) g q t
       (λ same fits. goes_on_lem f n early same o)
       (λ other carried fits. changes-quota q f n early small other carried (sound-of carried v fits l) o)
       gate (set-fits g q t o.sound.fits)
@@ -254,8 +253,8 @@ module _ (u : Units) (a : Accepted u) (largest : ℕ) where
       (begun f latest n s.turn s.early s.burst fair).fair ended
 
 -- Any list of turns from an untracked key keeps to the bound.
-pub keeps-to-the-bound : (u : Units) → Accepted u → (all : List Seen) → Turns u none all → Premises all → KeepsToTheBound all
+pub keeps-to-the-bound : (u : Units) → Accepted u → (all : List Seen) → Turns u None all → Premises all → KeepsToTheBound all
 keeps-to-the-bound u a all turns p before first others after whole starts ended =
     let b = largest_burst all in
-    let s = steps u a b 0 none all turns p.onward p.kept p.small (omega arith) in
-    stretch u a b 0 0 0 none before first others after (subst (Steps u a b 0 none) whole s) refl ended
+    let s = steps u a b 0 None all turns p.onward p.kept p.small (omega arith) in
+    stretch u a b 0 0 0 None before first others after (subst (Steps u a b 0 None) whole s) refl ended

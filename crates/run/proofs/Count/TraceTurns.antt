@@ -5,7 +5,6 @@ use native.Mathlib.Omega.{arith}
 use mathlib.Core.Path.{◌≡◌, refl, sym, ap, ◌∙◌, subst}
 use mathlib.Core.Bool.{Bool, true, false, cond, ◌&&◌}
 use mathlib.Core.List.{List, [], ◌∷◌, ◌++◌, map, append_assoc}
-use mathlib.Core.Option.{Option, none, some}
 use lib.Dec.{eqb}
 use lib.ListN.{length, get_or, drop}
 use Rattle.records.specs.Records.{records, flat, table, fits}
@@ -18,10 +17,7 @@ use Rattle.gcra.specs.Packed.{valid_burst}
 use Rattle.gcra.specs.Meter.{is_allow}
 use Rattle.gcra.specs.declared.Units.{Units}
 use Rattle.questions.proofs.Answers.{given-passed, answer-passed}
-use Rattle.peers.specs.declared.peer_demand.ChangeAnswer.{ChangeAnswer}
-use Rattle.peers.specs.declared.peer_demand.ChangeAnswer.TheVariants as change-answer
 use Rattle.peers.specs.Peers.State as peer-state
-use Rattle.peers.specs.Peers.Calls.{change_answer}
 use Rattle.demand.specs.Allocation.{is_rate}
 use Rattle.limiter.specs.declared.Config.{Config}
 use Rattle.limiter.specs.declared.Limit.{Limit}
@@ -29,7 +25,7 @@ use Rattle.limiter.specs.declared.Tally.{Tally}
 use Rattle.limiter.specs.State.{LimiterState, have_room, valid, units_of, units_for, Settings}
 use Rattle.limiter.specs.Checks.{entry, checked_key, tallied_key, key_decision, shadow_decision, check_in, check_traced, record_tally, own_limit, limit_questions, both_limit_questions, has_place, counters_fit, check_key_questions, check_one, after_one, check_each}
 use Rattle.limiter.specs.Ticks.{no_others, peers_others, tick_with}
-use Rattle.limiter.specs.Calls.{Decisions, answer_words, each_questions}
+use Rattle.limiter.specs.Calls.{answer_words, each_questions}
 use Rattle.image.specs.Image.{State}
 use Rattle.image.specs.Image as image
 use Rattle.run.specs.Seen.{Seen, KeepsToTheBound, Onward, Kept, largest_burst, Small}
@@ -45,9 +41,16 @@ use Rattle.limiter.proofs.States.StateValidLaws.{units-of-accepted}
 use Rattle.limiter.proofs.LimiterTheorems.{one-settings, each-settings}
 use Rattle.run.proofs.Count.CallTurns.{Acts, unmoved, own-burst, entered, tick-turns}
 use Rattle.run.proofs.Count.Spared.{Spares, Spared}
-use Rattle.run.proofs.Standing.AnswerCases.{check-back, change-back, traced-back}
+use Rattle.run.proofs.Standing.KnownLaws.{asked-back}
 use Rattle.run.proofs.Standing.Replied.{replied_to, replied}
 use Rattle.run.proofs.Standing.Shows.{next, shown_by}
+use Rattle.std.specs.declared.option.Option.{Option}
+use Rattle.std.specs.declared.option.Option.TheVariants.{None, Some}
+use Rattle.std.specs.declared.result.Result.{Result}
+use Rattle.std.specs.declared.result.Result.TheVariants.{Ok, Err}
+use Rattle.questions.specs.declared.Refusal.{Refusal}
+use Rattle.questions.specs.Refusals.{number, answer_of}
+use Rattle.limiter.specs.declared.Traced.{Traced}
 
 -- ---- lists of what is seen
 
@@ -98,8 +101,8 @@ given-burst x qs e = (both (valid_burst x.burst) _ (both (is_rate x.rate) _ e).1
 -- So is one that is given with a shadow's.
 traced-burst : (x : Limit) (y : Option Limit) (qs : List Question) → passes (both_limit_questions x y ++ qs) ≡ true → valid_burst x.burst ≡ true
 unfolding passes
-traced-burst x none qs e = given-burst x qs e
-traced-burst x (some y) qs e =
+traced-burst x None qs e = given-burst x qs e
+traced-burst x (Some y) qs e =
     (both (valid_burst x.burst) _ (both (valid_burst x.burst && valid_burst y.burst) _
     (both (is_rate x.rate && is_rate y.rate) _ e).1).0).0
 
@@ -121,10 +124,10 @@ first-words true false d ws = (refl, refl)
 first-words false b d ws = (refl, refl)
 
 -- A call is done where no question is answered 'no'.
-pub done-passed : (qs : List Question) (r : ChangeAnswer) → change_answer r ≡ answer qs tt → was_done r ≡ passes qs
-done-passed qs change-answer.Done e = sym (given-passed qs tt tt e).0
-done-passed qs (change-answer.No n) e =
-    split (passes qs) (λ p. let h : refused n ≡ given tt = e ∙ sym (answer-passed tt qs p) in let z : ◌≡◌ {A = ℕ} 0 1 = cc in absurd (omega arith))
+pub done-passed : (qs : List Question) (r : Result Unit Refusal) → answer_of r ≡ answer qs tt → was_done r ≡ passes qs
+done-passed qs (Ok x) e = sym (given-passed qs x tt e).0
+done-passed qs (Err x) e =
+    split (passes qs) (λ p. let h : refused (number x) ≡ given tt = e ∙ sym (answer-passed tt qs p) in let z : ◌≡◌ {A = ℕ} 0 1 = cc in absurd (omega arith))
     (λ p. sym p)
 
 -- A premise may be asked for instead of what it gives.
@@ -184,7 +187,7 @@ module _ (key : ℕ) where
   check-turns : {S : Type 0} (s : LimiterState) (k : ℕ) (x : Limit) (now n : ℕ) → valid_burst x.burst ≡ true
       → Acts (units_of s.settings) S now (meter_in key s) (if_key key k (cond (is_allow (key_decision (units_of s.settings) s k x now n)) 1 0)) (meter_in key (check_in (units_of s.settings) s k x now n))
   unfolding check_in
-  check-turns s k x now n b = entered key s k x now n b (checked_key now none (entry (units_of s.settings) s k x now n)) (entry_key (units_of s.settings) s k x now n) checked
+  check-turns s k x now n b = entered key s k x now n b (checked_key now None (entry (units_of s.settings) s k x now n)) (entry_key (units_of s.settings) s k x now n) checked
 
   -- A traced one: the shadow has its own meter.
   traced-turns : {S : Type 0} (s : LimiterState) (k : ℕ) (x : Limit) (y : Option Limit) (now n : ℕ) → valid_burst x.burst ≡ true
@@ -217,7 +220,7 @@ module _ (key : ℕ) where
       let now = get_or r 1 0 in
       let s' = after_one (units_of s.settings) n s k now in
       let more = flat (map answer_words (check_each (units_of s.settings) n rs s').answers) in
-      let x = checked_key now none (entry (units_of s.settings) s k (own_limit s) now n) in
+      let x = checked_key now None (entry (units_of s.settings) s k (own_limit s) now n) in
       let w = first-words (has_place s x.key) (counters_fit x) (key_decision (units_of s.settings) s k (own_limit s) now n) (more ++ out) in
       rw (append_assoc (answer_words (check_one (units_of s.settings) n s k now)) more out, w.1)
       (then (check-or-no (meter_in key) (check_key_questions (units_of s.settings) s k now n) k _ w.0 (λ p. check-turns s k (own_limit s) now n b))
@@ -231,7 +234,7 @@ module _ (key : ℕ) where
       (meter_of (trace.after n (What.changes x) s))
   unfolding asked made replied_to table passes
   many-turns n s list count m out =
-      rw (done-passed (asked n (Change.check-each list count m out) s) _ (change-back _))
+      rw (done-passed (asked n (Change.check-each list count m out) s) _ (asked-back n (Change.check-each list count m out) s tt))
       (split (passes (asked n (Change.check-each list count m out) s))
       (λ p.
       let v = (on-limiter n s (each_questions count m out) (both (fits (length list) 2 count) _ p).1).0 in
@@ -245,16 +248,16 @@ module _ (key : ℕ) where
   unfolding asked made replied_to
   call-turns n (Change.check k now m) s =
       let qs = asked n (Change.check k now m) s in
-      once (check-or-no meter_of qs k _ (ap allows (check-back _) ∙ taken allows 0 qs _ (λ i. refl))
+      once (check-or-no meter_of qs k _ (ap allows (asked-back n (Change.check k now m) s _) ∙ taken allows 0 qs _ (λ i. refl))
       (λ p. check-turns s.limiter k (own_limit s.limiter) now m (own-burst s.limiter (on-limiter n s _ p).0)))
   call-turns n (Change.check-in k l now m) s =
       let qs = asked n (Change.check-in k l now m) s in
-      once (check-or-no meter_of qs k _ (ap allows (check-back _) ∙ taken allows 0 qs _ (λ i. refl))
+      once (check-or-no meter_of qs k _ (ap allows (asked-back n (Change.check-in k l now m) s _) ∙ taken allows 0 qs _ (λ i. refl))
       (λ p. check-turns s.limiter k l now m (given-burst l _ (on-limiter n s _ p).1)))
   call-turns n (Change.check-traced k l y now m) s =
       let qs = asked n (Change.check-traced k l y now m) s in
-      let f : Answer Decisions → ℕ = λ z. allows (meters z) in
-      once (check-or-no meter_of qs k _ (ap f (traced-back _) ∙ taken f 0 qs _ (λ i. refl))
+      let f : Answer Traced → ℕ = λ z. allows (meters z) in
+      once (check-or-no meter_of qs k _ (ap f (asked-back n (Change.check-traced k l y now m) s _) ∙ taken f 0 qs _ (λ i. refl))
       (λ p. traced-turns s.limiter k l y now m (traced-burst l y _ (on-limiter n s _ p).1)))
   call-turns n (Change.check-each list count m out) s = many-turns n s list count m out
   call-turns n (Change.tally k y l now m) s =
@@ -310,7 +313,7 @@ module _ (c : Config) (ms : List Move) where
 
   -- No key is tracked at first.
   from-none : (key : ℕ)
-      → Turns (units_in (new_states c)) none (trace key (new_states c) ms shown) × (Spared key (new_states c) ms → Kept none (trace key (new_states c) ms shown))
+      → Turns (units_in (new_states c)) None (trace key (new_states c) ms shown) × (Spared key (new_states c) ms → Kept None (trace key (new_states c) ms shown))
   from-none key = rw (found_nowhere key) at (trace-turns key (new_states c) ms)
 
   -- Under the count's premises every key keeps to the bound; and no TAT is lowered at the same quota.
@@ -318,11 +321,11 @@ module _ (c : Config) (ms : List Move) where
   counted =
       record {
         bound = λ key p. keeps-to-the-bound (units_in (new_states c)) (units-of-accepted (new_states c).limiter.settings) (trace key (new_states c) ms shown) (from-none key).0 p;
-        never_lowered = λ key. never_lowered (units_in (new_states c)) none (trace key (new_states c) ms shown) (from-none key).0 tt;
+        never_lowered = λ key. never_lowered (units_in (new_states c)) None (trace key (new_states c) ms shown) (from-none key).0 tt;
       }
 
   -- Of the premises `Kept` is a matter of the tracked-key cap alone: a key that pass one drops has no debt, and no other call drops a key.
-  pub kept-if-spared : (key : ℕ) → Spared key (new_states c) ms → Kept none (trace key (new_states c) ms shown)
+  pub kept-if-spared : (key : ℕ) → Spared key (new_states c) ms → Kept None (trace key (new_states c) ms shown)
   kept-if-spared key = (from-none key).1
 
   -- So the bound is kept under the premises as demand 3 has them: 'the key is never removed by the tracked-key cap'.

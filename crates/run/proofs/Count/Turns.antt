@@ -4,13 +4,11 @@ use Prim.Native.Nat.{ℕ, ◌^◌, ◌≤◌, ◌<◌}
 use mathlib.Core.Path.{◌≡◌, refl, sym, ◌∙◌}
 use mathlib.Core.Bool.{true, cond, and-false, false≢true}
 use mathlib.Core.List.{List, [], ◌∷◌, ◌++◌}
-use mathlib.Core.Option.{Option, none, some}
 use native.Mathlib.Omega.{arith}
 use borrow.Author.Tests.{le-ltb}
 use lib.Dec.{ltb}
 use Rattle.gcra.specs.declared.Units.{Units}
 use Rattle.gcra.specs.declared.Quota.{Quota}
-use Rattle.gcra.specs.declared.Tat.TheVariants.{Unset}
 use Rattle.gcra.specs.declared.Gcra.{Gcra}
 use Rattle.gcra.specs.Packed.{valid_quota}
 use Rattle.gcra.specs.Rate.{carried, same_quota, set_quota}
@@ -18,12 +16,14 @@ use Rattle.gcra.specs.Meter.{is_allow, tat_word, decision, check}
 use Rattle.gcra.proofs.Meter.Checks.{check-quota, check-fits, check-raises}
 use Rattle.gcra.proofs.Rate.Rates.{by-quota, set-fits}
 use Rattle.run.specs.Seen.{Seen, goes_on, lowered, change, NeverLowered}
+use Rattle.std.specs.declared.option.Option.{Option}
+use Rattle.std.specs.declared.option.Option.TheVariants.{None, Some}
 
 -- ---- turns
 
 -- a meter without a TAT
 abbrev pub fresh : Quota → Gcra
-fresh q = record { quota = q; tat = Unset }
+fresh q = record { quota = q; tat = None }
 
 -- at most one check at the reading t, which allows so many: 1 or 0
 pub data Gate (t : ℕ) : Gcra → ℕ → Gcra → Type 0 where
@@ -32,11 +32,11 @@ pub data Gate (t : ℕ) : Gcra → ℕ → Gcra → Type 0 where
 
 -- a call at the reading t: of the key's meter before it, how many checks it allows, and the meter after it
 pub data Turn (u : Units) (t : ℕ) : Option Gcra → ℕ → Option Gcra → Type 0 where
-  absent : Turn u t none 0 none
-  drops : {g : Gcra} → Turn u t (some g) 0 none
-  makes : {q : Quota} {a : ℕ} {h : Gcra} → valid_quota u q ≡ true → Gate t (fresh q) a h → Turn u t none a (some h)
-  keeps : {g : Gcra} {a : ℕ} {h : Gcra} → Gate t g a h → Turn u t (some g) a (some h)
-  sets : {g : Gcra} (q : Quota) {a : ℕ} {h : Gcra} → valid_quota u q ≡ true → Gate t (set_quota g q t) a h → Turn u t (some g) a (some h)
+  absent : Turn u t None 0 None
+  drops : {g : Gcra} → Turn u t (Some g) 0 None
+  makes : {q : Quota} {a : ℕ} {h : Gcra} → valid_quota u q ≡ true → Gate t (fresh q) a h → Turn u t None a (Some h)
+  keeps : {g : Gcra} {a : ℕ} {h : Gcra} → Gate t g a h → Turn u t (Some g) a (Some h)
+  sets : {g : Gcra} (q : Quota) {a : ℕ} {h : Gcra} → valid_quota u q ≡ true → Gate t (set_quota g q t) a h → Turn u t (Some g) a (Some h)
 
 -- a list of them, after a call that left m
 abbrev pub Turns : Units → Option Gcra → List Seen → Type 0
@@ -66,11 +66,11 @@ gate-quota {t} {g} checked = check-quota g t
 
 -- the TAT fits
 abbrev pub Fits : Option Gcra → Type 0
-Fits none = Unit
-Fits (some g) = tat_word g.tat < 2 ^ 64
+Fits None = Unit
+Fits (Some g) = tat_word g.tat < 2 ^ 64
 
 -- A check and a turn leave a TAT that fits.
-pub gate-fits : {t : ℕ} {g : Gcra} {a : ℕ} {h : Gcra} → Gate t g a h → Fits (some g) → Fits (some h)
+pub gate-fits : {t : ℕ} {g : Gcra} {a : ℕ} {h : Gcra} → Gate t g a h → Fits (Some g) → Fits (Some h)
 gate-fits unchecked l = l
 gate-fits {t} {g} checked l = check-fits g t l
 
@@ -82,13 +82,13 @@ turn-fits (keeps gate) l = gate-fits gate l
 turn-fits {t} (sets {g} q v gate) l = gate-fits gate (set-fits g q t l)
 
 -- A check does not lower a TAT.
-gate-raises : {t : ℕ} {g : Gcra} {a : ℕ} {h : Gcra} → Gate t g a h → Fits (some g) → tat_word g.tat ≤ tat_word h.tat
+gate-raises : {t : ℕ} {g : Gcra} {a : ℕ} {h : Gcra} → Gate t g a h → Fits (Some g) → tat_word g.tat ≤ tat_word h.tat
 gate-raises unchecked l = omega arith
 gate-raises {t} {g} checked l = check-raises g t l
 
 -- Where the quota stays the same, a turn does not lower the TAT.
-turn-raises : {u : Units} {t : ℕ} {g : Gcra} {a : ℕ} {h : Gcra} → Turn u t (some g) a (some h) → same_quota h.quota g.quota ≡ true
-    → Fits (some g)
+turn-raises : {u : Units} {t : ℕ} {g : Gcra} {a : ℕ} {h : Gcra} → Turn u t (Some g) a (Some h) → same_quota h.quota g.quota ≡ true
+    → Fits (Some g)
     → tat_word g.tat ≤ tat_word h.tat
 turn-raises (keeps gate) e l = gate-raises gate l
 turn-raises {t} {g} {a} {h} (sets q v gate) e l =
@@ -103,9 +103,9 @@ not-lowered at a b l = rw (le-ltb b a l, and-false (ltb at a))
 
 -- A turn in which a spell goes on counts as no change of quota.
 pub no_change : {u : Units} {t : ℕ} (m : Option Gcra) {a : ℕ} (m' : Option Gcra) → Turn u t m a m' → Fits m → goes_on m m' ≡ true → change t m m' ≡ 0
-no_change none m' turn l e = refl
-no_change (some g) none turn l e = refl
-no_change {t} (some g) (some h) turn l e = rw e (not-lowered t (tat_word g.tat) (tat_word h.tat) (turn-raises turn e l))
+no_change None m' turn l e = refl
+no_change (Some g) None turn l e = refl
+no_change {t} (Some g) (Some h) turn l e = rw e (not-lowered t (tat_word g.tat) (tat_word h.tat) (turn-raises turn e l))
 
 -- 'a tick that by rounding lowers a TAT ahead of its reading, the quota the same': no list of turns has one.
 pub never_lowered : (u : Units) (m : Option Gcra) (xs : List Seen) → Turns u m xs → Fits m → NeverLowered m xs

@@ -3,6 +3,7 @@
 use mathlib.Core.Path.{◌≡◌, refl, sym, ap, ◌∙◌, subst}
 use mathlib.Core.Bool.{Bool, true, false, cond, ◌&&◌, and-false}
 use mathlib.Core.List.{List, [], ◌∷◌, ◌++◌}
+use Rattle.std.proofs.lemmas.Bool.{cond-false}
 use Rattle.questions.proofs.Tests.{split, both}
 use Rattle.questions.specs.Questions.{Question, ◌asks◌, refused, answer, passes, changed, first_no}
 use Rattle.peers.specs.Peers.State as peer-state
@@ -89,7 +90,7 @@ module _ {S : Type 0} {room v room' v' : Bool} {y y' : S} (g : Agrees room v y r
   same-changed x value = split (passes (asking front rest room' v' y'))
       (λ e. (λ i. cond (same-passes i) (value (same-state e i)) x))
       (λ e.
-      ap (λ (b : Bool). cond b (value y) x) (same-passes ∙ e) ∙ sym (ap (λ (b : Bool). cond b (value y') x) e))
+      cond-false _ (value y) x (same-passes ∙ e) ∙ sym (cond-false _ (value y') x e))
 
 -- ---- what is lent of holdings that stand for a state
 

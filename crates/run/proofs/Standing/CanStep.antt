@@ -1,13 +1,14 @@
 -- No run is stuck: whatever the program holds, a call that is lent enough has a reply and leaves holdings that keep its promise.
-use mathlib.Core.Path.{◌≡◌, refl, ap, subst}
-use mathlib.Core.Bool.{Bool, true, cond, ◌&&◌}
+use mathlib.Core.Path.{◌≡◌, refl, subst}
+use mathlib.Core.Bool.{true, ◌&&◌}
 use mathlib.Core.List.{List, ◌++◌}
+use Rattle.std.proofs.lemmas.Bool.{cond-false}
 use Rattle.questions.proofs.Tests.{both}
 use Rattle.questions.specs.Questions.{Question, answer, passes, changed}
 use Rattle.questions.proofs.Answers.{changed-passed}
 use Rattle.peers.specs.Peers.State as peer-state
 use Rattle.limiter.specs.declared.Limiter.{Limiter}
-use Rattle.limiter.specs.declared.Changed.{Changed}
+use Rattle.limiter.specs.Answered.{Changed}
 use Rattle.limiter.specs.State as limiter-state
 use Rattle.limiter.specs.State.{parameters_of, settings_of, LimiterState, LimiterTables, lengths, have_room, value_of, units_of, units_in}
 use Rattle.limiter.specs.Checks.{cluster_questions}
@@ -20,26 +21,28 @@ use Rattle.limiter.proofs.States.StateValidLaws.{units-of-accepted}
 use Rattle.run.specs.Run.{Memory, Change, Query, What, Told, Reply, Does, Tells, Acts, lend, returned}
 use Rattle.run.specs.Typed.{typed, typed_what}
 use Rattle.run.specs.Demand3.{CanCall}
-use Rattle.run.proofs.Standing.AnswerCases.{check_from, traced_from, change_from, rates_from, key_quota_from, limit_from, since_from, heard_from, quota_from, rate_from, config_from, flag_from, len_from, total_from, check-back, traced-back, change-back, rates-back, key-quota-back, limit-back, since-back, heard-back, quota-back, rate-back, config-back, flag-back, len-back, total-back}
+use Rattle.questions.specs.Refusals.{refusal_of}
+use Rattle.questions.proofs.RefusalLaws.{are_known, result_of, tested-back}
+use Rattle.run.proofs.Standing.KnownLaws.{traced-known}
 
 -- ---- a tick: `written after t` is the witness
 
 -- the value and the words of the state afterwards, with the questions' answer
 abbrev tick_result : List Question → LimiterState → Limiter → Changed
-tick_result qs y l = record { answer = change_from (answer qs tt); limiter = changed qs l (value_of y) }
+tick_result qs y l = record { answer = result_of (answer qs tt); limiter = changed qs l (value_of y) }
 
 -- where the questions pass only of a valid state with room for it
-can-tick : (qs : List Question) (y : LimiterState) (l : Limiter) (t : LimiterTables)
+can-tick : (qs : List Question) (y : LimiterState) (l : Limiter) (t : LimiterTables) → are_known qs ≡ true
     → (passes qs ≡ true → (limiter-state.valid (units_of y.settings) y ≡ true) × (have_room y.settings.config (lengths t) ≡ true))
     → Ticking qs y l t (tick_result qs y l) (changed qs t (limiter-state.written (units_of y.settings) y t))
-can-tick qs y l t keeps =
+can-tick qs y l t known keeps =
     record {
-      answered = change-back _;
+      answered = tested-back qs tt known;
       limiter = refl;
       held =
           λ e. let k = keeps e in subst (limiter.Holds y t) (changed-passed (limiter-state.written (units_of y.settings) y t) t qs e)
           (written-holds y t k.0 k.1);
-      unmoved = λ e. ap (λ (b : Bool). cond b (limiter-state.written (units_of y.settings) y t) t) e;
+      unmoved = cond-false (passes qs) (limiter-state.written (units_of y.settings) y t) t;
     }
 
 -- a lent state that passes question 2 is valid
@@ -50,29 +53,29 @@ lent-valid l t e = (both (limiter-state.are_exact (units_in l) l t) _ e).1
 -- ---- each call that changes
 
 can-do : (p : Memory) (c : Change) → typed c ≡ true → (r : Reply) × (p' : Memory) × Does p c r p'
-unfolding typed passes tick_with limiter-state.state_of
+unfolding typed passes tick_with limiter-state.state_of refusal_of
 can-do p (Change.check key now m) w =
-    (_, _, Does.checks {r = record { answer = check_from _; limiter = _ }} (record { answered = check-back _; limiter = refl; words = refl }))
+    (_, _, Does.checks {r = record { answer = result_of _; limiter = _ }} (record { answered = tested-back _ _ refl; limiter = refl; words = refl }))
 can-do p (Change.check-in key z now m) w =
-    (_, _, Does.checks_in {r = record { answer = check_from _; limiter = _ }} (record { answered = check-back _; limiter = refl; words = refl }))
+    (_, _, Does.checks_in {r = record { answer = result_of _; limiter = _ }} (record { answered = tested-back _ _ refl; limiter = refl; words = refl }))
 can-do p (Change.check-traced key z y now m) w =
-    (_, _, Does.checks_traced {r = record { answer = traced_from _; limiter = _ }} (record { answered = traced-back _; limiter = refl; words = refl }))
+    (_, _, Does.checks_traced {r = record { answer = result_of _; limiter = _ }} (record { answered = tested-back _ _ (traced-known z y _ refl); limiter = refl; words = refl }))
 can-do p (Change.check-each list count m out) w = (
   _,
   _,
-  Does.checks_each {r = record { answer = change_from _; limiter = _ }}
-      (record { acts = record { answered = change-back _; limiter = refl; words = refl }; output = refl }),
+  Does.checks_each {r = record { answer = result_of _; limiter = _ }}
+      (record { acts = record { answered = tested-back _ _ refl; limiter = refl; words = refl }; output = refl }),
 )
 can-do p (Change.tally key y z now m) w =
-    (_, _, Does.tallies {r = record { answer = change_from _; limiter = _ }} (record { answered = change-back _; limiter = refl; words = refl }))
+    (_, _, Does.tallies {r = record { answer = result_of _; limiter = _ }} (record { answered = tested-back _ _ refl; limiter = refl; words = refl }))
 can-do p (Change.set-cap z) w =
-    (_, _, Does.sets_cap {r = record { answer = change_from _; limiter = _ }} (record { answered = change-back _; limiter = refl }))
+    (_, _, Does.sets_cap {r = record { answer = result_of _; limiter = _ }} (record { answered = tested-back _ _ refl; limiter = refl }))
 can-do p (Change.tick now m) w = (
   _,
   _,
   Does.ticks
       (can-tick (state_questions p.limiter p.tables ++ cluster_questions m) (tick (parameters_of (settings_of p.limiter)) (units_in p.limiter) now m (here p.limiter p.tables)) p.limiter
-      p.tables
+      p.tables refl
       (λ e.
       let a = both (have_room p.limiter.config (lengths p.tables)) _ e in
       let b = both (limiter-state.is_valid (units_in p.limiter) p.limiter p.tables) _ a.1 in
@@ -83,7 +86,7 @@ can-do p (Change.tick-with-shares now m) w = (
   _,
   Does.ticks_with_shares
       (can-tick (both_questions p.limiter p.tables p.peers p.peer_tables ++ cluster_questions m)
-      (tick_with_shares (parameters_of (settings_of p.limiter)) (units_in p.limiter) (peer-state.state_of p.peers p.peer_tables) now m (here p.limiter p.tables)) p.limiter p.tables
+      (tick_with_shares (parameters_of (settings_of p.limiter)) (units_in p.limiter) (peer-state.state_of p.peers p.peer_tables) now m (here p.limiter p.tables)) p.limiter p.tables refl
       (λ e.
       let a = both (have_room p.limiter.config (lengths p.tables) && peer-state.have_room (peer-state.lengths p.peer_tables)) _ e in
       let b = both (limiter-state.is_valid (units_in p.limiter) p.limiter p.tables && peer-state.is_valid p.peers p.peer_tables) _ a.1 in (
@@ -94,41 +97,42 @@ can-do p (Change.tick-with-shares now m) w = (
       ))),
 )
 can-do p (Change.report sender z now) w =
-    (_, _, Does.reports {r = record { answer = change_from _; peers = _ }} (record { answered = change-back _; value = refl; words = refl }))
+    (_, _, Does.reports {r = record { answer = result_of _; peers = _ }} (record { answered = tested-back _ _ refl; value = refl; words = refl }))
 can-do p (Change.forget peer) w =
-    (_, _, Does.forgets {r = record { answer = change_from _; peers = _ }} (record { answered = change-back _; value = refl; words = refl }))
+    (_, _, Does.forgets {r = record { answer = result_of _; peers = _ }} (record { answered = tested-back _ _ refl; value = refl; words = refl }))
 can-do p (Change.leave peer now hold) w =
-    (_, _, Does.leaves {r = record { answer = change_from _; peers = _ }} (record { answered = change-back _; value = refl; words = refl }))
+    (_, _, Does.leaves {r = record { answer = result_of _; peers = _ }} (record { answered = tested-back _ _ refl; value = refl; words = refl }))
 can-do p (Change.expire now max_age) w =
-    (_, _, Does.expires {r = record { answer = change_from _; peers = _ }} (record { answered = change-back _; value = refl; words = refl }))
+    (_, _, Does.expires {r = record { answer = result_of _; peers = _ }} (record { answered = tested-back _ _ refl; value = refl; words = refl }))
 
 -- ---- each call that reads
 
 can-tell : (p : Memory) (c : Query) → (r : Told) × Tells p c r
-can-tell p (Query.key_rates key) = (_, Tells.tells_rates {r = rates_from _} (rates-back _))
-can-tell p (Query.quota key) = (_, Tells.tells_quota {r = key_quota_from _} (key-quota-back _))
-can-tell p (Query.limit key) = (_, Tells.tells_limit {r = limit_from _} (limit-back _))
-can-tell p (Query.hot_since key) = (_, Tells.tells_since {r = since_from _} (since-back _))
-can-tell p (Query.is-hot key) = (_, Tells.tells_hot {r = flag_from _} (flag-back _))
-can-tell p (Query.is-tracked key) = (_, Tells.tells_tracked {r = flag_from _} (flag-back _))
-can-tell p (Query.new_key_quota z m) = (_, Tells.tells_new_quota {r = quota_from _} (quota-back _))
-can-tell p (Query.new-key-factor m) = (_, Tells.tells_factor {r = rate_from _} (rate-back _))
-can-tell p Query.config = (_, Tells.tells_config {r = config_from _} (config-back _))
-can-tell p Query.tracked_keys = (_, Tells.counts_keys {r = len_from _} (len-back _))
-can-tell p Query.hot_keys = (_, Tells.counts_hot {r = len_from _} (len-back _))
-can-tell p (Query.hot-demand out) = (_, Tells.lists_hot {r = len_from _} (record { answered = len-back _; output = refl }))
-can-tell p (Query.most-denied k out) = (_, Tells.lists_denied {r = len_from _} (record { answered = len-back _; output = refl }))
-can-tell p (Query.most_shadow_denied k out) = (_, Tells.lists_shadow_denied {r = len_from _} (record { answered = len-back _; output = refl }))
-can-tell p (Query.get peer key) = (_, Tells.gets {r = heard_from _} (heard-back _))
-can-tell p (Query.total key) = (_, Tells.tells_total {r = total_from _} (total-back _))
-can-tell p (Query.hot-elsewhere key) = (_, Tells.tells_elsewhere {r = flag_from _} (flag-back _))
-can-tell p (Query.totals w m keys out) = (_, Tells.tells_totals {r = change_from _} (record { answered = change-back _; output = refl }))
-can-tell p (Query.hot_elsewheres w m keys out) = (_, Tells.tells_elsewheres {r = change_from _} (record { answered = change-back _; output = refl }))
-can-tell p Query.peer-keys = (_, Tells.counts_peer_keys {r = len_from _} (len-back _))
-can-tell p Query.no-peer-keys = (_, Tells.tells_no_peer_keys {r = flag_from _} (flag-back _))
+unfolding refusal_of
+can-tell p (Query.key_rates key) = (_, Tells.tells_rates {r = result_of _} (tested-back _ _ refl))
+can-tell p (Query.quota key) = (_, Tells.tells_quota {r = result_of _} (tested-back _ _ refl))
+can-tell p (Query.limit key) = (_, Tells.tells_limit {r = result_of _} (tested-back _ _ refl))
+can-tell p (Query.hot_since key) = (_, Tells.tells_since {r = result_of _} (tested-back _ _ refl))
+can-tell p (Query.is-hot key) = (_, Tells.tells_hot {r = result_of _} (tested-back _ _ refl))
+can-tell p (Query.is-tracked key) = (_, Tells.tells_tracked {r = result_of _} (tested-back _ _ refl))
+can-tell p (Query.new_key_quota z m) = (_, Tells.tells_new_quota {r = result_of _} (tested-back _ _ refl))
+can-tell p (Query.new-key-factor m) = (_, Tells.tells_factor {r = result_of _} (tested-back _ _ refl))
+can-tell p Query.config = (_, Tells.tells_config {r = result_of _} (tested-back _ _ refl))
+can-tell p Query.tracked_keys = (_, Tells.counts_keys {r = result_of _} (tested-back _ _ refl))
+can-tell p Query.hot_keys = (_, Tells.counts_hot {r = result_of _} (tested-back _ _ refl))
+can-tell p (Query.hot-demand out) = (_, Tells.lists_hot {r = result_of _} (record { answered = tested-back _ _ refl; output = refl }))
+can-tell p (Query.most-denied k out) = (_, Tells.lists_denied {r = result_of _} (record { answered = tested-back _ _ refl; output = refl }))
+can-tell p (Query.most_shadow_denied k out) = (_, Tells.lists_shadow_denied {r = result_of _} (record { answered = tested-back _ _ refl; output = refl }))
+can-tell p (Query.get peer key) = (_, Tells.gets {r = result_of _} (tested-back _ _ refl))
+can-tell p (Query.total key) = (_, Tells.tells_total {r = result_of _} (tested-back _ _ refl))
+can-tell p (Query.hot-elsewhere key) = (_, Tells.tells_elsewhere {r = result_of _} (tested-back _ _ refl))
+can-tell p (Query.totals w m keys out) = (_, Tells.tells_totals {r = result_of _} (record { answered = tested-back _ _ refl; output = refl }))
+can-tell p (Query.hot_elsewheres w m keys out) = (_, Tells.tells_elsewheres {r = result_of _} (record { answered = tested-back _ _ refl; output = refl }))
+can-tell p Query.peer-keys = (_, Tells.counts_peer_keys {r = result_of _} (tested-back _ _ refl))
+can-tell p Query.no-peer-keys = (_, Tells.tells_no_peer_keys {r = result_of _} (tested-back _ _ refl))
 can-tell p Query.ask-limiter = (_, Tells.asks_limiter refl)
 can-tell p Query.ask-peers = (_, Tells.asks_peers refl)
-can-tell p (Query.save out) = (_, Tells.saves {r = len_from _} (record { answered = len-back _; output = refl }))
+can-tell p (Query.save out) = (_, Tells.saves {r = result_of _} (record { answered = tested-back _ _ refl; output = refl }))
 
 -- ---- a call as a whole
 

@@ -3,11 +3,11 @@
 use Prim.Native.Nat.{ℕ}
 use native.Mathlib.Omega.{arith}
 use mathlib.Core.Path.{◌≡◌, refl, sym, ap, ◌∙◌, subst}
-use mathlib.Core.Bool.{Bool, true, false, cond, ◌&&◌}
+use mathlib.Core.Bool.{Bool, true, false, ◌&&◌}
 use mathlib.Core.List.{List, map}
 use lib.Ieee.{Float}
-use mathlib.Core.Option.{Option}
 use Rattle.records.specs.Records.{records}
+use Rattle.std.proofs.lemmas.Bool.{cond-false}
 use Rattle.questions.proofs.Tests.{split, both}
 use Rattle.questions.specs.Questions.{Question, Answer, passes, changed}
 use Rattle.questions.proofs.Answers.{changed-passed}
@@ -18,12 +18,12 @@ use Rattle.peers.specs.Peers.State as peer-state
 use Rattle.peers.specs.Peers.State.{PeersState, PeerTables, with_counts}
 use Rattle.records.specs.Typed.{exact}
 use Rattle.limiter.specs.declared.Limiter.{Limiter}
-use Rattle.limiter.specs.declared.Changed.{Changed}
+use Rattle.limiter.specs.Answered.{Changed}
 use Rattle.limiter.specs.State as limiter-state
 use Rattle.limiter.specs.State.{Settings, LimiterState, LimiterTables, lengths, have_room, key_words, key_of, shadow_words, shadow_of, value_of, units_of, units_for, units_in}
 use Rattle.limiter.specs.Calls.{Acts, Holds, Ticking}
 use Rattle.limiter.specs.Checks.{set_cap}
-use Rattle.limiter.proofs.States.WrittenLaws.{cap-back, last-tick-back, read_back, written-valid, lengths-written}
+use Rattle.limiter.proofs.States.WrittenLaws.{read_back, written-valid, lengths-written}
 use Rattle.records.proofs.Tables.TypedLaws.{length-written}
 use Rattle.peers.proofs.Peers.Tables.WordLaws.{peer-long, key-long, contested-long}
 use Rattle.peers.proofs.Peers.Reports.KeptLaws as peers-kept
@@ -32,6 +32,7 @@ use Rattle.peers.proofs.Peers.Theorems as peer-laws
 use Rattle.run.proofs.Standing.Stands.{LimiterStands, PeersStand, put_tables, put_peers, limiter-back, peers-back, keys-counted, hot-counted, shadows-counted, same-config}
 use Rattle.limiter.proofs.States.StateValidLaws.{units-of-accepted}
 use Rattle.run.proofs.Standing.Asked.{asking, Agrees, same_answer, same-passes, same-state, same-changed}
+use Rattle.std.specs.declared.option.Option.{Option}
 
 -- ---- any change
 
@@ -54,7 +55,7 @@ module _ {Value Tables S Long : Type 0} {Stand : Value → Tables → S → Type
       (λ e. subst (Stand v' (put t')) (changed-passed y x qs e) (u.done e))
       (λ e.
       let k = u.kept e in
-      subst (Stand v' (put t')) (sym (ap (λ (b : Bool). cond b y x) e))
+      subst (Stand v' (put t')) (sym (cond-false (passes qs) y x e))
       (subst (λ (a : Value). Stand a (put t') x) (sym k.0) (subst (λ (b : Tables). Stand v (put b) x) (sym k.1) s)))
 
 -- ---- the limiter
@@ -96,7 +97,7 @@ module _ {A : Type 0} {said : Answer A} {qs : List Question} {value : A} {y : Li
         as_long = λ e.
             ap lengths (c.words ∙ sym (changed-passed (limiter-state.written (units_of y.settings) y t) t qs e)) ∙ written-long y t (keeps e);
         kept = λ e.
-            (c.limiter ∙ ap (λ (b : Bool). cond b (value_of y) l) e, c.words ∙ ap (λ (b : Bool). cond b (limiter-state.written (units_of y.settings) y t) t) e);
+            (c.limiter ∙ cond-false (passes qs) (value_of y) l e, c.words ∙ cond-false (passes qs) (limiter-state.written (units_of y.settings) y t) t e);
       }
 
 module _ {qs : List Question} {y : LimiterState} {l : Limiter} {r : Changed} {t t' : LimiterTables} where
@@ -112,7 +113,7 @@ module _ {qs : List Question} {y : LimiterState} {l : Limiter} {r : Changed} {t 
             (limiter-back whole (ap (have_room y.settings.config) h.long ∙ k.room)
             (subst (λ (b : LimiterTables). LimiterStands (value_of y) b y) (sym h.front) (written_stands y t' k.valid)));
         as_long = λ e. (c.held e).long;
-        kept = λ e. (c.limiter ∙ ap (λ (b : Bool). cond b (value_of y) l) e, c.unmoved e);
+        kept = λ e. (c.limiter ∙ cond-false (passes qs) (value_of y) l e, c.unmoved e);
       }
 
 -- other settings over the same tables
@@ -132,7 +133,7 @@ settings-stand {l} {t} {x} z v c s =
       valid = v;
       reads =
           (λ i. record {
-            settings = record { config = z.config; cap = cap-back z.cap i; last_tick = last-tick-back z.last_tick i };
+            settings = record { config = z.config; cap = z.cap; last_tick = z.last_tick };
             keys =
                 ((λ j. map (key_of (u j)) (records 22 (keys-counted s j) t.keys)) ∙ ap (λ (y : LimiterState). y.keys) s.reads) i;
             hot = (ap (λ (m : ℕ). map hot-set.entry (records 6 m t.hot)) (hot-counted s) ∙ ap (λ (y : LimiterState). y.hot) s.reads) i;
@@ -159,7 +160,7 @@ cap-leaves {qs} {l} {l'} {t} {y} whole x c keeps =
           subst (λ (a : Limiter). LimiterStands a (put_tables whole t) (set_cap x y)) (changed-passed (value_of (set_cap x y)) l qs e ∙ sym c)
           (limiter-back whole k.1.room (settings-stand (set_cap x y).settings k.1.valid refl k.0));
       as_long = λ e. refl;
-      kept = λ e. (c ∙ ap (λ (b : Bool). cond b (value_of (set_cap x y)) l) e, refl);
+      kept = λ e. (c ∙ cond-false (passes qs) (value_of (set_cap x y)) l e, refl);
     }
 
 -- ---- the peers
@@ -201,7 +202,7 @@ changes-leave {qs} {y} {p} {p'} {t} {t'} whole value words keeps =
           (subst (λ (b : PeerTables). PeersStand (with_counts p y) (put_peers whole b) y) (changed-passed (peer-state.written y t) t qs e ∙ sym words)
           (peers-back whole (ap peer-state.have_room (peers-written-long y t k) ∙ k.room) (peers-written-stand y t k.valid p)));
       as_long = λ e. ap peer-state.lengths (words ∙ sym (changed-passed (peer-state.written y t) t qs e)) ∙ peers-written-long y t (keeps e);
-      kept = λ e. (value ∙ ap (λ (b : Bool). cond b (with_counts p y) p) e, words ∙ ap (λ (b : Bool). cond b (peer-state.written y t) t) e);
+      kept = λ e. (value ∙ cond-false (passes qs) (with_counts p y) p e, words ∙ cond-false (passes qs) (peer-state.written y t) t e);
     }
 
 -- ---- a promise on what is lent is one on the state that it stands for

@@ -5,7 +5,6 @@ use mathlib.Core.Bool.{true, ◌&&◌}
 use mathlib.Core.List.{List, ◌++◌}
 use lib.ListN.{length, take, drop}
 use Rattle.questions.proofs.Tests.{both, and_intro}
-use Rattle.demand.specs.declared.answers.LenAnswer.TheVariants as len-answer
 use Rattle.questions.specs.Lists.{all}
 use Rattle.questions.specs.Questions.{passes}
 use Rattle.questions.proofs.Answers.{given-passed}
@@ -15,8 +14,6 @@ use Rattle.limiter.specs.declared.Config.{Config}
 use Rattle.limiter.specs.State as limiter-state
 use Rattle.limiter.specs.State.{LimiterTables, lengths, units_of}
 use Rattle.image.specs.declared.Loaded.{Loaded}
-use Rattle.image.specs.declared.LoadAnswer.{LoadAnswer}
-use Rattle.image.specs.declared.LoadAnswer.TheVariants as load-answer
 use Rattle.image.specs.Image.{State, valid, image}
 use Rattle.image.specs.Calls.{here, have_room, values_of, load_questions, Loads}
 use Rattle.image.proofs.Loading.LoadLaws as images
@@ -28,6 +25,9 @@ use Rattle.run.proofs.Standing.Stands.{Stands, same-config}
 use Rattle.run.proofs.Standing.Asked.{both-agree-there}
 use Rattle.run.proofs.Standing.Left.{written_stands, written-long, peers-written-stand, peers-written-long}
 use Rattle.run.proofs.Standing.Shows.{same-image, shown_by, run-shows, unbroken-shows}
+use Rattle.std.specs.declared.result.Result.{Result}
+use Rattle.std.specs.declared.result.Result.TheVariants.{Ok}
+use Rattle.questions.specs.declared.Refusal.{Refusal}
 
 -- what the program holds after a load
 abbrev loaded_into : Loaded → LimiterTables → PeerTables → Memory
@@ -58,13 +58,13 @@ module _ {h : Memory} {s : State} (w : Resume) (st : Stands h s) where
   reads room = let g = both-agree-there w.lent st in g.rest (sym g.rooms ∙ room)
 
   -- what a save wrote is the state's image
-  saved-image : {size : ℕ} {out : List ℕ} → SavesAt h w (len-answer.Is size) out → take size out ≡ image s
+  saved-image : {size : ℕ} {out : List ℕ} → SavesAt h w (Ok size) out → take size out ≡ image s
   saved-image {size} {out} c =
       let v = images.saved h.limiter part.tables h.peers part.peer_tables w.out out size c in
       v.bytes ∙ ap image (reads v.room).1
 
   -- a load of it
-  load_of : {size : ℕ} {out : List ℕ} {r : LoadAnswer} {t : LimiterTables} {pt : PeerTables} → SavesAt h w (len-answer.Is size) out
+  load_of : {size : ℕ} {out : List ℕ} {r : Result Loaded Refusal} {t : LimiterTables} {pt : PeerTables} → SavesAt h w (Ok size) out
       → Loads (take size out) w.tables w.peer_tables r t pt → Loads (image s) w.tables w.peer_tables r t pt
   load_of {r = r} {t = t} {pt = pt} c l = subst (λ (bs : List ℕ). Loads bs w.tables w.peer_tables r t pt) (saved-image c) l
 
@@ -98,7 +98,7 @@ module _ {h : Memory} {s : State} (w : Resume) (st : Stands h s) where
     abbrev saved_bytes : List ℕ
     saved_bytes = image (here h.limiter part.tables h.peers part.peer_tables) ++ drop saved_size w.out
 
-    can-save : SavesAt h w (len-answer.Is saved_size) saved_bytes
+    can-save : SavesAt h w (Ok saved_size) saved_bytes
     can-save =
         images.can-save h.limiter part.tables h.peers part.peer_tables w.out saved_bytes lent-room lent-valid.0 lent-valid.1 fits
 
@@ -115,7 +115,7 @@ module _ {h : Memory} {s : State} (w : Resume) (st : Stands h s) where
           resumed = (
             _,
             Resumes.saved_and_loaded can-save
-                (subst (λ (bs : List ℕ). Loads bs w.tables w.peer_tables (load-answer.Is (values_of s))
+                (subst (λ (bs : List ℕ). Loads bs w.tables w.peer_tables (Ok (values_of s))
                 (limiter-state.written (units_of s.limiter.settings) s.limiter w.tables) (peer-state.written s.peers w.peer_tables))
                 (sym (saved-image can-save)) (images.can-load s (stands-valid st) w.tables w.peer_tables load-room)),
           );

@@ -60,8 +60,8 @@ limiter-of-requires c κs = (passed c).long
 peers-of-requires : tie.Need-peers_of-p-requires
 peers-of-requires c κs = (fits c.before).0
 
-put-len-requires : tie.Need-put_len-requires
-put-len-requires c κs = (fits c.before.before.before.before.before.before.before).1
+put-len-requires : tie.Need-put_answer-requires
+put-len-requires c κs = (search rules, (search rules, (fits c.before.before.before.before.before.before.before).1))
 
 returns-2 : tie.Need-returns
 returns-2 c =
@@ -69,8 +69,8 @@ returns-2 c =
     let peers-of = c.peers_of-p in
     let save = c.save-said in
     passed-call _ _ (passed c.before.before.before.before.before.before.before.before.before.before).passed
-    (tells (both_read limiter-of.ensures peers-of.ensures) save.result save.ensures c.put_len.ensures.0
-    c.put_len.ensures.1)
+    (tells (both_read limiter-of.ensures peers-of.ensures) save.result save.ensures c.put_answer.ensures.0
+    c.put_answer.ensures.1)
 
 pub nultiway_save_spec : {M : Type 1} → statement M
 nultiway_save_spec =

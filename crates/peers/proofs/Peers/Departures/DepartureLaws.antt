@@ -1,7 +1,6 @@
 -- Laws: a departure and expiry keep the state valid.
 use Rattle.std.proofs.Common.{◌≡◌, ℕ, ◌+◌, ◌*◌, ◌^◌, ◌≤◌, Bool, true, false, cond, not, ◌&&◌, ◌||◌, eqb, ltb, leb, List, [], ◌∷◌, ◌++◌, map, length, get_or, sym, refl, ap, ◌∙◌, subst, arith, take-append-drop, ltb-true, lt-ltb, eq-eqb, ne_eqb, eqb-true, le-leb, leb-true}
 use mathlib.Core.Bool.{and_comm, and-not_self}
-use mathlib.Core.Option.{Option, none, some}
 use borrow.Author.Tests.{eqb-false}
 use lib.ListN.{length-map}
 use Rattle.records.specs.Records.{ascending, lower_bound}
@@ -20,6 +19,8 @@ use Rattle.records.proofs.Tables.TypedLaws.{wide-map}
 use Rattle.peers.proofs.Peers.Tables.WordLaws.{peer-long, key-long, contested-long}
 use Rattle.peers.proofs.Peers.Tables.StoreLaws.{leaves-held, leaves-now}
 use Rattle.peers.proofs.Peers.Departures.ExpireLaws.{ascending-by, ascending-same, any-weaker, bare, keeps, aged-id, aged-held, staying_contested, staying_peers, staying_keys, expire-stays}
+use Rattle.std.specs.declared.option.Option.{Option}
+use Rattle.std.specs.declared.option.Option.TheVariants.{None, Some}
 
 -- ---- a list that ascends by a number, in its parts
 
@@ -292,17 +293,17 @@ forget-valid id s v =
 
 -- ---- leave
 
-hold-valid-by : (until id : ℕ) (held : Option ℕ) (taken : Option Snapshot) (past : List ℕ) → is_word until ≡ true → valid_peer (record { id = id; held_until = held; snapshot = taken; past_epochs = past }) ≡ true → valid_peer (record { id = id; held_until = some until; snapshot = taken; past_epochs = past }) ≡ true
+hold-valid-by : (until id : ℕ) (held : Option ℕ) (taken : Option Snapshot) (past : List ℕ) → is_word until ≡ true → valid_peer (record { id = id; held_until = held; snapshot = taken; past_epochs = past }) ≡ true → valid_peer (record { id = id; held_until = Some until; snapshot = taken; past_epochs = past }) ≡ true
 unfolding valid_peer peer_words all
-hold-valid-by until id none taken past u v =
-    let a = both (all is_word (peer_words (record { id = id; held_until = none; snapshot = taken; past_epochs = past }))) _ v in
+hold-valid-by until id None taken past u v =
+    let a = both (all is_word (peer_words (record { id = id; held_until = None; snapshot = taken; past_epochs = past }))) _ v in
     let b = both (is_word id) _ a.0 in
-    and_intro (all is_word (peer_words (record { id = id; held_until = some until; snapshot = taken; past_epochs = past }))) _ (and_intro (is_word id) _ b.0 (and_intro (is_word until) _ u b.1)) a.1
-hold-valid-by until id (some t) taken past u v =
-    let a = both (all is_word (peer_words (record { id = id; held_until = some t; snapshot = taken; past_epochs = past }))) _ v in
+    and_intro (all is_word (peer_words (record { id = id; held_until = Some until; snapshot = taken; past_epochs = past }))) _ (and_intro (is_word id) _ b.0 (and_intro (is_word until) _ u b.1)) a.1
+hold-valid-by until id (Some t) taken past u v =
+    let a = both (all is_word (peer_words (record { id = id; held_until = Some t; snapshot = taken; past_epochs = past }))) _ v in
     let b = both (is_word id) _ a.0 in
     let c = both (is_word t) _ b.1 in
-    and_intro (all is_word (peer_words (record { id = id; held_until = some until; snapshot = taken; past_epochs = past }))) _ (and_intro (is_word id) _ b.0 (and_intro (is_word until) _ u c.1)) a.1
+    and_intro (all is_word (peer_words (record { id = id; held_until = Some until; snapshot = taken; past_epochs = past }))) _ (and_intro (is_word id) _ b.0 (and_intro (is_word until) _ u c.1)) a.1
 
 -- a peer of that id with a hold, any other as it is
 abbrev held-if : ℕ → ℕ → PeerRecord → PeerRecord
@@ -359,14 +360,14 @@ leave-valid id at time s v = split (eqb time 0)
 
 -- ---- expire
 
-aged-valid-by : (id : ℕ) (held : Option ℕ) (taken : Option Snapshot) (past : List ℕ) → valid_peer (record { id = id; held_until = held; snapshot = taken; past_epochs = past }) ≡ true → valid_peer (record { id = id; held_until = held; snapshot = none; past_epochs = [] }) ≡ true
+aged-valid-by : (id : ℕ) (held : Option ℕ) (taken : Option Snapshot) (past : List ℕ) → valid_peer (record { id = id; held_until = held; snapshot = taken; past_epochs = past }) ≡ true → valid_peer (record { id = id; held_until = held; snapshot = None; past_epochs = [] }) ≡ true
 unfolding valid_peer peer_words all
-aged-valid-by id none taken past v =
-    let a = both (all is_word (peer_words (record { id = id; held_until = none; snapshot = taken; past_epochs = past }))) _ v in
+aged-valid-by id None taken past v =
+    let a = both (all is_word (peer_words (record { id = id; held_until = None; snapshot = taken; past_epochs = past }))) _ v in
     let b = both (is_word id) _ a.0 in
     ap (λ (x : Bool). (x && true) && true) b.0
-aged-valid-by id (some t) taken past v =
-    let a = both (all is_word (peer_words (record { id = id; held_until = some t; snapshot = taken; past_epochs = past }))) _ v in
+aged-valid-by id (Some t) taken past v =
+    let a = both (all is_word (peer_words (record { id = id; held_until = Some t; snapshot = taken; past_epochs = past }))) _ v in
     let b = both (is_word id) _ a.0 in
     let c = both (is_word t) _ b.1 in
     (λ i. (b.0 i && (c.0 i && true)) && true)

@@ -1,7 +1,6 @@
 -- Laws: what stays of a state as time goes, one test a record, and the tables that hold it.
 use Rattle.std.proofs.Common.{◌≡◌, ℕ, ◌*◌, ◌≤◌, Bool, true, false, cond, not, ◌&&◌, ◌||◌, eqb, List, [], ◌∷◌, map, length, get_or, drop, sym, refl, ap, ◌∙◌, subst, mul-le-mul_right, arith, length-drop, length-take}
 use mathlib.Core.Bool.{or-true}
-use mathlib.Core.Option.{none}
 use lib.ListN.{length-map}
 use Rattle.records.specs.Records.{records, key, before, leads, ascending, same}
 use Rattle.questions.proofs.Tests.{split, both, and_intro, and_second, and-skip, same_truth}
@@ -26,6 +25,7 @@ use Rattle.peers.proofs.Peers.Tables.KindLaws.{contested_kind, all_back}
 use Rattle.records.proofs.Tables.TabledLaws.{in-order-says, in-order-intro, tabled-records, tabled-length, Sound}
 use Rattle.peers.proofs.Peers.Tables.TableLaws.{stores-of}
 use Rattle.peers.proofs.Peers.Tables.StoreLaws.{Tables}
+use Rattle.std.specs.declared.option.Option.TheVariants.{None}
 
 -- ---- fewer records
 
@@ -101,7 +101,7 @@ short-records (r ∷ rs) w = (omega (arith, length-take (get_or r 7 0) (drop 8 r
 
 -- a peer without its snapshot, and whether it keeps it
 abbrev pub bare : PeerRecord → PeerRecord
-bare p = record { id = p.id; held_until = p.held_until; snapshot = none; past_epochs = [] }
+bare p = record { id = p.id; held_until = p.held_until; snapshot = None; past_epochs = [] }
 
 abbrev pub keeps : ℕ → ℕ → PeerRecord → Bool
 keeps at age p = is_held p || is_fresh_snapshot at age p.snapshot

@@ -1,7 +1,6 @@
 -- Laws: what stays of the peers' state as time goes, by the words of its records.
 use Rattle.std.proofs.Common.{◌≡◌, ℕ, zero, suc, ◌+◌, ◌*◌, ◌<◌, Bool, true, false, cond, not, ◌&&◌, ◌||◌, eqb, ltb, leb, List, [], ◌∷◌, map, get_or, sym, refl, ap, ◌∙◌, arith, ltb-false, ltb-true, le-leb}
 use mathlib.Core.Bool.{and_comm, and_assoc}
-use mathlib.Core.Option.{Option, none, some}
 use borrow.Author.Tests.{lt-leb}
 use Rattle.records.specs.declared.Found.TheVariants.{At, Gap}
 use Rattle.records.specs.Records.{records, find_in}
@@ -15,8 +14,10 @@ use Rattle.peers.specs.Peers.Steps.Stays.{place_of, stays_contested, is_stale, s
 use Rattle.questions.proofs.OnlyLaws.{any_same, any-only}
 use Rattle.records.proofs.Words.FieldLaws.{flag_is}
 use Rattle.records.proofs.Words.RowLaws.{word-at}
-use Rattle.records.proofs.Tables.TabledLaws.{InOrder, found_here, any_at, any-gap}
-use Rattle.peers.proofs.Peers.Tables.TableLaws.{test-there, placed}
+use Rattle.records.proofs.Tables.TabledLaws.{InOrder, any_at, any-gap}
+use Rattle.peers.proofs.Peers.Tables.TableLaws.{place_some, place_none}
+use Rattle.std.specs.declared.option.Option.{Option}
+use Rattle.std.specs.declared.option.Option.TheVariants.{None, Some}
 
 not-le : (a b : ℕ) → ltb a b ≡ not (leb b a)
 not-le a b = split (ltb a b)
@@ -67,17 +68,15 @@ module _ (n : ℕ) (xs : List ℕ) (o : InOrder 12 1 n xs) (at age heard : ℕ) 
       ap (λ (b : Bool). b && (is_exempt is_held (not_ended at ps) id || is_fresh at age heard))
       (known_is at id ps ∙ any-gap 12 n id xs o peer_of (λ (p : PeerRecord). p.id) (λ r. refl) (λ (p : PeerRecord). not (hold_ended at p.held_until)) i e)
 
-  -- of the peer at a place, by its words, and by its id
-  pub stays_here : (i : ℕ) → i < n → (ltb i n && stays (get_or xs (i * 12) 0)) ≡ stays_by at (time_of (get_or xs (i * 12 + 1) 0) (get_or xs (i * 12 + 2) 0)) (is_fresh at age heard)
+  -- of the peer at a place, by its words, and where there is none
+  pub stays_here : (id i : ℕ) → i < n → Some i ≡ place_of n id xs → stays id ≡ stays_by at (time_of (get_or xs (i * 12 + 1) 0) (get_or xs (i * 12 + 2) 0)) (is_fresh at age heard)
   unfolding peer_of
-  stays_here i h =
-      let id : ℕ = get_or xs (i * 12) 0 in
-      test-there n i (stays id) h
-      ∙ stays_at id i (found_here 12 n id xs o i h refl)
+  stays_here id i h e =
+      stays_at id i (place_some n id i xs e)
       ∙ (λ k. stays_by at (time_of (word-at 12 n xs i 1 h (omega arith) k) (word-at 12 n xs i 2 h (omega arith) k)) (is_fresh at age heard))
 
-  pub stays-placed : (id i : ℕ) → i ≡ place_of n id xs → (ltb i n && stays (get_or xs (i * 12) 0)) ≡ stays id
-  stays-placed id = placed n id xs o stays (stays-gap id)
+  pub stays-not : (id : ℕ) → None ≡ place_of n id xs → false ≡ stays id
+  stays-not id = place_none n id xs o stays (stays-gap id)
 
 -- by the words of the hold
 pub held_stays : (at flag until : ℕ) (fresh : Bool) → (flag ≡ 0 → ⊥) → ltb at until ≡ stays_by at (time_of flag until) fresh
@@ -103,19 +102,17 @@ module _ (n : ℕ) (xs : List ℕ) (o : InOrder 12 1 n xs) where
   abbrev taken : ℕ → Bool
   taken id = has_snapshot (map peer_of (records 12 n xs)) id
 
-  -- of the peer at a place, by its words, and by its id
-  pub taken_here : (i : ℕ) → i < n → (ltb i n && taken (get_or xs (i * 12) 0)) ≡ not (eqb (get_or xs (i * 12 + 3) 0) 0)
+  -- of the peer at a place, by its words, and where there is none
+  pub taken_here : (id i : ℕ) → i < n → Some i ≡ place_of n id xs → taken id ≡ not (eqb (get_or xs (i * 12 + 3) 0) 0)
   unfolding has_snapshot peer_of
-  taken_here i h =
-      let id : ℕ = get_or xs (i * 12) 0 in
-      test-there n i (taken id) h
-      ∙ any_at 12 n id xs o peer_of (λ (p : PeerRecord). p.id) (λ r. refl) is_taken i (found_here 12 n id xs o i h refl)
+  taken_here id i h e =
+      any_at 12 n id xs o peer_of (λ (p : PeerRecord). p.id) (λ r. refl) is_taken i (place_some n id i xs e)
       ∙ sym (flag_is (get_or (get_or (records 12 n xs) i []) 3 0) ∙ taken-flag (get_or (get_or (records 12 n xs) i []) 3 0) _ _ _)
       ∙ ap (λ (w : ℕ). not (eqb w 0)) (word-at 12 n xs i 3 h (omega arith))
 
-  pub taken-placed : (id i : ℕ) → i ≡ place_of n id xs → (ltb i n && taken (get_or xs (i * 12) 0)) ≡ taken id
+  pub taken-not : (id : ℕ) → None ≡ place_of n id xs → false ≡ taken id
   unfolding has_snapshot peer_of
-  taken-placed id = placed n id xs o taken (any-gap 12 n id xs o peer_of (λ (p : PeerRecord). p.id) (λ r. refl) is_taken)
+  taken-not id = place_none n id xs o taken (any-gap 12 n id xs o peer_of (λ (p : PeerRecord). p.id) (λ r. refl) is_taken)
 
 -- ---- a peer
 
@@ -167,12 +164,12 @@ not_is true c e = ap not e
 pub aged-not : (at age : ℕ) (p : PeerRecord) → is_stale at age p.held_until p.snapshot ≡ false → age_peer is_held at age p ≡ p
 unfolding is_stale
 aged-not at age p e =
-    ap (λ (b : Bool). cond b p (record { id = p.id; held_until = p.held_until; snapshot = none; past_epochs = [] }))
+    ap (λ (b : Bool). cond b p (record { id = p.id; held_until = p.held_until; snapshot = None; past_epochs = [] }))
     (not_is (is_held p || is_fresh_snapshot at age p.snapshot) false e)
 
 pub aged-bare : (at age id : ℕ) (held : Option ℕ) (taken : Option Snapshot) (past : List ℕ) → is_stale at age held taken ≡ true → peer_words (age_peer is_held at age (record { id = id; held_until = held; snapshot = taken; past_epochs = past })) ≡ id ∷ 0 ∷ 0 ∷ 0 ∷ 0 ∷ 0 ∷ 0 ∷ 0 ∷ 0 ∷ 0 ∷ 0 ∷ 0 ∷ []
 unfolding is_stale peer_words
-aged-bare at age id (some until) taken past e = contradiction (sym e)
-aged-bare at age id none taken past e =
-    ap (λ (b : Bool). peer_words (cond b (record { id = id; held_until = none; snapshot = taken; past_epochs = past }) (record { id = id; held_until = none; snapshot = none; past_epochs = [] })))
+aged-bare at age id (Some until) taken past e = contradiction (sym e)
+aged-bare at age id None taken past e =
+    ap (λ (b : Bool). peer_words (cond b (record { id = id; held_until = None; snapshot = taken; past_epochs = past }) (record { id = id; held_until = None; snapshot = None; past_epochs = [] })))
     (not_is (is_fresh_snapshot at age taken) true e)

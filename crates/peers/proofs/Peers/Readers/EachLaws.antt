@@ -1,22 +1,31 @@
 -- What is told of many keys, one after the other, and its questions.
-use Rattle.std.proofs.Common.{◌≡◌, ℕ, ◌+◌, ◌*◌, ◌<◌, ◌≤◌, true, false, leb, List, [], ◌∷◌, ◌++◌, map, length, get_or, take, drop, set, sym, refl, ap, ◌∙◌, zero-add, add-one, arith, length-set, leb-true}
+use Rattle.std.proofs.Common.{subst, ◌≡◌, ℕ, ◌+◌, ◌*◌, ◌<◌, ◌≤◌, true, false, leb, List, [], ◌∷◌, ◌++◌, map, length, get_or, take, drop, set, sym, refl, ap, ◌∙◌, zero-add, add-one, arith, length-set, leb-true}
 use lib.ListN.{length-map}
-use lib.Seq.{paste, paste-zero, paste-suc, take-length}
+use lib.Seq.{paste, paste-suc, take-length}
 use Rattle.records.specs.Records.{records, fits}
 use Rattle.questions.proofs.Tests.{both}
 use Rattle.records.proofs.Words.RecordLaws.{length-records, row, fits-pos, fits_le}
 use Rattle.peers.specs.Peers.State.{PeersState, PeerTables, lengths, have_room, state_of, valid, are_exact, is_valid}
 use Rattle.peers.specs.Peers.Readers.{told}
-use Rattle.peers.specs.Peers.Calls.{change_answer, peers_questions, each_questions, TellsEach}
+use Rattle.peers.specs.Peers.Calls.{peers_questions, each_questions, TellsEach}
+use Rattle.peers.specs.Peers.Steps.Heard.{EachAsked}
+use Rattle.peers.specs.declared.peer_state.KeyStarts.{KeyStarts}
 use Rattle.peers.specs.declared.peer_demand.PeerDemand.{PeerDemand}
-use Rattle.peers.specs.declared.peer_demand.ChangeAnswer.{ChangeAnswer}
-use Rattle.peers.specs.declared.peer_demand.ChangeAnswer.TheVariants.{No, Done}
 use Rattle.questions.specs.Questions.{◌asks◌, refused, given, answer, passes, first_no}
-use Rattle.questions.proofs.Answers.{Numbered, given-passed, answer-no, answer-passed, kept-no, changed-passed, passed_none, first-no, first-yes, first-none, first_more, first_rest}
-use Rattle.peers.proofs.Peers.CallLaws.{refused-any, peers-numbered}
+use Rattle.questions.proofs.Answers.{Numbered, given-passed, answer-passed, kept-no, changed-passed, passed_none, first-no, first-yes, first-none, first_more, first_rest, answer-no}
+use Rattle.peers.proofs.Peers.CallLaws.{peers-numbered}
 use Rattle.questions.proofs.ListLaws.{map_at}
 use Rattle.peers.proofs.Peers.Reports.KeptLaws.{ValidState, valid-says}
 use Rattle.records.proofs.Words.RowLaws.{first-at}
+use Rattle.std.specs.declared.result.Result.{Result}
+use Rattle.std.specs.declared.result.Result.TheVariants.{Ok, Err}
+use Rattle.questions.specs.declared.Refusal.{Refusal}
+use Rattle.questions.specs.Refusals.{number, asked as starts_no, answer_of}
+use Rattle.questions.proofs.RefusalLaws.{number-nonzero, refused-any}
+
+-- the key of a record is within its table
+pub key_inside : (w n : ℕ) (keys : List ℕ) → fits (length keys) w n ≡ true → (i : ℕ) → i < n → i * w < length keys
+key_inside w n keys fit i h = omega (arith, row w n i h, fits-pos (length keys) w n fit, fits_le (length keys) w n fit)
 
 module _ {A : Type 0} (tell : ℕ → PeersState → A) (s : PeersState) (w n : ℕ) (keys : List ℕ) (out : List A) where
   abbrev each : List A
@@ -28,9 +37,6 @@ module _ {A : Type 0} (tell : ℕ → PeersState → A) (s : PeersState) (w n : 
   -- the output once the first i keys are told
   abbrev told_to : ℕ → List A
   told_to i = paste out 0 each i
-
-  told_none : out ≡ told_to 0
-  told_none = paste-zero out 0 each
 
   told-next : fits (length keys) w n ≡ true → n ≤ length out → (i : ℕ) → i < n → set (told_to i) i (tell (get_or keys (i * w) 0) s) ≡ told_to (i + 1)
   told-next fit room i h =
@@ -61,17 +67,7 @@ module _ {A : Type 0} (tell : ℕ → PeersState → A) (s : PeersState) (w n : 
   abbrev pub Telling : List A → ℕ → Type 0
   Telling out' i = (i ≤ n) × (length out' ≡ length out) × (out' ≡ told_to i)
 
-  pub telling-starts : Telling out 0
-  telling-starts = (omega arith, refl, told_none)
-
   module _ (fit : fits (length keys) w n ≡ true) (room : n ≤ length out) (i : ℕ) (h : i < n) where
-    -- the key of the turn is within its table, and there is a place for what is told of it
-    pub key-within : i * w < length keys
-    key-within = omega (arith, row w n i h, fits-pos (length keys) w n fit, fits_le (length keys) w n fit)
-
-    pub place-within : (out' : List A) → Telling out' i → i < length out'
-    place-within out' l = omega (arith, l.1)
-
     pub telling-goes : (out' : List A) → Telling out' i → (x : A) → x ≡ tell (get_or keys (i * w) 0) s → Telling (set out' i x) (i + 1)
     telling-goes out' l x e = (
       omega arith,
@@ -123,12 +119,21 @@ module _ (p : PeerDemand) (t : PeerTables) (len w n room : ℕ) where
         let c = both (is_valid p t) _ b.1 in
         valid-says (state_of p t) (both (are_exact p t) (valid (state_of p t)) c.0).1
 
+-- an asker that refuses
+pub refuses : (starts : Result KeyStarts Refusal) (len w n room : ℕ) (x : Refusal) → ((p : PeerDemand) (t : PeerTables) → starts_no starts ≡ first_no (peers_questions p t) → number x ≡ first_no (each_questions p t len w n room)) → EachAsked starts len w n room (Err x)
+refuses starts len w n room x f = record { first = f; state = λ s e. absurd (number-nonzero x (ap starts_no e)) }
+
+pub hands : (starts : Result KeyStarts Refusal) (len w n room : ℕ) (x : Refusal) {r : Result KeyStarts Refusal} → r ≡ Err x → ((p : PeerDemand) (t : PeerTables) → starts_no starts ≡ first_no (peers_questions p t) → number x ≡ first_no (each_questions p t len w n room)) → EachAsked starts len w n room r
+hands starts len w n room x e f = subst (EachAsked starts len w n room) (sym e) (refuses starts len w n room x f)
+
 -- ---- a call, by the number of the first 'no'
 module _ {A : Type 0} (tell : ℕ → PeersState → A) (p : PeerDemand) (t : PeerTables) (w n : ℕ) (keys : List ℕ) (out : List A) (m : ℕ) (asked : m ≡ first_no (each_questions p t (length keys) w n (length out))) where
-  pub each-refused : (m ≡ 0 → ⊥) → TellsEach tell p t w n keys out (No m) out
-  each-refused h = record { answered = answer-no tt _ m asked h; output = kept-no _ out _ m asked h }
+  pub each-refused : (x : Refusal) → m ≡ number x → {r : Result Unit Refusal} → r ≡ Err x → TellsEach tell p t w n keys out r out
+  each-refused x i e =
+      let first = sym i ∙ asked in
+      record { answered = ap answer_of e ∙ answer-no tt _ (number x) first (number-nonzero x); output = kept-no _ out _ (number x) first (number-nonzero x) }
 
-  pub each-done : m ≡ 0 → (out' : List A) → out' ≡ told tell (state_of p t) w n keys out → TellsEach tell p t w n keys out Done out'
+  pub each-done : m ≡ 0 → (out' : List A) → out' ≡ told tell (state_of p t) w n keys out → TellsEach tell p t w n keys out (Ok tt) out'
   each-done h out' e =
       let passed = each-passed p t (length keys) w n (length out) m asked h in
       record { answered = answer-passed tt _ passed; output = e ∙ changed-passed _ out _ passed }
@@ -146,13 +151,13 @@ module _ {A : Type 0} (tell : ℕ → PeersState → A) (p : PeerDemand) (t : Pe
   unfolding told records
   one_told = refl
 
-  module _ (r : ChangeAnswer) (out : List A) (each : TellsEach tell p t 1 1 (key ∷ []) (x ∷ []) r out) where
-    pub one-refused : (n : ℕ) → r ≡ No n → refused n ≡ answer (peers_questions p t) (tell key s)
-    one-refused n e = refused-any (peers_questions p t) n tt (tell key s) (sym (ap change_answer e) ∙ each.answered ∙ one_answer tt)
+  module _ (r : Result Unit Refusal) (out : List A) (each : TellsEach tell p t 1 1 (key ∷ []) (x ∷ []) r out) where
+    pub one-refused : (x : Refusal) → r ≡ Err x → refused (number x) ≡ answer (peers_questions p t) (tell key s)
+    one-refused x e = refused-any (peers_questions p t) (number x) tt (tell key s) (sym (ap answer_of e) ∙ each.answered ∙ one_answer tt)
 
-    pub one-given : (d : A) → r ≡ Done → given (get_or out 0 d) ≡ answer (peers_questions p t) (tell key s)
+    pub one-given : (d : A) → r ≡ (Ok tt) → given (get_or out 0 d) ≡ answer (peers_questions p t) (tell key s)
     one-given d e =
-        let asked : given tt ≡ answer (each_questions p t 1 1 1 1) tt = sym (ap change_answer e) ∙ each.answered in
+        let asked : given tt ≡ answer (each_questions p t 1 1 1 1) tt = sym (ap answer_of e) ∙ each.answered in
         let passed = (given-passed (each_questions p t 1 1 1 1) tt tt asked).0 in
         ap (λ (l : List A). given (get_or l 0 d)) (each.output ∙ sym (changed-passed _ (x ∷ []) _ passed) ∙ one_told)
         ∙ answer-passed (tell key s) (each_questions p t 1 1 1 1) passed ∙ one_answer (tell key s)

@@ -1,10 +1,8 @@
 -- Flags of many keys that ascend, set by going over the peers' records.
-use Rattle.std.proofs.Common.{◌≡◌, ℕ, zero, suc, ◌+◌, ◌*◌, ◌<◌, ◌≤◌, Bool, true, false, ◌&&◌, ◌||◌, eqb, ltb, List, [], ◌∷◌, ◌++◌, map, length, get_or, take, drop, set, replicate, sym, refl, ap, ◌∙◌, suc-le-suc, zero-le, le_of_suc-le-suc, not-suc-le-zero, zero-add, add-one, arith, eq-eqb, ne_eqb}
-use mathlib.Core.Bool.{and-true, and-false, or_assoc, or-false, or-true}
-use lib.ListN.{length-replicate, get_or-replicate}
-use lib.Seq.{paste, paste-zero, paste-suc, take-length}
+use Rattle.std.proofs.Common.{◌≡◌, ℕ, zero, suc, ◌+◌, ◌<◌, ◌≤◌, Bool, true, false, ◌&&◌, ◌||◌, eqb, ltb, List, [], ◌∷◌, ◌++◌, map, length, get_or, drop, set, replicate, sym, refl, ap, ◌∙◌, suc-le-suc, zero-le, le_of_suc-le-suc, not-suc-le-zero, add-one, arith, eq-eqb, ne_eqb}
+use mathlib.Core.Bool.{and-false, or_assoc, or-false, or-true}
 use Rattle.records.specs.declared.Found.{Found}
-use Rattle.records.specs.declared.Found.TheVariants.{At, Gap, Unfit}
+use Rattle.records.specs.declared.Found.TheVariants.{At, Gap}
 use Rattle.records.specs.Records.{records, ascending, keyed, find, find_in}
 use Rattle.questions.proofs.Tests.{both}
 use Rattle.records.proofs.Words.RecordLaws.{length-records, fits-pos, fits_le, record-length}
@@ -18,31 +16,7 @@ use Rattle.records.specs.Typed.{first_word, in_order}
 use Rattle.peers.specs.Peers.Steps.Each.{has_primary, is_primary_in, marked, cleared, Markable}
 use Rattle.questions.proofs.ListLaws.{any_here, any-end}
 use Rattle.records.proofs.Order.FindLaws.{Long, key-1, found-alone, found_none}
-use Rattle.records.proofs.Words.RowLaws.{word-at, find-says, never-unfit}
-
--- ---- flags cleared, one after the other
-module _ (n : ℕ) (out : List Bool) where
-  abbrev pub cleared_to : ℕ → List Bool
-  cleared_to i = paste out 0 (replicate n false) i
-
-  pub cleared-none : out ≡ cleared_to 0
-  cleared-none = paste-zero out 0 (replicate n false)
-
-  pub cleared-next : n ≤ length out → (i : ℕ) → i < n → set (cleared_to i) i false ≡ cleared_to (i + 1)
-  cleared-next room i h =
-      ap (set (cleared_to i) i) (sym (get_or-replicate n i false false h))
-      ∙ ap (λ (m : ℕ). set (cleared_to i) m (get_or (replicate n false) i false)) (sym (zero-add i))
-      ∙ paste-suc out 0 (replicate n false) i false (omega arith) (omega (arith, length-replicate n false))
-      ∙ ap cleared_to (sym (add-one i))
-
-  pub cleared-all : (i : ℕ) → i ≤ n → n ≤ i → cleared_to i ≡ cleared n out
-  cleared-all i h k =
-      ap cleared_to e
-      ∙ ap (λ (m : ℕ). take n (replicate n false) ++ drop m out) (zero-add n)
-      ∙ ap (λ (l : List Bool). l ++ drop n out) (ap (λ (m : ℕ). take m (replicate n false)) (sym (length-replicate n false)) ∙ take-length (replicate n false))
-    where
-      e : i ≡ n
-      e = omega arith
+use Rattle.records.proofs.Words.RowLaws.{find-says}
 
 -- ---- flags set where a test holds
 pub length_marked : (f : ℕ → Bool) (rs : List (List ℕ)) (out : List Bool) → length (marked f rs out) ≡ length out
@@ -119,14 +93,7 @@ module _ (w n key : ℕ) (keys : List ℕ) (out : List Bool) (m : Markable w n k
   pub key-absent : (i : ℕ) → Gap i ≡ find_in w 1 n key 0 keys → out ≡ marked (eqb key) (records w n keys) out
   key-absent i e = mark-missing key (records w n keys) m.ascends long-keys out i (found (Gap i) e)
 
-  pub key_fits : Unfit ≡ find_in w 1 n key 0 keys → ⊥
-  key_fits e = never-unfit w 1 n key 0 keys (omega arith) (omega arith) (fits-pos (length keys) w n m.fit) (fits_le (length keys) w n m.fit) Unfit e refl
-
--- of a record that is primary, and of one that is not
-pub mark-primary : (f a : ℕ) (rs : List (List ℕ)) (out : List Bool) → (f ≡ 0 → ⊥) → marked (eqb a) rs out ≡ marked (λ (key : ℕ). eqb a key && flag_of f) rs out
-mark-primary zero a rs out h = absurd (h refl)
-mark-primary (suc f) a rs out h = (λ i. marked (λ (key : ℕ). sym (and-true (eqb a key)) i) rs out)
-
+-- of a record that is not primary
 pub mark-other : (f a : ℕ) (rs : List (List ℕ)) (out : List Bool) → f ≡ 0 → out ≡ marked (λ (key : ℕ). eqb a key && flag_of f) rs out
 mark-other f a rs out h =
     sym (marked-misses (λ (key : ℕ). eqb a key && flag_of f) rs out (λ j l. ap (λ (g : ℕ). eqb a (first_word (get_or rs j [])) && flag_of g) h ∙ and-false (eqb a (first_word (get_or rs j [])))))
@@ -140,11 +107,11 @@ module _ (rs : List (List ℕ)) (v m : ℕ) (xs : List ℕ) where
   left i out = marked (is_primary_in (drop i rows)) rs out
 
   pub mark-goes :
-      (out out' : List Bool) (i : ℕ) → i < m → 4 ≤ v
-      → out' ≡ marked (λ (key : ℕ). eqb (get_or xs (i * v + 1) 0) key && flag_of (get_or xs (i * v + 3) 0)) rs out
+      (out out' : List Bool) (i : ℕ) → i < m
+      → out' ≡ marked (λ (key : ℕ). has_primary key (get_or rows i [])) rs out
       → left (i + 1) out' ≡ left i out
-  mark-goes out out' i h wide e =
-      ap (left (i + 1)) (e ∙ (λ n. marked (λ (key : ℕ). eqb (sym (word-at v m xs i 1 h (omega arith)) n) key && flag_of (sym (word-at v m xs i 3 h (omega arith)) n)) rs out))
+  mark-goes out out' i h e =
+      ap (left (i + 1)) e
       ∙ marked-twice (is_primary_in (drop (i + 1) rows)) (λ (key : ℕ). has_primary key (get_or rows i [])) rs out
       ∙ (λ n. marked (λ (key : ℕ). has_primary key (get_or rows i []) || any (has_primary key) (drop (add-one i n) rows)) rs out)
       ∙ (λ n. marked (λ (key : ℕ). sym (any_here (has_primary key) [] rows i (omega (arith, length-records v m xs))) n) rs out)

@@ -1,7 +1,6 @@
 -- A key is hot elsewhere where a snapshot key or a contested key has it as primary.
 use Rattle.std.proofs.Common.{◌≡◌, ℕ, zero, suc, ◌+◌, ◌*◌, ◌<◌, ◌≤◌, Bool, true, ◌&&◌, ◌||◌, eqb, leb, List, [], ◌∷◌, map, length, get_or, sym, refl, ap, ◌∙◌, suc-le-suc, zero-le, le_of_suc-le-suc, not-suc-le-zero, arith, eq-eqb, eqb-true, leb-true}
 use mathlib.Core.Bool.{or-false}
-use mathlib.Core.Option.{Option, none, some}
 use borrow.Author.Tests.{eqb-false}
 use Rattle.records.specs.declared.Found.TheVariants.{At}
 use Rattle.records.specs.Records.{records, find}
@@ -24,8 +23,10 @@ use Rattle.records.proofs.Order.FindLaws.{key-2}
 use Rattle.records.proofs.Words.RowLaws.{word-at, first-at}
 use Rattle.peers.proofs.Peers.Validity.ValidLaws.{taken-named, known-named}
 use Rattle.peers.proofs.Peers.Reports.KeptLaws.{ValidState}
-use Rattle.peers.proofs.Peers.Readers.HeardLaws.{taken-absent, taken-found, taken-missing, contested-found, contested-missing}
+use Rattle.peers.proofs.Peers.Readers.HeardLaws.{key-found, table-missing, taken-absent, taken-found, taken-missing, contested-found, contested-missing}
 use Rattle.peers.proofs.Peers.Readers.ReaderLaws.{heard-here, heard-at, holds, hot-starts}
+use Rattle.std.specs.declared.option.Option.{Option}
+use Rattle.std.specs.declared.option.Option.TheVariants.{None, Some}
 
 -- ---- one of a list that passes
 module _ {A : Type 0} (p : A → Bool) (d : A) where
@@ -44,9 +45,9 @@ module _ {A : Type 0} (p : A → Bool) (d : A) where
 
 -- ---- a word of a peer
 primary-join : (a b : Option Heard) → is_primary (join a b) ≡ (is_primary a || is_primary b)
-primary-join none b = refl
-primary-join (some a) none = sym (or-false a.primary)
-primary-join (some a) (some b) = refl
+primary-join None b = refl
+primary-join (Some a) None = sym (or-false a.primary)
+primary-join (Some a) (Some b) = refl
 
 -- ---- a key of a table, by its place
 module _ (w n id key : ℕ) (xs : List ℕ) (table : KeyTable w n xs) where
@@ -56,22 +57,19 @@ module _ (w n id key : ℕ) (xs : List ℕ) (table : KeyTable w n xs) where
   long : (i : ℕ) → i < n → 2 ≤ length (get_or rs i [])
   long i h = omega (arith, table.ready.wide, record-length w n xs i h table.ready.fit)
 
-  flag_at : (i : ℕ) → i < n → flag_of (get_or (get_or rs i []) 3 0) ≡ flag_of (get_or xs (i * w + 3) 0)
-  flag_at i h = ap flag_of (word-at w n xs i 3 h (omega (arith, table.ready.wide)))
-
   primary-found : (i : ℕ) → i < n → id ≡ first_word (get_or rs i []) → has_primary key (get_or rs i []) ≡ true → find 2 (id ∷ key ∷ []) rs ≡ At i
   primary-found i h e k =
       find_at 2 (id ∷ key ∷ []) rs i table.ascend (omega (arith, h, length-records w n xs))
       (key-2 (get_or rs i []) (long i h) ∙ (λ j. sym e j ∷ eqb-true (get_or (get_or rs i []) 1 0) key (both (eqb (get_or (get_or rs i []) 1 0) key) _ k).0 j ∷ []))
 
-  found-primary : (i : ℕ) → find 2 (id ∷ key ∷ []) rs ≡ At i → flag_of (get_or xs (i * w + 3) 0) ≡ true → is_primary_in rs key ≡ true
+  found-primary : (i : ℕ) → find 2 (id ∷ key ∷ []) rs ≡ At i → flag_of (get_or (get_or rs i []) 3 0) ≡ true → is_primary_in rs key ≡ true
   found-primary i e f =
       let at = at-says 2 (id ∷ key ∷ []) rs i e in
       let h : i < n = omega (arith, at.0, length-records w n xs) in
       any-index (has_primary key) [] rs i at.0
       (and_intro (eqb (get_or (get_or rs i []) 1 0) key) _
       (eq-eqb (get_or (get_or rs i []) 1 0) key (ap (λ (l : List ℕ). get_or l 1 0) (sym (key-2 (get_or rs i []) (long i h)) ∙ at.1)))
-      (flag_at i h ∙ f))
+      f)
 
 -- ---- all peers
 module _ (p : PeerDemand) (t : PeerTables) (ready : StateReady p t) (v : ValidState (state_of p t)) (key : ℕ) where
@@ -143,8 +141,7 @@ module _ (p : PeerDemand) (t : PeerTables) (ready : StateReady p t) (v : ValidSt
       let some-flag : word q 3 ≡ 0 → ⊥ = λ z. omega (arith, z, n.3) in
       hot-of q n.1
       (ap (λ (b : Bool). b || is_primary (other q))
-      (sym (ap is_primary (taken-found p.snapshot_keys (id q) key (word q 3) (word q 5) (word q 6) t.snapshot_keys ready.snapshot_keys some-flag i at))
-      ∙ sym (flag_at 4 p.snapshot_keys (id q) key t.snapshot_keys ready.snapshot_keys i h)
+      (sym (ap is_primary (taken-found (id q) key krs (word q 3) (word q 5) (word q 6) some-flag _ (key-found 4 p.snapshot_keys (id q) key t.snapshot_keys ready.snapshot_keys i at)))
       ∙ (both (eqb (get_or (get_or krs i []) 1 0) key) _ r.2).1))
 
   by-contested : is_primary_in crs key ≡ true → hot_elsewhere key (state_of p t) ≡ true
@@ -157,25 +154,24 @@ module _ (p : PeerDemand) (t : PeerTables) (ready : StateReady p t) (v : ValidSt
       let at = primary-found 6 p.contested (id q) key t.contested ready.contested i h n.2 r.2 in
       hot-of q n.1
       (or_right (is_primary (taken q)) (is_primary (other q))
-      (sym (ap is_primary (contested-found p.contested (id q) key t.contested ready.contested i at))
-      ∙ sym (flag_at 6 p.contested (id q) key t.contested ready.contested i h)
+      (sym (ap is_primary (contested-found (id q) key crs _ (key-found 6 p.contested (id q) key t.contested ready.contested i at)))
       ∙ (both (eqb (get_or (get_or crs i []) 1 0) key) _ r.2).1))
 
   -- what makes it hot is a record
   of-taken : (q : ℕ) → is_primary (taken q) ≡ true → is_primary_in krs key ≡ true
   of-taken q e = split (eqb (word q 3) 0)
-      (λ z. contradiction (sym e ∙ sym (ap is_primary (taken-absent p.snapshot_keys (id q) key (word q 3) (word q 5) (word q 6) t.snapshot_keys (eqb-true (word q 3) 0 z)))))
+      (λ z. contradiction (sym e ∙ sym (ap is_primary (taken-absent (id q) key krs (word q 3) (word q 5) (word q 6) (eqb-true (word q 3) 0 z)))))
       (λ z. find_cases 2 (id q ∷ key ∷ []) krs
       (λ i at. found-primary 4 p.snapshot_keys (id q) key t.snapshot_keys ready.snapshot_keys i at
-      (ap is_primary (taken-found p.snapshot_keys (id q) key (word q 3) (word q 5) (word q 6) t.snapshot_keys ready.snapshot_keys (eqb-false (word q 3) 0 z) i at) ∙ e))
-      (λ i gap. contradiction (sym e ∙ sym (ap is_primary (taken-missing p.snapshot_keys (id q) key (word q 3) (word q 5) (word q 6) t.snapshot_keys ready.snapshot_keys (eqb-false (word q 3) 0 z) i gap)))))
+      (ap is_primary (taken-found (id q) key krs (word q 3) (word q 5) (word q 6) (eqb-false (word q 3) 0 z) _ (key-found 4 p.snapshot_keys (id q) key t.snapshot_keys ready.snapshot_keys i at)) ∙ e))
+      (λ i gap. contradiction (sym e ∙ sym (ap is_primary (taken-missing (id q) key krs (word q 3) (word q 5) (word q 6) (eqb-false (word q 3) 0 z) (table-missing 4 p.snapshot_keys (id q) key t.snapshot_keys ready.snapshot_keys i gap))))))
 
   of_other : (q : ℕ) → is_primary (other q) ≡ true → is_primary_in crs key ≡ true
   of_other q e =
       find_cases 2 (id q ∷ key ∷ []) crs
       (λ i at. found-primary 6 p.contested (id q) key t.contested ready.contested i at
-      (ap is_primary (contested-found p.contested (id q) key t.contested ready.contested i at) ∙ e))
-      (λ i gap. contradiction (sym e ∙ sym (ap is_primary (contested-missing p.contested (id q) key t.contested ready.contested i gap))))
+      (ap is_primary (contested-found (id q) key crs _ (key-found 6 p.contested (id q) key t.contested ready.contested i at)) ∙ e))
+      (λ i gap. contradiction (sym e ∙ sym (ap is_primary (contested-missing (id q) key crs (table-missing 6 p.contested (id q) key t.contested ready.contested i gap)))))
 
   by-peer : hot_elsewhere key (state_of p t) ≡ true → (is_primary_in krs key || is_primary_in crs key) ≡ true
   by-peer e =

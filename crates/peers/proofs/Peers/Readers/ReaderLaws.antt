@@ -1,6 +1,5 @@
 -- What a valid state says of a key, by its words.
-use Rattle.std.proofs.Common.{◌≡◌, ℕ, zero, suc, ◌+◌, ◌*◌, ◌^◌, ◌<◌, ◌≤◌, Bool, true, false, cond, not, ◌&&◌, ◌||◌, eqb, ltb, leb, List, [], ◌∷◌, map, length, get_or, drop, sym, refl, ap, ◌∙◌, add-one, arith, drop_of_length-le, drop-cons, ltb-true, eqb-true, leb-true}
-use mathlib.Core.Option.{none, some}
+use Rattle.std.proofs.Common.{subst, is_some, ok_or, IfSome, MatchOption, ◌≡◌, ℕ, zero, suc, ◌+◌, ◌*◌, ◌^◌, ◌<◌, ◌≤◌, Bool, true, false, cond, not, ◌&&◌, ◌||◌, eqb, ltb, leb, List, [], ◌∷◌, map, length, get_or, drop, sym, refl, ap, ◌∙◌, add-one, arith, drop_of_length-le, drop-cons, ltb-true, eqb-true, leb-true}
 use lib.Ieee.{Float, binary64, of_bits}
 use lib.ListN.{length-map}
 use Rattle.records.specs.declared.Found.TheVariants.{At, Gap}
@@ -9,17 +8,17 @@ use Rattle.questions.proofs.Tests.{both}
 use Rattle.records.proofs.Words.RecordLaws.{length-records, record-length}
 use Rattle.records.proofs.Order.PlaceLaws.{find_at, at-says}
 use Rattle.peers.specs.declared.peer_demand.PeerDemand.{PeerDemand}
-use Rattle.peers.specs.declared.peer_state.AskedStarts.{AskedStarts}
+use Rattle.peers.specs.declared.peer_state.KeyStarts.{KeyStarts}
 use Rattle.questions.specs.Questions.{given, answer, first_no}
-use Rattle.questions.proofs.Answers.{answer-passed, passed_none}
+use Rattle.questions.proofs.Answers.{answer-passed, passed_none, first-no, first-yes, first-none}
 use Rattle.questions.specs.Lists.{only, all, any, first, present, those}
 use Rattle.peers.specs.Peers.Records.{PeerRecord, SnapshotKey, ContestedKey, snapshot_of, peer_of, snapshot_key_of, contested_of}
-use Rattle.peers.specs.Peers.State.{PeersState, PeerTables, max_peers, max_demand_keys, max_contested, peer_with, state_of}
+use Rattle.peers.specs.Peers.State.{PeersState, PeerTables, max_peers, max_demand_keys, max_contested, peer_with, state_of, lengths, have_room, is_valid}
 use Rattle.records.specs.Typed.{is_word, first_word, second_word, are_records}
 use Rattle.records.specs.Fields.{is_time}
 use Rattle.peers.specs.Peers.Steps.Scan.{is_snapshot, is_peer, are_peer_words, are_key_words, are_peers, are_keys, is_scanned, PeersReady}
 use Rattle.peers.specs.Peers.Readers.{heard_taken, heard_contested, snapshot_key_at, contested_at, join, peer_heard, heard_in, heard, add_heard, total_from, total, is_primary, hot_elsewhere}
-use Rattle.peers.specs.Peers.Steps.Heard.{counted, is_listed, KeyTable, StateReady, Asked}
+use Rattle.peers.specs.Peers.Steps.Heard.{counted, is_listed, KeyTable, KeyIn, StateReady, Started, Readable, Asked}
 use Rattle.peers.specs.Peers.Calls.{peers_questions}
 use Rattle.questions.proofs.ListLaws.{mapped, any-map, only-map, all-index, any_here, any-end, only_here, only_end, any-only}
 use Rattle.records.proofs.Order.FindLaws.{Long}
@@ -27,15 +26,26 @@ use Rattle.peers.proofs.Peers.Validity.ValidLaws.{room_says, peers-ready, keys-r
 use Rattle.records.proofs.Tables.TypedLaws.{all_words}
 use Rattle.records.proofs.Words.RowLaws.{word-at, first-at, key-at}
 use Rattle.peers.proofs.Peers.CallLaws.{peers-numbered, asked-all}
-use Rattle.peers.proofs.Peers.Readers.HeardLaws.{peer-of-id, word-found, word-missing, any-epoch, has_words, picked_words, table-found, table-missing}
+use Rattle.peers.proofs.Peers.Readers.HeardLaws.{peer-of-id, word-found, word-missing, any-epoch, has_words, picked_words}
+use Rattle.std.specs.declared.option.Option.{Option}
+use Rattle.std.specs.declared.option.Option.TheVariants.{None, Some}
+use Rattle.std.specs.declared.result.Result.{Result}
+use Rattle.std.specs.declared.result.Result.TheVariants.{Ok, Err}
+use Rattle.questions.specs.declared.Refusal.{Refusal}
+use Rattle.questions.specs.declared.Refusal.TheVariants.{Invalid}
+use Rattle.questions.specs.Refusals.{number, asked}
+use Rattle.questions.proofs.RefusalLaws.{number-nonzero}
 
 -- ---- answers by the number of the first 'no'
 pub answer-yes : {A : Type 0} (p : PeerDemand) (t : PeerTables) (n : ℕ) (u v : A) → n ≡ first_no (peers_questions p t) → n ≡ 0 → u ≡ v → given u ≡ answer (peers_questions p t) v
 answer-yes p t n u v e h q = ap given q ∙ answer-passed v (peers_questions p t) (passed_none (peers_questions p t) n (peers-numbered p t) e h)
 
 -- ---- an asker that refuses
-pub asked-no : (p : PeerDemand) (t : PeerTables) (r : AskedStarts) (n : ℕ) → r.no ≡ n → n ≡ first_no (peers_questions p t) → 0 < n → Asked p t r
-asked-no p t r n e f h = record { first = e ∙ f; ready = λ z. absurd (omega arith) }
+pub asked-no : (p : PeerDemand) (t : PeerTables) (x : Refusal) → number x ≡ first_no (peers_questions p t) → Asked p t (Err x)
+asked-no p t x f = record { first = f; ready = λ s e. absurd (number-nonzero x (ap asked e)) }
+
+ok-is : {A : Type 0} (a b : A) → ◌≡◌ {A = Result A Refusal} (Ok a) (Ok b) → a ≡ b
+ok-is a b e = cc
 
 -- ---- what questions 1 and 2 give to the readers
 module _ (p : PeerDemand) (t : PeerTables) where
@@ -71,6 +81,20 @@ module _ (p : PeerDemand) (t : PeerTables) where
   pub asked-ready : (n : ℕ) → n ≡ first_no (peers_questions p t) → n ≡ 0 → ((i : ℕ) → get_or t.peers i 0 < 2 ^ 64) → ((i : ℕ) → get_or t.snapshot_keys i 0 < 2 ^ 64) → ((i : ℕ) → get_or t.contested i 0 < 2 ^ 64) → StateReady p t
   asked-ready n e h wp wk wc = state-ready (sym e ∙ h) (all_words t.peers wp) (all_words t.snapshot_keys wk) (all_words t.contested wc)
 
+  -- an asker that answers with the starts
+  pub asked-yes : (s : KeyStarts) → 0 ≡ first_no (peers_questions p t) → ((i : ℕ) → get_or t.peers i 0 < 2 ^ 64) → ((i : ℕ) → get_or t.snapshot_keys i 0 < 2 ^ 64) → ((i : ℕ) → get_or t.contested i 0 < 2 ^ 64) → Started p t s → Asked p t (Ok s)
+  asked-yes s e wp wk wc f = record {
+    first = e;
+    ready = λ s' i. subst (Readable p t) (ok-is s s' i) (record { ready = asked-ready 0 e refl wp wk wc; started = f });
+  }
+
+  -- an asker that answers with the starts of a valid state
+  pub asked-by :
+      (o : Option KeyStarts) (r : Result KeyStarts Refusal) → r ≡ ok_or o Invalid → have_room (lengths t) ≡ true → is_some o ≡ is_valid p t → IfSome o (Started p t)
+      → ((i : ℕ) → get_or t.peers i 0 < 2 ^ 64) → ((i : ℕ) → get_or t.snapshot_keys i 0 < 2 ^ 64) → ((i : ℕ) → get_or t.contested i 0 < 2 ^ 64) → Asked p t r
+  asked-by None r e room v f wp wk wc = subst (Asked p t) (sym e) (asked-no p t Invalid (first-yes 1 _ room (first-no 2 _ (sym v))))
+  asked-by (Some s) r e room v f wp wk wc = subst (Asked p t) (sym e) (asked-yes s (first-yes 1 _ room (first-yes 2 _ (sym v) first-none)) wp wk wc f)
+
 -- ---- the peers' table
 snapshot-round : (flag epoch round at : ℕ) → is_snapshot flag epoch round at ≡ true → round < 2 ^ 16
 unfolding is_snapshot
@@ -95,11 +119,11 @@ module _ (n : ℕ) (xs : List ℕ) (ready : PeersReady n xs) where
       let h : i < n = omega (arith, at.0, length-records 12 n xs) in
       (h, ap (λ (l : List ℕ). get_or l 0 0) (sym (key-at 12 n xs i h (omega arith) ready.fit) ∙ at.1))
 
-  pub peer-here : (i : ℕ) → i < n → peer_with (get_or xs (i * 12) 0) (map peer_of (records 12 n xs)) ≡ some (peer_of (get_or (records 12 n xs) i []))
+  pub peer-here : (i : ℕ) → i < n → peer_with (get_or xs (i * 12) 0) (map peer_of (records 12 n xs)) ≡ Some (peer_of (get_or (records 12 n xs) i []))
   peer-here i h =
       peer-of-id (get_or xs (i * 12) 0) (records 12 n xs) ∙ ap (mapped peer_of) (word-found (get_or xs (i * 12) 0) (records 12 n xs) ready.ascend long-peers i (peer-at i h))
 
-  pub peer-missing : (id i : ℕ) → find 1 (id ∷ []) (records 12 n xs) ≡ Gap i → peer_with id (map peer_of (records 12 n xs)) ≡ none
+  pub peer-missing : (id i : ℕ) → find 1 (id ∷ []) (records 12 n xs) ≡ Gap i → peer_with id (map peer_of (records 12 n xs)) ≡ None
   peer-missing id i e = peer-of-id id (records 12 n xs) ∙ ap (mapped peer_of) (word-missing id (records 12 n xs) ready.ascend long-peers i e)
 
   pub peer-round : all are_peer_words (records 12 n xs) ≡ true → (i : ℕ) → i < n → get_or xs (i * 12 + 5) 0 < 2 ^ 16
@@ -137,7 +161,7 @@ module _ (p : PeerDemand) (t : PeerTables) (ready : StateReady p t) (key : ℕ) 
       ∙ (λ k. join (heard_taken (snapshot_of (at 3 (omega arith) k) (at 4 (omega arith) k) (at 5 (omega arith) k) (at 6 (omega arith) k)) (snapshot_key_at (first k) key ks)) (heard_contested (contested_at (first k) key cs))))
 
   -- of a peer that is not known, nothing
-  pub heard-missing : (id i : ℕ) → find 1 (id ∷ []) (records 12 p.peers t.peers) ≡ Gap i → none ≡ heard id key (state_of p t)
+  pub heard-missing : (id i : ℕ) → find 1 (id ∷ []) (records 12 p.peers t.peers) ≡ Gap i → None ≡ heard id key (state_of p t)
   unfolding heard state_of
   heard-missing id i e = sym (ap (heard_in key (state_of p t)) (peer-missing p.peers t.peers ready.peers id i e))
 
@@ -190,22 +214,16 @@ module _ (p : PeerDemand) (t : PeerTables) (key : ℕ) where
   hot-ends i h inv = sym (inv ∙ any-end holds [] prs i (omega (arith, h, length-records 12 p.peers t.peers)))
 
 -- ---- how many keys
-module _ (n id key : ℕ) (xs : List ℕ) (table : KeyTable 4 n xs) where
-  abbrev its : List (List ℕ)
-  its = records 4 n xs
+pub listed-by : (id key : ℕ) (rs : List (List ℕ)) → is_listed id key (map snapshot_key_of rs) ≡ present (first (those second_word key (those first_word id rs)))
+unfolding is_listed snapshot_key_of
+listed-by id key rs =
+    any-map snapshot_key_of (λ (k : SnapshotKey). eqb k.peer id && eqb k.key key) rs
+    ∙ any-only (has_words id key) rs
+    ∙ ap (λ zs. present (first zs)) (sym (picked_words id key rs))
 
-  in_words : is_listed id key (map snapshot_key_of its) ≡ present (first (those second_word key (those first_word id its)))
-  unfolding is_listed snapshot_key_of
-  in_words =
-      any-map snapshot_key_of (λ (k : SnapshotKey). eqb k.peer id && eqb k.key key) its
-      ∙ any-only (has_words id key) its
-      ∙ ap (λ zs. present (first zs)) (sym (picked_words id key its))
-
-  pub listed_found : (i : ℕ) → find 2 (id ∷ key ∷ []) its ≡ At i → true ≡ is_listed id key (map snapshot_key_of its)
-  listed_found i e = sym (in_words ∙ ap present (table-found 4 n id key xs table i e))
-
-  pub listed-missing : (i : ℕ) → find 2 (id ∷ key ∷ []) its ≡ Gap i → false ≡ is_listed id key (map snapshot_key_of its)
-  listed-missing i e = sym (in_words ∙ ap present (table-missing 4 n id key xs table i e))
+pub listed-as : {B : Type 0} (words : B → List ℕ) (o : Option B) (w id key : ℕ) (rs : List (List ℕ)) → MatchOption o (first (those second_word key (those first_word id rs)) ≡ None) (λ b. KeyIn w id key rs (words b)) → is_some o ≡ is_listed id key (map snapshot_key_of rs)
+listed-as words None w id key rs h = sym (listed-by id key rs ∙ ap present h)
+listed-as words (Some b) w id key rs h = sym (listed-by id key rs ∙ ap present h.is_first)
 
 -- a contested key, by its words, that is not among the n snapshot keys in xs
 abbrev pub alone : ℕ → List ℕ → List ℕ → Bool

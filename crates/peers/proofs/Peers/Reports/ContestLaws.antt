@@ -334,10 +334,6 @@ merged-part n i round at xs k e =
     ap (λ (r : List ℕ). contested_words (merged round at (snapshot_key_of k) (contested_of r))) (part_of i xs)
     ∙ sym (ap (λ (l : List ContestedKey). contested_words (contested_with round at (snapshot_key_of k) (first l))) e)
 
-pub six-long : (c : ContestedKey) (ws : List ℕ) → ws ≡ contested_words c → length ws ≡ 6
-unfolding contested_words
-six-long c ws e = ap length e
-
 pub four-of : (i : ℕ) (xs : List ℕ) → take (i * 4 + 4 - i * 4) (drop (i * 4) xs) ≡ take 4 (drop (i * 4) xs)
 four-of i xs =
     let e : i * 4 + 4 - i * 4 ≡ 4 = omega arith in

@@ -1,6 +1,5 @@
 -- Laws: a peer by its words, and what a report does to it.
 use Rattle.std.proofs.Common.{◌≡◌, ℕ, zero, suc, ◌+◌, ◌-◌, ◌^◌, ◌<◌, ◌≤◌, min, Bool, true, false, cond, not, ◌&&◌, ◌||◌, eqb, ltb, leb, List, [], ◌∷◌, ◌++◌, map, length, get_or, take, drop, sym, refl, ap, ◌∙◌, subst, le_of_suc-le-suc, not-suc-le-zero, arith, get_or-drop, take_all, ltb-true, lt-ltb, eq-eqb, ne_eqb, leb-true}
-use mathlib.Core.Option.{Option, none, some}
 use lib.ListN.{length-map}
 use Rattle.records.specs.Records.{records}
 use Rattle.questions.proofs.Tests.{both, and_intro}
@@ -20,6 +19,8 @@ use Rattle.peers.specs.Peers.Steps.Runs.{peers_in, Known, or_new, next_past, ver
 use Rattle.questions.proofs.ListLaws.{any-map}
 use Rattle.records.proofs.Order.RangeLaws.{those-at, those-gap, first-shape}
 use Rattle.questions.proofs.OnlyLaws.{those-words, length-replaced}
+use Rattle.std.specs.declared.option.Option.{Option}
+use Rattle.std.specs.declared.option.Option.TheVariants.{None, Some}
 
 -- ---- a peer among the known ones
 
@@ -87,7 +88,7 @@ module _ (n id : ℕ) (xs : List ℕ) (k : Known n xs) where
         somebody (suc m) (p ∷ ps) e g = sym (take_all 12 ws (omega arith)) ∙ cc
 
 -- a valid peer's words, or those of one that is not known, stand for it
-pub no-peer-valid : (id : ℕ) → id < 2 ^ 64 → valid_peer (or_new id none) ≡ true
+pub no-peer-valid : (id : ℕ) → id < 2 ^ 64 → valid_peer (or_new id None) ≡ true
 unfolding valid_peer peer_words all
 no-peer-valid id h = and_intro (is_word id && true) _ (and_intro (is_word id) true (lt-ltb id (2 ^ 64) h) refl) refl
 
@@ -98,16 +99,16 @@ unfolding peer_words
 past-count p = by p.snapshot
   where
     by : (s : Option Snapshot) → word 7 (p.id ∷ (time_words p.held_until ++ (snapshot_words s ++ past_words p.past_epochs))) ≡ length p.past_epochs
-    by none = refl
-    by (some s) = refl
+    by None = refl
+    by (Some s) = refl
 
 pub past_words_lem : (p : PeerRecord) → drop 7 (peer_words p) ≡ past_words p.past_epochs
 unfolding peer_words
 past_words_lem p = by p.snapshot
   where
     by : (s : Option Snapshot) → drop 7 (p.id ∷ (time_words p.held_until ++ (snapshot_words s ++ past_words p.past_epochs))) ≡ past_words p.past_epochs
-    by none = refl
-    by (some s) = refl
+    by None = refl
+    by (Some s) = refl
 
 -- the snapshot of a peer that has one
 abbrev pub old_snapshot : List ℕ → Snapshot
@@ -134,21 +135,21 @@ module _ (old : List ℕ) (f : PeerFacts old) where
   pub few_words : word 7 old ≤ 4
   few_words = omega (arith, past_is, few_past)
 
-  pub snapshot-none : word 3 old ≡ 0 → (peer_of old).snapshot ≡ none
+  pub snapshot-none : word 3 old ≡ 0 → (peer_of old).snapshot ≡ None
   unfolding peer_of
   snapshot-none e = ap (λ (flag : ℕ). snapshot_of flag (word 4 old) (word 5 old) (word 6 old)) e
 
-  pub snapshot-some : (word 3 old ≡ 0 → ⊥) → (peer_of old).snapshot ≡ some (record { epoch = word 4 old; round = word 5 old; heard_at = word 6 old })
+  pub snapshot-some : (word 3 old ≡ 0 → ⊥) → (peer_of old).snapshot ≡ Some (record { epoch = word 4 old; round = word 5 old; heard_at = word 6 old })
   unfolding peer_of
   snapshot-some h = flagged (word 3 old) h
     where
-      flagged : (flag : ℕ) → (flag ≡ 0 → ⊥) → snapshot_of flag (word 4 old) (word 5 old) (word 6 old) ≡ some (record { epoch = word 4 old; round = word 5 old; heard_at = word 6 old })
+      flagged : (flag : ℕ) → (flag ≡ 0 → ⊥) → snapshot_of flag (word 4 old) (word 5 old) (word 6 old) ≡ Some (record { epoch = word 4 old; round = word 5 old; heard_at = word 6 old })
       flagged zero h = absurd (h refl)
       flagged (suc flag) h = refl
 
   pub round-small : (word 3 old ≡ 0 → ⊥) → word 5 old < 2 ^ 16
   round-small h =
-      let v : valid_snapshot (some (record { epoch = word 4 old; round = word 5 old; heard_at = word 6 old })) ≡ true = ap valid_snapshot (sym (snapshot-some h)) ∙ parts.0 in
+      let v : valid_snapshot (Some (record { epoch = word 4 old; round = word 5 old; heard_at = word 6 old })) ≡ true = ap valid_snapshot (sym (snapshot-some h)) ∙ parts.0 in
       ltb-true (word 5 old) (2 ^ 16) (both (ltb (word 4 old) (2 ^ 32)) (ltb (word 5 old) (2 ^ 16)) v).1
 
   pub past-part : (e : ℕ) → e ≡ 8 + word 7 old → take (e - 8) (drop 8 old) ≡ (peer_of old).past_epochs
@@ -158,53 +159,43 @@ module _ (old : List ℕ) (f : PeerFacts old) where
       ap (λ (m : ℕ). take m (drop 8 old)) z
 
 -- ---- the verdict
-module _ (e f r s : ℕ) (alike : Bool) where
-  pub other-epoch : (e ≡ f → ⊥) → verdict.Contests ≡ cond (eqb e f && (eqb r s && alike)) verdict.Duplicates verdict.Contests
-  other-epoch h = sym (ap (λ (b : Bool). cond (b && (eqb r s && alike)) verdict.Duplicates verdict.Contests) (ne_eqb e f h))
-
-  pub other-round : e ≡ f → (r ≡ s → ⊥) → verdict.Contests ≡ cond (eqb e f && (eqb r s && alike)) verdict.Duplicates verdict.Contests
-  other-round p h = sym (λ i. cond (eq-eqb e f p i && (ne_eqb r s h i && alike)) verdict.Duplicates verdict.Contests)
-
-  pub same-round : e ≡ f → r ≡ s → cond alike verdict.Duplicates verdict.Contests ≡ cond (eqb e f && (eqb r s && alike)) verdict.Duplicates verdict.Contests
-  same-round p q = sym (λ i. cond (eq-eqb e f p i && (eq-eqb r s q i && alike)) verdict.Duplicates verdict.Contests)
-
 not_taken_lem : (past : List ℕ) (b : Bool) (v : Verdict) → v ≡ cond b verdict.Duplicates verdict.Contests → verdict_with past v ≡ cond b changes.duplicates changes.contests
 not_taken_lem past true v e = ap (verdict_with past) e
 not_taken_lem past false v e = ap (verdict_with past) e
 
 module _ (jump epoch round : ℕ) (past : List ℕ) (alike : Bool) where
-  pub judge-none : (s : Option Snapshot) → s ≡ none → verdict_with (next_past epoch s past) (verdict.Takes false) ≡ changes.verdict_on jump epoch round s past alike
-  judge-none none e = refl
-  judge-none (some s) e = let z : ◌≡◌ {A = ℕ} 0 1 = cc in absurd (omega arith)
+  pub judge-none : (s : Option Snapshot) → s ≡ None → verdict_with (next_past epoch s past) (verdict.Takes false) ≡ changes.verdict_on jump epoch round s past alike
+  judge-none None e = refl
+  judge-none (Some s) e = let z : ◌≡◌ {A = ℕ} 0 1 = cc in absurd (omega arith)
 
   module _ (o : Snapshot) where
-    news : changes.is_news epoch round o past ≡ true → (v : changes.Verdict) → v ≡ changes.taken jump epoch round o past → v ≡ changes.verdict_on jump epoch round (some o) past alike
+    news : changes.is_news epoch round o past ≡ true → (v : changes.Verdict) → v ≡ changes.taken jump epoch round o past → v ≡ changes.verdict_on jump epoch round (Some o) past alike
     news e v q = q ∙ sym (ap (λ (b : Bool). cond b (changes.taken jump epoch round o past) (changes.not_taken epoch round o alike)) e)
 
-    no-news : changes.is_news epoch round o past ≡ false → (v : Verdict) → v ≡ cond (eqb o.epoch epoch && (eqb o.round round && alike)) verdict.Duplicates verdict.Contests → (ps : List ℕ) → verdict_with ps v ≡ changes.verdict_on jump epoch round (some o) past alike
+    no-news : changes.is_news epoch round o past ≡ false → (v : Verdict) → v ≡ cond (eqb o.epoch epoch && (eqb o.round round && alike)) verdict.Duplicates verdict.Contests → (ps : List ℕ) → verdict_with ps v ≡ changes.verdict_on jump epoch round (Some o) past alike
     no-news e v q ps =
         not_taken_lem ps (eqb o.epoch epoch && (eqb o.round round && alike)) v q
         ∙ sym (ap (λ (b : Bool). cond b (changes.taken jump epoch round o past) (changes.not_taken epoch round o alike)) e)
 
-    pub judge-past : any (λ (e : ℕ). eqb e epoch) past ≡ true → (v : Verdict) → v ≡ cond (eqb o.epoch epoch && (eqb o.round round && alike)) verdict.Duplicates verdict.Contests → verdict_with (next_past epoch (some o) past) v ≡ changes.verdict_on jump epoch round (some o) past alike
-    judge-past e v q = no-news (ap (λ (b : Bool). not b && (not (eqb o.epoch epoch) || changes.newer round o.round)) e) v q (next_past epoch (some o) past)
+    pub judge-past : any (λ (e : ℕ). eqb e epoch) past ≡ true → (v : Verdict) → v ≡ cond (eqb o.epoch epoch && (eqb o.round round && alike)) verdict.Duplicates verdict.Contests → verdict_with (next_past epoch (Some o) past) v ≡ changes.verdict_on jump epoch round (Some o) past alike
+    judge-past e v q = no-news (ap (λ (b : Bool). not b && (not (eqb o.epoch epoch) || changes.newer round o.round)) e) v q (next_past epoch (Some o) past)
 
-    pub judge-epoch : any (λ (e : ℕ). eqb e epoch) past ≡ false → (o.epoch ≡ epoch → ⊥) → verdict_with (next_past epoch (some o) past) (verdict.Takes true) ≡ changes.verdict_on jump epoch round (some o) past alike
+    pub judge-epoch : any (λ (e : ℕ). eqb e epoch) past ≡ false → (o.epoch ≡ epoch → ⊥) → verdict_with (next_past epoch (Some o) past) (verdict.Takes true) ≡ changes.verdict_on jump epoch round (Some o) past alike
     judge-epoch e h =
         let d : eqb o.epoch epoch ≡ false = ne_eqb o.epoch epoch h in
         news (λ i. not (e i) && (not (d i) || changes.newer round o.round)) _
         ((λ i. verdict_with (cond (d i) past (o.epoch ∷ take 3 past)) (verdict.Takes true)) ∙ sym (ap (λ (b : Bool). cond b (changes.takes past (changes.implausible jump round o.round)) (changes.takes (o.epoch ∷ take 3 past) true)) d))
 
-    pub judge-newer : any (λ (e : ℕ). eqb e epoch) past ≡ false → o.epoch ≡ epoch → changes.newer round o.round ≡ true → (b : Bool) → b ≡ changes.implausible jump round o.round → verdict_with (next_past epoch (some o) past) (verdict.Takes b) ≡ changes.verdict_on jump epoch round (some o) past alike
+    pub judge-newer : any (λ (e : ℕ). eqb e epoch) past ≡ false → o.epoch ≡ epoch → changes.newer round o.round ≡ true → (b : Bool) → b ≡ changes.implausible jump round o.round → verdict_with (next_past epoch (Some o) past) (verdict.Takes b) ≡ changes.verdict_on jump epoch round (Some o) past alike
     judge-newer e h w b q =
         let d : eqb o.epoch epoch ≡ true = eq-eqb o.epoch epoch h in
         news (λ i. not (e i) && (not (d i) || w i)) _
         ((λ i. changes.takes (cond (d i) past (o.epoch ∷ take 3 past)) (q i)) ∙ sym (ap (λ (t : Bool). cond t (changes.takes past (changes.implausible jump round o.round)) (changes.takes (o.epoch ∷ take 3 past) true)) d))
 
-    pub judge-old : any (λ (e : ℕ). eqb e epoch) past ≡ false → o.epoch ≡ epoch → changes.newer round o.round ≡ false → (v : Verdict) → v ≡ cond (eqb o.epoch epoch && (eqb o.round round && alike)) verdict.Duplicates verdict.Contests → verdict_with (next_past epoch (some o) past) v ≡ changes.verdict_on jump epoch round (some o) past alike
+    pub judge-old : any (λ (e : ℕ). eqb e epoch) past ≡ false → o.epoch ≡ epoch → changes.newer round o.round ≡ false → (v : Verdict) → v ≡ cond (eqb o.epoch epoch && (eqb o.round round && alike)) verdict.Duplicates verdict.Contests → verdict_with (next_past epoch (Some o) past) v ≡ changes.verdict_on jump epoch round (Some o) past alike
     judge-old e h w v q =
         let d : eqb o.epoch epoch ≡ true = eq-eqb o.epoch epoch h in
-        no-news (λ i. not (e i) && (not (d i) || w i)) v q (next_past epoch (some o) past)
+        no-news (λ i. not (e i) && (not (d i) || w i)) v q (next_past epoch (Some o) past)
 
 -- with the snapshot named
 pub judge-as : (jump epoch round : ℕ) (s t : Option Snapshot) (past : List ℕ) (alike : Bool) (v : Verdict) → s ≡ t → verdict_with (next_past epoch t past) v ≡ changes.verdict_on jump epoch round t past alike → verdict_with (next_past epoch s past) v ≡ changes.verdict_on jump epoch round s past alike

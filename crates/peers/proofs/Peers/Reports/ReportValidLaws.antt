@@ -1,6 +1,5 @@
 -- A report that passes its questions leaves the peers' state valid.
 use Rattle.std.proofs.Common.{◌≡◌, ℕ, suc, ◌+◌, ◌^◌, ◌<◌, ◌≤◌, Bool, true, false, cond, ◌&&◌, eqb, ltb, List, [], ◌∷◌, ◌++◌, length, take, sym, refl, ap, ◌∙◌, subst, suc-le-suc, zero-le, arith, length-take, ltb-true, lt-ltb}
-use mathlib.Core.Option.{Option, none, some}
 use lib.Ieee.{binary32, fits}
 use Rattle.float.specs.Magnitude.{magnitude}
 use Rattle.questions.proofs.Tests.{split, both, and_intro}
@@ -19,6 +18,8 @@ use Rattle.peers.proofs.Peers.Reports.KeyLaws.{put_keeps, put-length, key-valid}
 use Rattle.peers.proofs.Peers.Reports.KeptLaws.{ValidState, valid-says, valid-intro, contested-kept, report-kept, taken-valid}
 use Rattle.questions.proofs.ListLaws.{all_take}
 use Rattle.peers.proofs.Peers.Reports.TakeLaws.{few-of-peer, contest-keeps, contest-few, next-valid}
+use Rattle.std.specs.declared.option.Option.{Option}
+use Rattle.std.specs.declared.option.Option.TheVariants.{None, Some}
 
 -- ---- the keys of a report
 collected-keys : (id : ℕ) (ds : List KeyDemand) (ks : List SnapshotKey) → all (λ (d : KeyDemand). valid_snapshot_key (changes.key_of id d)) ds ≡ true → Keys id ks → Keys id (changes.collected id ds ks)
@@ -46,9 +47,9 @@ arms P true x y p q = p
 arms P false x y p q = q
 
 module _ (jump id epoch round : ℕ) (alike : Bool) (ps : List PeerRecord) where
-  taken-fits : (o : Snapshot) (past : List ℕ) → valid_snapshot (some o) ≡ true → valid_past past ≡ true → Fit ps id (changes.taken jump epoch round o past)
+  taken-fits : (o : Snapshot) (past : List ℕ) → valid_snapshot (Some o) ≡ true → valid_past past ≡ true → Fit ps id (changes.taken jump epoch round o past)
   unfolding Fit
-  taken-fits o past vs vp = by-epoch (eqb o.epoch epoch) (next-valid epoch (some o) past vs vp)
+  taken-fits o past vs vp = by-epoch (eqb o.epoch epoch) (next-valid epoch (Some o) past vs vp)
     where
       by-epoch : (b : Bool) → valid_past (cond b past (o.epoch ∷ take 3 past)) ≡ true → Fit ps id (cond b (changes.takes past (changes.implausible jump round o.round)) (changes.takes (o.epoch ∷ take 3 past) true))
       by-epoch true v = v
@@ -56,8 +57,8 @@ module _ (jump id epoch round : ℕ) (alike : Bool) (ps : List PeerRecord) where
 
   fits_on : (s : Option Snapshot) (past : List ℕ) → valid_snapshot s ≡ true → valid_past past ≡ true → is_known ps id ≡ true → Fit ps id (changes.verdict_on jump epoch round s past alike)
   unfolding Fit all
-  fits_on none past vs vp known = refl
-  fits_on (some o) past vs vp known = arms (Fit ps id) (changes.is_news epoch round o past) (changes.taken jump epoch round o past) (changes.not_taken epoch round o alike) (taken-fits o past vs vp)
+  fits_on None past vs vp known = refl
+  fits_on (Some o) past vs vp known = arms (Fit ps id) (changes.is_news epoch round o past) (changes.taken jump epoch round o past) (changes.not_taken epoch round o alike) (taken-fits o past vs vp)
       (arms (Fit ps id) (eqb o.epoch epoch && (eqb o.round round && alike)) changes.duplicates changes.contests tt known)
 
 parts-of : (p : PeerRecord) → valid_peer p ≡ true → (valid_snapshot p.snapshot ≡ true) × (valid_past p.past_epochs ≡ true)
@@ -67,19 +68,19 @@ parts-of p v =
     (b.0, (both (valid_past p.past_epochs) _ b.1).0)
 
 -- a snapshot's time is a word
-time-of : (p : PeerRecord) (o : Snapshot) → valid_peer p ≡ true → p.snapshot ≡ some o → o.heard_at < 2 ^ 64
+time-of : (p : PeerRecord) (o : Snapshot) → valid_peer p ≡ true → p.snapshot ≡ Some o → o.heard_at < 2 ^ 64
 unfolding valid_peer peer_words all
 time-of p o v e = by p.snapshot e (both (all is_word (peer_words p)) _ v).0
   where
-    sixth : (x : Snapshot) → some x ≡ some o → all is_word (x.epoch ∷ x.round ∷ x.heard_at ∷ past_words p.past_epochs) ≡ true → o.heard_at < 2 ^ 64
+    sixth : (x : Snapshot) → Some x ≡ Some o → all is_word (x.epoch ∷ x.round ∷ x.heard_at ∷ past_words p.past_epochs) ≡ true → o.heard_at < 2 ^ 64
     sixth x e a =
         let q : x ≡ o = cc in
         let t = both (is_word x.round) _ (both (is_word x.epoch) _ a).1 in
         subst (λ (y : Snapshot). y.heard_at < 2 ^ 64) q (ltb-true x.heard_at (2 ^ 64) (both (is_word x.heard_at) _ t.1).0)
 
-    by : (s : Option Snapshot) → s ≡ some o → all is_word (p.id ∷ (time_words p.held_until ++ (snapshot_words s ++ past_words p.past_epochs))) ≡ true → o.heard_at < 2 ^ 64
-    by none e a = let z : ◌≡◌ {A = ℕ} 0 1 = cc in absurd (omega arith)
-    by (some x) e a =
+    by : (s : Option Snapshot) → s ≡ Some o → all is_word (p.id ∷ (time_words p.held_until ++ (snapshot_words s ++ past_words p.past_epochs))) ≡ true → o.heard_at < 2 ^ 64
+    by None e a = let z : ◌≡◌ {A = ℕ} 0 1 = cc in absurd (omega arith)
+    by (Some x) e a =
         let h = both (is_word (time_flag p.held_until)) _ (both (is_word p.id) _ a).1 in
         sixth x e (both (is_word (time_word p.held_until)) _ h.1).1
 
@@ -122,10 +123,10 @@ module _ (id at : ℕ) (r : DemandReport) (s : PeersState) (v : ValidState s) (w
       pv = (both (valid_peer p) _ a).0
 
       by-snapshot : (x : Option Snapshot) → p.snapshot ≡ x → Contesteds id (changes.keep_replaced keep x (snapshot_keys_of id s.snapshot_keys) current) × (length (changes.keep_replaced keep x (snapshot_keys_of id s.snapshot_keys) current) ≤ 256)
-      by-snapshot none e = (current-run, current-few)
-      by-snapshot (some o) e = by-keep keep
+      by-snapshot None e = (current-run, current-few)
+      by-snapshot (Some o) e = by-keep keep
         where
-          vs : valid_snapshot (some o) ≡ true
+          vs : valid_snapshot (Some o) ≡ true
           vs = ap valid_snapshot (sym e) ∙ (parts-of p pv).0
 
           by-keep : (b : Bool) → Contesteds id (cond b (changes.contest o.round o.heard_at (snapshot_keys_of id s.snapshot_keys) current) current) × (length (cond b (changes.contest o.round o.heard_at (snapshot_keys_of id s.snapshot_keys) current) current) ≤ 256)

@@ -1,5 +1,6 @@
 -- Laws: which verdict a report meets, and what the state is after it.
 use Rattle.std.proofs.Common.{◌≡◌, ℕ, suc, ◌*◌, ◌/◌, ◌%◌, ◌<◌, ◌≤◌, Bool, true, cond, ◌&&◌, eqb, ltb, List, [], ◌∷◌, map, length, take, sym, refl, ap, ◌∙◌, subst, suc-le-suc, zero-le, arith, length-take-le, take_all, lt-ltb, eq-eqb, ne_eqb}
+use Rattle.std.specs.Cmp.Lexicographic.{pointwise}
 use native.Mathlib.Nat.{mul-div_left, mul-mod_left}
 use lib.ListN.{length-map}
 use Rattle.records.specs.Records.{records, flat, same}
@@ -20,6 +21,14 @@ use Rattle.peers.proofs.Peers.Tables.KindLaws.{snapshot_kind, Keys, run_typed, f
 use Rattle.peers.proofs.Peers.Reports.KeptLaws.{taken-known}
 use Rattle.peers.proofs.Peers.Reports.TakeLaws.{OldPeer, few-of-peer, snapshot-is, past_is}
 use Rattle.peers.proofs.Peers.Reports.ApplyLaws.{Tables, keys_fit, keys-asc}
+
+-- ---- words compared, by std's name and by ours
+pub words-same : (xs ys : List ℕ) → pointwise eqb xs ys ≡ same xs ys
+unfolding same
+words-same [] [] = refl
+words-same [] (y ∷ ys) = refl
+words-same (x ∷ xs) [] = refl
+words-same (x ∷ xs) (y ∷ ys) = ap (λ (b : Bool). eqb x y && b) (words-same xs ys)
 
 -- ---- a run at the front of its words
 front-lent : (w m : ℕ) (rs : List (List ℕ)) (xs : List ℕ) → 0 < w → m * w ≤ length xs → Front w m rs xs → Front w (length (take (m * w) xs) / w) rs (take (m * w) xs)

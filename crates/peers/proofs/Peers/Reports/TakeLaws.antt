@@ -1,6 +1,5 @@
 -- Laws: a report taken or contested, by the words of the tables.
 use Rattle.std.proofs.Common.{◌≡◌, ℕ, zero, suc, ◌-◌, ◌/◌, ◌^◌, ◌<◌, ◌≤◌, Bool, true, false, cond, not, ◌||◌, eqb, ltb, leb, List, [], ◌∷◌, ◌++◌, map, length, take, sym, refl, ap, ◌∙◌, subst, suc-le-suc, zero-le, arith, length-take, take_all, ltb-true, eq-eqb, eqb-true, le-leb, leb-true}
-use mathlib.Core.Option.{Option, none, some}
 use borrow.Author.Tests.{eqb-false}
 use lib.ListN.{length-map}
 use Rattle.records.specs.Records.{records, leads, ascending}
@@ -25,6 +24,8 @@ use Rattle.peers.proofs.Peers.Reports.KeptLaws.{ValidState, few_keys, few-contes
 use Rattle.peers.proofs.Peers.Reports.ApplyLaws.{Tables, known-table, peers-fit, keys_fit, contested-fit, keys-asc, contested-asc}
 use Rattle.records.proofs.Tables.TabledLaws.{tabled-same}
 use Rattle.peers.proofs.Peers.Tables.TableLaws.{stores-of}
+use Rattle.std.specs.declared.option.Option.{Option}
+use Rattle.std.specs.declared.option.Option.TheVariants.{None, Some}
 
 found : {A : Type 0} (number : A → ℕ) (k : ℕ) (xs : List A) → any (λ x. eqb (number x) k) xs ≡ true → 0 < length (those number k xs)
 unfolding those
@@ -115,12 +116,12 @@ few-of-peer {A = A} peer bound id ps xs few known = split (is_known ps id)
 
 -- ---- the peer, by its words
 pub snapshot-is : (id : ℕ) (o : Option PeerRecord) → changes.snapshot_in o ≡ (or_new id o).snapshot
-snapshot-is id none = refl
-snapshot-is id (some p) = refl
+snapshot-is id None = refl
+snapshot-is id (Some p) = refl
 
 pub past_is : (id : ℕ) (o : Option PeerRecord) → changes.past_in o ≡ (or_new id o).past_epochs
-past_is id none = refl
-past_is id (some p) = refl
+past_is id None = refl
+past_is id (Some p) = refl
 
 first-valid : (id : ℕ) (ps : List PeerRecord) → id < 2 ^ 64 → all valid_peer ps ≡ true → valid_peer (or_new id (first ps)) ≡ true
 unfolding all
@@ -149,8 +150,8 @@ unfolding valid_peer peer_words
 round-of p v = by p.snapshot (both (valid_snapshot p.snapshot) _ (both (all is_word (peer_words p)) _ v).1).0
   where
     by : (s : Option Snapshot) → valid_snapshot s ≡ true → word 5 (p.id ∷ (time_words p.held_until ++ (snapshot_words s ++ past_words p.past_epochs))) < 2 ^ 16
-    by none e = omega arith
-    by (some s) e = ltb-true s.round (2 ^ 16) (both (ltb s.epoch (2 ^ 32)) _ e).1
+    by None e = omega arith
+    by (Some s) e = ltb-true s.round (2 ^ 16) (both (ltb s.epoch (2 ^ 32)) _ e).1
 
 pub record OldPeer (id : ℕ) (ps : List PeerRecord) (old : List ℕ) : Type 0 where
   pub facts : PeerFacts old
@@ -174,8 +175,8 @@ old-peer id ps old h a e =
 -- ---- past epochs stay valid
 pub next-valid : (epoch : ℕ) (s : Option Snapshot) (past : List ℕ) → valid_snapshot s ≡ true → valid_past past ≡ true → valid_past (next_past epoch s past) ≡ true
 unfolding all
-next-valid epoch none past vs vp = refl
-next-valid epoch (some o) past vs vp = choose (eqb o.epoch epoch)
+next-valid epoch None past vs vp = refl
+next-valid epoch (Some o) past vs vp = choose (eqb o.epoch epoch)
   where
     choose : (b : Bool) → valid_past (cond b past (o.epoch ∷ take 3 past)) ≡ true
     choose true = vp

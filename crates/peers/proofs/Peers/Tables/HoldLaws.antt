@@ -1,6 +1,5 @@
 -- Laws: a peer's record with a hold.
 use Rattle.std.proofs.Common.{◌≡◌, ℕ, ◌+◌, ◌*◌, ◌<◌, true, List, [], ◌∷◌, map, length, get_or, drop, set, sym, refl, ap, ◌∙◌, arith, length-set, get_or-set_same, drop-set-lt, set-set}
-use mathlib.Core.Option.{Option, none, some}
 use Rattle.records.specs.declared.Found.TheVariants.{At, Gap}
 use Rattle.records.specs.Records.{records, overwrite_at, find_in}
 use Rattle.records.proofs.Words.RecordLaws.{row, length-records}
@@ -11,11 +10,13 @@ use Rattle.peers.specs.Peers.Changes.{hold}
 use Rattle.records.proofs.Tables.TabledLaws.{InOrder, found_inside, found-one, found_none, found-at-splice, found-gap-splice, table_of}
 use Rattle.records.proofs.Changes.KeepLaws.{overwrite-set, records-set}
 use Rattle.records.proofs.Tables.TypedLaws.{exact-record}
+use Rattle.std.specs.declared.option.Option.{Option}
+use Rattle.std.specs.declared.option.Option.TheVariants.{None, Some}
 
 hold-words : (id until : ℕ) (held : Option ℕ) (taken : Option Snapshot) (past : List ℕ) → peer_words (hold until (record { id = id; held_until = held; snapshot = taken; past_epochs = past })) ≡ set (set (peer_words (record { id = id; held_until = held; snapshot = taken; past_epochs = past })) 1 1) 2 until
 unfolding peer_words
-hold-words id until none taken past = refl
-hold-words id until (some t) taken past = refl
+hold-words id until None taken past = refl
+hold-words id until (Some t) taken past = refl
 
 module _ (n id until : ℕ) (xs : List ℕ) (o : InOrder 12 1 n xs) (e : exact peer_words peer_of (records 12 n xs) ≡ true) (i : ℕ) where
   abbrev held : List ℕ → List ℕ

@@ -1,5 +1,5 @@
 -- Laws of the peers' tables: a state in its three tables, and the place of a peer.
-use Rattle.std.proofs.Common.{◌≡◌, ℕ, ◌*◌, ◌<◌, ◌≤◌, Bool, false, ◌&&◌, ltb, List, map, get_or, sym, refl, ap, ◌∙◌, arith, le-ltb, lt-ltb}
+use Rattle.std.proofs.Common.{◌≡◌, ℕ, ◌+◌, ◌*◌, ◌<◌, ◌≤◌, Bool, true, false, List, map, length, sym, refl, ◌∙◌, arith}
 use lib.ListN.{length-map}
 use Rattle.records.specs.declared.Found.{Found}
 use Rattle.records.specs.declared.Found.TheVariants.{At, Gap, Unfit}
@@ -7,10 +7,12 @@ use Rattle.records.specs.Records.{find_in}
 use Rattle.peers.specs.declared.peer_demand.PeerDemand.{PeerDemand}
 use Rattle.peers.specs.Peers.Records.{peer_words, snapshot_key_words, contested_words}
 use Rattle.peers.specs.Peers.State.{PeersState, PeerTables}
-use Rattle.records.specs.Typed.{found_or, Tabled}
-use Rattle.peers.specs.Peers.Steps.Stays.{place_of}
+use Rattle.records.specs.Typed.{in_order, Tabled}
+use Rattle.peers.specs.Peers.Steps.Stays.{place_in, place_of}
+use Rattle.std.specs.declared.option.Option.TheVariants.{None, Some}
 use Rattle.peers.specs.Peers.Steps.Runs.{Stores}
-use Rattle.records.proofs.Tables.TabledLaws.{InOrder, found-fit, found_inside, found_word}
+use Rattle.records.proofs.Tables.TabledLaws.{InOrder, in-order-says, found-fit}
+use Rattle.records.proofs.Words.RecordLaws.{row}
 
 -- a state in its three tables
 pub stores-of :
@@ -30,20 +32,32 @@ stores-of p s n k c t ps ks cs a b d = record {
 
 -- ---- the place of a peer
 
--- a test of the peer at a place: as it is where a peer is there, false past them
-module _ (n place : ℕ) (b : Bool) where
-  pub test-there : place < n → (ltb place n && b) ≡ b
-  test-there h = ap (λ (c : Bool). c && b) (lt-ltb place n h)
-
-  pub test-past : n ≤ place → (ltb place n && b) ≡ false
-  test-past h = ap (λ (c : Bool). c && b) (le-ltb place n h)
-
--- a test of a number that fails where no peer has it, by the number at its place
-pub placed : (n id : ℕ) (xs : List ℕ) → InOrder 12 1 n xs → (p : ℕ → Bool) → ((i : ℕ) → Gap i ≡ find_in 12 1 n id 0 xs → p id ≡ false) → (place : ℕ) → place ≡ place_of n id xs → (ltb place n && p (get_or xs (place * 12) 0)) ≡ p id
-unfolding place_of found_or
-placed n id xs o p none place e = ap (λ (m : ℕ). ltb m n && p (get_or xs (m * 12) 0)) e ∙ by (find_in 12 1 n id 0 xs) refl
+-- a place that is one is where the peer is
+pub place_some : (n id i : ℕ) (xs : List ℕ) → Some i ≡ place_of n id xs → At i ≡ find_in 12 1 n id 0 xs
+unfolding place_of
+place_some n id i xs e = by (find_in 12 1 n id 0 xs) e
   where
-    by : (f : Found) → f ≡ find_in 12 1 n id 0 xs → (ltb (found_or n f) n && p (get_or xs (found_or n f * 12) 0)) ≡ p id
-    by (At i) g = test-there n i (p (get_or xs (i * 12) 0)) (found_inside 12 n id xs o i g).0 ∙ ap p (found_word 12 n id xs o i g)
-    by (Gap i) g = test-past n n (p (get_or xs (n * 12) 0)) (omega arith) ∙ sym (none i g)
-    by Unfit g = found-fit 12 n id xs o g
+    by : (f : Found) → Some i ≡ place_in f → At i ≡ f
+    by (At j) g = cc
+    by (Gap j) g = cc
+    by Unfit g = cc
+
+-- where there is none, no test holds that fails where no peer has the number
+pub place_none : (n id : ℕ) (xs : List ℕ) → InOrder 12 1 n xs → (p : ℕ → Bool) → ((i : ℕ) → Gap i ≡ find_in 12 1 n id 0 xs → p id ≡ false) → None ≡ place_of n id xs → false ≡ p id
+unfolding place_of
+place_none n id xs o p none e = by (find_in 12 1 n id 0 xs) refl e
+  where
+    by : (f : Found) → f ≡ find_in 12 1 n id 0 xs → None ≡ place_in f → false ≡ p id
+    by (At j) g h = let z : ◌≡◌ {A = ℕ} 0 1 = cc in absurd (omega arith)
+    by (Gap j) g h = sym (none j g)
+    by Unfit g h = found-fit 12 n id xs o g
+
+-- a record of a table in order is within its words
+pub record_inside : (w d n : ℕ) (xs : List ℕ) → in_order w d n xs ≡ true → (i : ℕ) → i < n → i * w + w ≤ length xs
+record_inside w d n xs e i h = omega (arith, row w n i h, (in-order-says w d n xs e).words)
+
+-- a search that did not find tells no place
+pub place_missing : (r : Found) → ((x : ℕ) → r ≡ At x → ⊥) → None ≡ place_in r
+place_missing (At i) h = absurd (h i refl)
+place_missing (Gap i) h = refl
+place_missing Unfit h = refl

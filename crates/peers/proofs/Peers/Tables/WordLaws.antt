@@ -1,9 +1,10 @@
 -- The peers' records and their words: there and back, and how many words they are.
 use Rattle.std.proofs.Common.{◌≡◌, ℕ, suc, ◌≤◌, Bool, List, [], ◌∷◌, ◌++◌, length, take, refl, ap, arith, length-append, length-take-le}
-use mathlib.Core.Option.{Option, none, some}
 use Rattle.records.specs.Fields.{time_words}
 use Rattle.records.proofs.Words.FieldLaws.{flag-of-word}
 use Rattle.peers.specs.Peers.Records.{Snapshot, PeerRecord, SnapshotKey, ContestedKey, snapshot_words, past_words, peer_words, snapshot_key_words, contested_words, peer_of, snapshot_key_of, contested_of}
+use Rattle.std.specs.declared.option.Option.{Option}
+use Rattle.std.specs.declared.option.Option.TheVariants.{None, Some}
 
 -- the record of a snapshot key's words is the key
 pub snapshot-key-of-words : (k : SnapshotKey) → snapshot_key_of (snapshot_key_words k) ≡ k
@@ -39,10 +40,10 @@ peer-by-parts :
     → length past ≤ 4
     → peer_of (peer_words (peer id held taken past)) ≡ peer id held taken past
 unfolding peer_of peer_words
-peer-by-parts id none none past h = ap (peer id none none) (past_of-words past h)
-peer-by-parts id none (some s) past h = ap (peer id none (some s)) (past_of-words past h)
-peer-by-parts id (some t) none past h = ap (peer id (some t) none) (past_of-words past h)
-peer-by-parts id (some t) (some s) past h = ap (peer id (some t) (some s)) (past_of-words past h)
+peer-by-parts id None None past h = ap (peer id None None) (past_of-words past h)
+peer-by-parts id None (Some s) past h = ap (peer id None (Some s)) (past_of-words past h)
+peer-by-parts id (Some t) None past h = ap (peer id (Some t) None) (past_of-words past h)
+peer-by-parts id (Some t) (Some s) past h = ap (peer id (Some t) (Some s)) (past_of-words past h)
 
 -- the record of a peer's words is the peer, where four past epochs hold it
 pub peer-of-words : (p : PeerRecord) → length p.past_epochs ≤ 4 → peer_of (peer_words p) ≡ p
@@ -59,8 +60,8 @@ peer-long p = by p.snapshot p.past_epochs
         four-zeros = refl
 
     by : (s : Option Snapshot) (es : List ℕ) → length (p.id ∷ (time_words p.held_until ++ (snapshot_words s ++ past_words es))) ≡ 12
-    by none es = ap (λ (m : ℕ). suc (suc (suc (suc (suc (suc (suc (suc m)))))))) (four es)
-    by (some s) es = ap (λ (m : ℕ). suc (suc (suc (suc (suc (suc (suc (suc m)))))))) (four es)
+    by None es = ap (λ (m : ℕ). suc (suc (suc (suc (suc (suc (suc (suc m)))))))) (four es)
+    by (Some s) es = ap (λ (m : ℕ). suc (suc (suc (suc (suc (suc (suc (suc m)))))))) (four es)
 
 pub key-long : (k : SnapshotKey) → length (snapshot_key_words k) ≡ 4
 unfolding snapshot_key_words

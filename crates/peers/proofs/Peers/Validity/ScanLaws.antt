@@ -1,10 +1,10 @@
 -- Question 2 of a peer's records, asked word by word, is question 2 of what they stand for.
-use Rattle.std.proofs.Common.{◌≡◌, ℕ, zero, suc, ◌+◌, ◌*◌, ◌^◌, ◌<◌, ◌≤◌, Bool, true, false, cond, ◌&&◌, ◌||◌, eqb, ltb, leb, List, [], ◌∷◌, ◌++◌, length, get_or, take, drop, sym, refl, ap, ◌∙◌, arith, get_or-drop, get_or-take, le-ltb, lt-ltb, eq-eqb, ne_eqb, leb-false}
+use Rattle.std.proofs.Common.{◌≡◌, ℕ, zero, suc, ◌^◌, Bool, true, false, ◌&&◌, ◌||◌, eqb, ltb, leb, List, [], ◌∷◌, ◌++◌, length, take, sym, refl, ap, ◌∙◌, arith, lt-ltb, ne_eqb}
 use mathlib.Core.Bool.{and-true, and-false, and_assoc, and_comm}
 use borrow.Author.Tests.{lt-leb}
 use lib.Dec.{eqb-suc-zero}
-use Rattle.records.specs.Records.{same, records}
-use Rattle.questions.proofs.Tests.{eqb-self, eqb-turn, split, and_left, stop, goes}
+use Rattle.records.specs.Records.{same}
+use Rattle.questions.proofs.Tests.{eqb-self, eqb-turn, and_left}
 use Rattle.records.proofs.Order.OrderLaws.{same-append}
 use Rattle.questions.specs.Lists.{all, present}
 use Rattle.records.specs.Fields.{time_words, time_of}
@@ -13,22 +13,8 @@ use Rattle.peers.specs.Peers.Records.{snapshot_words, snapshot_of, past_words, p
 use Rattle.records.specs.Typed.{is_word, word}
 use Rattle.peers.specs.Peers.State.{is_demand, valid_snapshot, valid_past, past_has_snapshot, valid_peer, valid_snapshot_key, valid_contested}
 use Rattle.peers.specs.Peers.Steps.Scan.{is_snapshot, is_past_epoch, is_past, is_peer, are_peer_words, are_key_words}
-use Rattle.records.proofs.Words.RecordLaws.{record-at}
 use Rattle.records.proofs.Tables.TypedLaws.{exact-words}
 use Rattle.records.proofs.Tables.ScanLaws.{PassIs, words-4, words-6, words-12}
-
--- tests of record i are those of the words at its place
-pub key-record : (w n : ℕ) (xs : List ℕ) (i : ℕ) → i < n → 4 ≤ w → are_key_words w (drop (i * w) xs) ≡ are_key_words w (get_or (records w n xs) i [])
-unfolding are_key_words
-key-record w n xs i h four = sym (ap (are_key_words w) (record-at w n xs i h) ∙ (λ k. is_demand (word 2 (omega arith) k) && (leb (word 3 (omega arith) k) 1 && round k)))
-  where
-    word : (j : ℕ) → j < w → get_or (take w (drop (i * w) xs)) j 0 ≡ get_or (drop (i * w) xs) j 0
-    word j l = get_or-take w (drop (i * w) xs) j 0 l
-
-    round : (leb w 4 || ltb (get_or (take w (drop (i * w) xs)) 4 0) (2 ^ 16)) ≡ (leb w 4 || ltb (get_or (drop (i * w) xs) 4 0) (2 ^ 16))
-    round = split (leb w 4)
-        (λ e. ap (λ (b : Bool). b || ltb (get_or (take w (drop (i * w) xs)) 4 0) (2 ^ 16)) e ∙ sym (ap (λ (b : Bool). b || ltb (get_or (drop (i * w) xs) 4 0) (2 ^ 16)) e))
-        (λ e. ap (λ (m : ℕ). leb w 4 || ltb m (2 ^ 16)) (word 4 (omega (arith, leb-false w 4 e))))
 
 ruleset ands = (and-true, and_assoc, and_comm, and_left)
 
@@ -154,46 +140,3 @@ contested-words a b c d e f word =
 
 pub contested-words-pass : (r : List ℕ) → length r ≡ 6 → ContestedIs r
 contested-words-pass = words-6 ContestedIs contested-words
-
--- ---- the words of a snapshot, one by one
-module _ (flag epoch round at : ℕ) where
-  absent : flag ≡ 0 → (eqb epoch 0 && (eqb round 0 && eqb at 0)) ≡ is_snapshot flag epoch round at
-  unfolding is_snapshot
-  absent e = sym (ap (λ (f : ℕ). is_snapshot f epoch round at) e)
-
-  pub absent-epoch : flag ≡ 0 → (epoch ≡ 0 → ⊥) → false ≡ is_snapshot flag epoch round at
-  absent-epoch e h = stop (eqb epoch 0) (eqb round 0 && eqb at 0) (ne_eqb epoch 0 h) ∙ absent e
-
-  pub absent-round : flag ≡ 0 → epoch ≡ 0 → (round ≡ 0 → ⊥) → false ≡ is_snapshot flag epoch round at
-  absent-round e f h = goes (eqb epoch 0) (eqb round 0 && eqb at 0) false (eq-eqb epoch 0 f) (stop (eqb round 0) (eqb at 0) (ne_eqb round 0 h)) ∙ absent e
-
-  pub absent-time : flag ≡ 0 → epoch ≡ 0 → round ≡ 0 → eqb at 0 ≡ is_snapshot flag epoch round at
-  absent-time e f g = goes (eqb epoch 0) (eqb round 0 && eqb at 0) (eqb at 0) (eq-eqb epoch 0 f) (goes (eqb round 0) (eqb at 0) (eqb at 0) (eq-eqb round 0 g) refl) ∙ absent e
-
-present-flag : (flag epoch round at : ℕ) → (flag ≡ 0 → ⊥) → (eqb flag 1 && (ltb epoch (2 ^ 32) && ltb round (2 ^ 16))) ≡ is_snapshot flag epoch round at
-unfolding is_snapshot
-present-flag zero epoch round at h = absurd (h refl)
-present-flag (suc flag) epoch round at h = refl
-
-module _ (flag epoch round at : ℕ) (h : flag ≡ 0 → ⊥) where
-  pub other-flag : (flag ≡ 1 → ⊥) → false ≡ is_snapshot flag epoch round at
-  other-flag e = stop (eqb flag 1) (ltb epoch (2 ^ 32) && ltb round (2 ^ 16)) (ne_eqb flag 1 e) ∙ present-flag flag epoch round at h
-
-  pub long-epoch : flag ≡ 1 → 2 ^ 32 ≤ epoch → false ≡ is_snapshot flag epoch round at
-  long-epoch e l = goes (eqb flag 1) (ltb epoch (2 ^ 32) && ltb round (2 ^ 16)) false (eq-eqb flag 1 e) (stop (ltb epoch (2 ^ 32)) (ltb round (2 ^ 16)) (le-ltb epoch (2 ^ 32) l)) ∙ present-flag flag epoch round at h
-
-  pub round-decides : flag ≡ 1 → epoch < 2 ^ 32 → ltb round (2 ^ 16) ≡ is_snapshot flag epoch round at
-  round-decides e l = goes (eqb flag 1) (ltb epoch (2 ^ 32) && ltb round (2 ^ 16)) (ltb round (2 ^ 16)) (eq-eqb flag 1 e) (goes (ltb epoch (2 ^ 32)) (ltb round (2 ^ 16)) (ltb round (2 ^ 16)) (lt-ltb epoch (2 ^ 32) l) refl) ∙ present-flag flag epoch round at h
-
-pub counted-epoch : (count i epoch : ℕ) → i < count → ltb epoch (2 ^ 32) ≡ is_past_epoch count i epoch
-unfolding is_past_epoch
-counted-epoch count i epoch h = sym (ap (λ (b : Bool). cond b (ltb epoch (2 ^ 32)) (eqb epoch 0)) (lt-ltb i count h))
-
-pub further-epoch : (count i epoch : ℕ) → count ≤ i → eqb epoch 0 ≡ is_past_epoch count i epoch
-unfolding is_past_epoch
-further-epoch count i epoch h = sym (ap (λ (b : Bool). cond b (ltb epoch (2 ^ 32)) (eqb epoch 0)) (le-ltb i count h))
-
--- the words at a place of a table
-pub key-words-at : (t : List ℕ) (at w : ℕ) → (is_demand (get_or t (at + 2) 0) && (leb (get_or t (at + 3) 0) 1 && (leb w 4 || ltb (get_or t (at + 4) 0) (2 ^ 16)))) ≡ are_key_words w (drop at t)
-unfolding are_key_words
-key-words-at t at w = sym (λ n. is_demand (get_or-drop at t 2 0 n) && (leb (get_or-drop at t 3 0 n) 1 && (leb w 4 || ltb (get_or-drop at t 4 0 n) (2 ^ 16))))

@@ -1,16 +1,15 @@
 -- The keys of peers that ascend are valid where they are a run of records for each peer; and the scan of such runs.
-use Rattle.std.proofs.Common.{◌≡◌, ℕ, suc, ◌+◌, ◌-◌, ◌*◌, ◌<◌, ◌≤◌, Bool, true, false, cond, ◌&&◌, ◌||◌, eqb, ltb, leb, List, [], ◌∷◌, ◌++◌, length, get_or, take, drop, sym, refl, ap, ◌∙◌, zero-le, add-zero, add-one, arith, length-drop, take-append-drop, drop_of_length-le, length-take-le, get_or-drop, drop-cons, drop-drop, ltb-false, ltb-true, lt-ltb, eq-eqb, ne_eqb, eqb-true, le-leb, leb-true}
+use Rattle.std.proofs.Common.{◌≡◌, ℕ, suc, ◌+◌, ◌-◌, ◌*◌, ◌<◌, ◌≤◌, Bool, true, false, cond, ◌&&◌, ◌||◌, eqb, ltb, leb, List, [], ◌∷◌, ◌++◌, length, get_or, take, drop, sym, refl, ap, ◌∙◌, zero-le, add-one, arith, length-drop, take-append-drop, drop_of_length-le, length-take-le, drop-cons, drop-drop, ltb-false, ltb-true, lt-ltb, eq-eqb, ne_eqb, eqb-true, le-leb, leb-true}
 use mathlib.Core.Bool.{or-false, and_assoc, and_comm}
-use borrow.Author.Tests.{lt-leb, eqb-false}
+use borrow.Author.Tests.{eqb-false}
 use lib.Dec.{eqb-suc-zero}
 use Rattle.records.specs.Records.{records, key, before, leads, ascending}
 use Rattle.questions.proofs.Tests.{contradiction, split, both, and_intro, and_second, same_truth, and_left, stop}
-use Rattle.records.proofs.Words.RecordLaws.{length-records}
+use Rattle.records.proofs.Words.RecordLaws.{length-records, record-length, lent-record}
 use Rattle.records.proofs.Tables.TableLaws.{Wide, wide-drop}
 use Rattle.questions.specs.Lists.{all, any, only, those}
 use Rattle.peers.specs.Peers.Steps.Scan.{are_key_words, is_named, are_named, are_within, is_key_of, run_length, is_run, are_runs}
 use Rattle.records.specs.Typed.{first_word}
-use Rattle.peers.proofs.Peers.Validity.ScanLaws.{key-record}
 use Rattle.records.proofs.Words.RowLaws.{word-at, first-at}
 use Rattle.questions.proofs.OnlyLaws.{only_yes, only_no, all-imply}
 use Rattle.records.proofs.Order.AscendingLaws.{asc-ahead, asc-cons, asc-append, first-before, second-before, before-first, before-one, before-two}
@@ -300,58 +299,35 @@ module _ (w least bound : ℕ) (two : 2 ≤ w) where
       ap (λ (b : Bool). is_run least bound (get_or p 3 0) count && b) (runs-are-valid ps wp.1 (asc-end 1 (p ∷ []) ps a) (drop count rs) (wide-drop w count rs wr))
       ∙ by-peer p ps rs (all-imply (λ (q : List ℕ). before (key 1 p) (key 1 q)) (is_after (first_word p)) ps (λ q b. lt-ltb (first_word p) (first_word q) (before-one p q (omega (arith, wp.0)) b)) (asc-ahead 1 p ps a)) wr
 
--- ---- the scan: a key by the words at its place
-module _ (w id : ℕ) (xs : List ℕ) (at : ℕ) where
-  word-here : (j : ℕ) → get_or (drop at xs) j 0 ≡ get_or xs (at + j) 0
-  word-here j = get_or-drop at xs j 0
-
-  first-here : first_word (drop at xs) ≡ get_or xs at 0
-  first-here = word-here 0 ∙ ap (λ (m : ℕ). get_or xs m 0) (add-zero at)
-
-  pub other-peer : (get_or xs at 0 ≡ id → ⊥) → false ≡ is_key_of w id 0 (drop at xs)
-  unfolding is_key_of
-  other-peer h = stop (is_of id (drop at xs)) _ (ap (λ (a : ℕ). eqb a id) first-here ∙ ne_eqb (get_or xs at 0) id h)
-
-  pub same-peer : get_or xs at 0 ≡ id → are_key_words w (drop at xs) ≡ is_key_of w id 0 (drop at xs)
-  unfolding is_key_of
-  same-peer e = sym (λ k. (ap (λ (a : ℕ). eqb a id) first-here ∙ eq-eqb (get_or xs at 0) id e) k && (le-leb 0 (get_or (drop at xs) 1 0) zero-le k && are_key_words w (drop at xs)))
-
-  pub not_above : (last : ℕ) → get_or xs (at + 1) 0 ≤ last → false ≡ is_key_of w id (suc last) (drop at xs)
-  unfolding is_key_of
-  not_above last h = sym (and_second (is_of id (drop at xs)) _ (ap (λ (b : Bool). b && are_key_words w (drop at xs)) (lt-leb (suc last) (get_or (drop at xs) 1 0) (omega (arith, word-here 1)))))
-
-  pub above : (last : ℕ) → last < get_or xs (at + 1) 0 → is_key_of w id 0 (drop at xs) ≡ is_key_of w id (suc last) (drop at xs)
-  unfolding is_key_of
-  above last h = (λ k. is_of id (drop at xs) && ((le-leb 0 (get_or (drop at xs) 1 0) zero-le ∙ sym (le-leb (suc last) (get_or (drop at xs) 1 0) (omega (arith, word-here 1)))) k && are_key_words w (drop at xs)))
-
 -- ---- the scan: a run
 -- the length of the run from record i on
 abbrev pub ahead : ℕ → ℕ → ℕ → List ℕ → ℕ → ℕ → ℕ
 ahead w n id xs low i = run_length w id low (drop i (records w n xs))
 
-abbrev is_here : ℕ → ℕ → List ℕ → ℕ → ℕ → Bool
-is_here w id xs low i = is_key_of w id low (drop (i * w) xs)
+-- record i is such a key
+abbrev pub is_here : ℕ → ℕ → ℕ → List ℕ → ℕ → ℕ → Bool
+is_here w n id xs low i = is_key_of w id low (get_or (records w n xs) i [])
+
+-- the same of its words as they are lent
+pub lent-here : (w n peer : ℕ) (xs : List ℕ) → n * w ≤ length xs → (low i : ℕ) → i < n → is_key_of (length (take (i * w + w - i * w) (drop (i * w) xs))) peer low (take (i * w + w - i * w) (drop (i * w) xs)) ≡ is_here w n peer xs low i
+lent-here w n peer xs fit low i h =
+    let lent = lent-record w n xs i h in
+    (λ k. is_key_of (length (lent k)) peer low (lent k))
+    ∙ ap (λ (m : ℕ). is_key_of m peer low (get_or (records w n xs) i [])) (record-length w n xs i h fit)
 
 module _ (w n id : ℕ) (xs : List ℕ) (wide : 4 ≤ w) where
-  key_here : (low i : ℕ) → i < n → is_key_of w id low (get_or (records w n xs) i []) ≡ is_here w id xs low i
-  unfolding is_key_of
-  key_here low i h = (λ k. eqb (word 0 (omega arith) k) id && (leb low (word 1 (omega arith) k) && sym (key-record w n xs i h wide) k))
-    where
-      word : (j : ℕ) → j < w → get_or (get_or (records w n xs) i []) j 0 ≡ get_or (drop (i * w) xs) j 0
-      word j l = word-at w n xs i j h l ∙ sym (get_or-drop (i * w) xs j 0)
-
   split-here : (low i : ℕ) → i < n → ahead w n id xs low i ≡ run_length w id low (get_or (records w n xs) i [] ∷ drop (suc i) (records w n xs))
   split-here low i h = ap (run_length w id low) (drop-cons (records w n xs) i [] (omega (arith, length-records w n xs)))
 
-  goes_on : (low i : ℕ) → i < n → is_here w id xs low i ≡ true → i + 1 + ahead w n id xs (suc (get_or xs ((i + 1) * w - w + 1) 0)) (i + 1) ≡ i + ahead w n id xs low i
+  goes_on : (low i : ℕ) → i < n → is_here w n id xs low i ≡ true → i + 1 + ahead w n id xs (suc (get_or xs ((i + 1) * w - w + 1) 0)) (i + 1) ≡ i + ahead w n id xs low i
   goes_on low i h e =
       let place : (i + 1) * w - w + 1 ≡ i * w + 1 = omega arith in
       let second : get_or xs ((i + 1) * w - w + 1) 0 ≡ get_or (get_or (records w n xs) i []) 1 0 = ap (λ (m : ℕ). get_or xs m 0) place ∙ sym (word-at w n xs i 1 h (omega arith)) in
       let next : ahead w n id xs (suc (get_or xs ((i + 1) * w - w + 1) 0)) (i + 1) ≡ run_length w id (suc (get_or (get_or (records w n xs) i []) 1 0)) (drop (suc i) (records w n xs)) = (λ k. run_length w id (suc (second k)) (drop (add-one i k) (records w n xs))) in
-      omega (arith, next, split-here low i h, run-goes w id low (get_or (records w n xs) i []) (drop (suc i) (records w n xs)) (key_here low i h ∙ e))
+      omega (arith, next, split-here low i h, run-goes w id low (get_or (records w n xs) i []) (drop (suc i) (records w n xs)) e)
 
-  stops-here : (low i : ℕ) → i < n → is_here w id xs low i ≡ false → i ≡ i + ahead w n id xs low i
-  stops-here low i h e = omega (arith, split-here low i h, run-stops w id low (get_or (records w n xs) i []) (drop (suc i) (records w n xs)) (key_here low i h ∙ e))
+  stops-here : (low i : ℕ) → i < n → is_here w n id xs low i ≡ false → i ≡ i + ahead w n id xs low i
+  stops-here low i h e = omega (arith, split-here low i h, run-stops w id low (get_or (records w n xs) i []) (drop (suc i) (records w n xs)) e)
 
   ends-here : (low i : ℕ) → n ≤ i → i ≡ i + ahead w n id xs low i
   unfolding run_length
@@ -369,40 +345,27 @@ module _ (w n id from : ℕ) (xs : List ℕ) (wide : 4 ≤ w) where
   pub run_out : n ≤ from → from ≡ from + ahead w n id xs 0 from
   run_out = ends-here w n id xs wide 0 from
 
-  pub run_none : from < n → is_here w id xs 0 from ≡ false → from ≡ from + ahead w n id xs 0 from
+  pub run_none : from < n → is_here w n id xs 0 from ≡ false → from ≡ from + ahead w n id xs 0 from
   run_none = stops-here w n id xs wide 0 from
 
-  pub run-begins : from < n → is_here w id xs 0 from ≡ true → Ran w n id from (from + 1) xs
+  pub run-begins : from < n → is_here w n id xs 0 from ≡ true → Ran w n id from (from + 1) xs
   run-begins h e = record { begun = omega arith; within = omega arith; same = goes_on w n id xs wide 0 from h e }
 
   module _ (i : ℕ) (ran : Ran w n id from i xs) where
-    pub run-next : i < n → is_here w id xs (suc (get_or xs (i * w - w + 1) 0)) i ≡ true → Ran w n id from (i + 1) xs
+    pub run-next : i < n → is_here w n id xs (suc (get_or xs (i * w - w + 1) 0)) i ≡ true → Ran w n id from (i + 1) xs
     run-next h e = record {
       begun = omega (arith, ran.begun);
       within = omega arith;
       same = goes_on w n id xs wide (suc (get_or xs (i * w - w + 1) 0)) i h e ∙ ran.same;
     }
 
-    pub run-ended : i < n → is_here w id xs (suc (get_or xs (i * w - w + 1) 0)) i ≡ false → i ≡ from + ahead w n id xs 0 from
+    pub run-ended : i < n → is_here w n id xs (suc (get_or xs (i * w - w + 1) 0)) i ≡ false → i ≡ from + ahead w n id xs 0 from
     run-ended h e = stops-here w n id xs wide (suc (get_or xs (i * w - w + 1) 0)) i h e ∙ ran.same
 
     pub run-full : n ≤ i → i ≡ from + ahead w n id xs 0 from
     run-full h = ends-here w n id xs wide (suc (get_or xs (i * w - w + 1) 0)) i h ∙ ran.same
 
 -- ---- the scan: the runs
-pub empty-run : (least bound flag count : ℕ) → count ≡ 0 → true ≡ is_run least bound flag count
-unfolding is_run
-empty-run least bound flag count e = sym (ap (λ (b : Bool). b || (leb count bound && leb least flag)) (eq-eqb count 0 e))
-
-module _ (least bound flag count : ℕ) (some : count ≡ 0 → ⊥) where
-  pub long-run : bound < count → false ≡ is_run least bound flag count
-  unfolding is_run
-  long-run h = sym (λ k. ne_eqb count 0 some k || (lt-leb count bound h k && leb least flag))
-
-  pub short-run : count ≤ bound → leb least flag ≡ is_run least bound flag count
-  unfolding is_run
-  short-run h = sym (λ k. ne_eqb count 0 some k || (le-leb count bound h k && leb least flag))
-
 -- the runs of the first i peers end at `from`, and what is left decides
 pub record Scanned (w least bound n p from i : ℕ) (xs peers : List ℕ) : Type 0 where
   pub few : i ≤ p

@@ -27,17 +27,6 @@ use Rattle.records.proofs.Order.AscendingLaws.{asc-only, before-one}
 
 -- ---- as the scan finds it
 module _ (w n : ℕ) (xs peers : List ℕ) where
-  pub starts_none : (p : ℕ) (starts : List ℕ) → p < length starts → Starts w n 0 0 xs peers (set starts 0 0)
-  starts_none p starts h =
-      let first : get_or (set starts 0 0) 0 0 ≡ 0 = get_or-set_same starts 0 0 0 (omega arith) in
-      record {
-        room = omega (arith, length-set starts 0 0);
-        begin = first;
-        end = first;
-        rise = λ i l. absurd (omega arith);
-        own = λ i j l. absurd (omega arith);
-      }
-
   -- the records of a run are of its peer
   run-own : (id from j : ℕ) → from ≤ j → j < from + ahead w n id xs 0 from → first_word (get_or (records w n xs) j []) ≡ id
   run-own id from j h l =
@@ -69,9 +58,6 @@ module _ (w n : ℕ) (xs peers : List ℕ) where
             (omega (arith, ap (λ (m : ℕ). get_or (set starts (i + 1) to) (m + 1) 0) q, new))
             ∙ ap (λ (m : ℕ). get_or peers (m * 12) 0) (sym q));
       }
-
-  pub starts-all : (i from p : ℕ) (starts : List ℕ) → Starts w n i from xs peers starts → i ≡ p → from ≡ n → Starts w n p n xs peers starts
-  starts-all i from p starts s e f = subst (λ (m : ℕ). Starts w n m n xs peers starts) e (subst (λ (m : ℕ). Starts w n i m xs peers starts) f s)
 
 -- ---- the keys of one peer are those from its start up to the next one
 module _ (w n p : ℕ) (xs peers starts : List ℕ) (ready : PeersReady p peers) (s : Starts w n p n xs peers starts) where
@@ -160,10 +146,6 @@ module _ (w n : ℕ) (xs : List ℕ) (id from to : ℕ) (own : OwnRun w n xs id 
   own-those : those first_word id (records w (to - from) part) ≡ those first_word id (records w n xs)
   own-those = ap (those first_word id) part-is ∙ those-twice first_word id (records w n xs)
 
-  -- it is within its table
-  pub own-fits : n * w ≤ length xs → (from ≤ to) × (from * w ≤ to * w) × (to * w ≤ length xs)
-  own-fits fit = (own.ordered, mul-le-mul_right w own.ordered, omega (arith, mul-le-mul_right w own.within))
-
   own-table : KeyTable w n xs → KeyTable w (to - from) part
   unfolding those
   own-table table = record {
@@ -178,9 +160,6 @@ module _ (w n : ℕ) (xs : List ℕ) (id from to : ℕ) (own : OwnRun w n xs id 
   }
 
 -- ---- what is heard from a peer is heard from its own keys
-pub starts-room : (p : PeerDemand) (t : PeerTables) (s : KeyStarts) → Readable p t s → (i : ℕ) → i < p.peers → (i + 1 < length s.snapshot_keys) × (i + 1 < length s.contested)
-starts-room p t s r i h = (omega (arith, r.started.snapshot_keys.room), omega (arith, r.started.contested.room))
-
 pub own-told : (p : PeerDemand) (t : PeerTables) (s : KeyStarts) → Readable p t s → (i : ℕ) → i < p.peers → (o : OwnKeys) → o ≡ own_keys s.snapshot_keys s.contested i → Own p t i o
 own-told p t s r i h o e = subst (Own p t i) (sym e) (record {
   snapshot_keys = own-run 4 p.snapshot_keys p.peers t.snapshot_keys t.peers s.snapshot_keys r.ready.peers r.started.snapshot_keys i h;

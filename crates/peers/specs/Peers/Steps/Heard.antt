@@ -1,29 +1,25 @@
 -- What the private functions of the peers' readers cite. Definitions only.
 use Rattle.std.specs.Prelude.{◌≡◌, ℕ, ◌+◌, ◌*◌, ◌≤◌, Bool, true, not, ◌&&◌, List, length, ◌==◌, from_bits, slice_index}
-use Rattle.std.proofs.Math.Option.{Option, none, some}
 use Rattle.std.specs.Float.{binary32}
 use Rattle.std.proofs.Math.Seq.{slice}
 use Rattle.records.specs.Records.{records, ascending}
 use Rattle.peers.specs.declared.peer_demand.Heard.{Heard}
 use Rattle.peers.specs.declared.peer_demand.PeerDemand.{PeerDemand}
 use Rattle.peers.specs.declared.peer_state.KeyStarts.{KeyStarts}
-use Rattle.peers.specs.declared.peer_state.AskedStarts.{AskedStarts}
 use Rattle.peers.specs.declared.peer_readers.OwnKeys.{OwnKeys}
-use Rattle.peers.specs.declared.peer_heard.Said.{Said}
-use Rattle.peers.specs.declared.peer_heard.Said.TheVariants as said
-use Rattle.questions.specs.Lists.{only, all, any, those}
+use Rattle.questions.specs.Lists.{only, all, any, first, those}
 use Rattle.records.specs.Fields.{flag_of}
 use Rattle.peers.specs.Peers.Records.{SnapshotKey, ContestedKey}
 use Rattle.peers.specs.Peers.State.{PeersState, PeerTables}
 use Rattle.questions.specs.Questions.{first_no}
 use Rattle.peers.specs.Peers.Calls.{peers_questions, each_questions}
-use Rattle.records.specs.Typed.{first_word}
+use Rattle.records.specs.Typed.{first_word, second_word}
+use Rattle.std.specs.declared.option.Option.TheVariants.{Some}
 use Rattle.peers.specs.Peers.Steps.Scan.{are_peer_words, are_key_words, PeersReady, KeysReady, Starts}
-
--- what was heard, if anything
-abbrev pub said_of : Said → Option Heard
-said_of said.Silence = none
-said_of (said.Of h) = some h
+use Rattle.std.specs.declared.result.Result.{Result}
+use Rattle.std.specs.declared.result.Result.TheVariants.{Ok}
+use Rattle.questions.specs.declared.Refusal.{Refusal}
+use Rattle.questions.specs.Refusals.{asked}
 
 -- of the words of a demand and a flag
 abbrev pub heard_of : (demand flag round at : ℕ) → Heard
@@ -44,6 +40,12 @@ pub record KeyTable (w n : ℕ) (xs : List ℕ) : Type 0 where
   pub ready : KeysReady w n xs
   pub ascend : ascending 2 (records w n xs) ≡ true
   pub pass : all (are_key_words w) (records w n xs) ≡ true
+
+-- the words of the one key of the records with these first two words
+pub record KeyIn (w id key : ℕ) (rs : List (List ℕ)) (r : List ℕ) : Type 0 where
+  pub is_first : first (those second_word key (those first_word id rs)) ≡ Some r
+  pub length_is : length r ≡ w
+  pub passes : are_key_words w r ≡ true
 
 pub record StateReady (p : PeerDemand) (t : PeerTables) : Type 0 where
   pub peers : PeersReady p.peers t.peers
@@ -78,12 +80,12 @@ pub record Own (p : PeerDemand) (t : PeerTables) (i : ℕ) (o : OwnKeys) : Type 
 abbrev pub own_keys : List ℕ → List ℕ → ℕ → OwnKeys
 own_keys ks cs i = record { snapshot_from = slice_index ks i; snapshot_to = slice_index ks (i + 1); contested_from = slice_index cs i; contested_to = slice_index cs (i + 1) }
 
--- questions 1 and 2: the number of the first 'no', and where there is none the state can be read
-pub record Asked (p : PeerDemand) (t : PeerTables) (r : AskedStarts) : Type 0 where
-  pub first : r.no ≡ first_no (peers_questions p t)
-  pub ready : r.no ≡ 0 → Readable p t r.starts
+-- questions 1 and 2: the first 'no', and where there is none the starts with which the state can be read
+pub record Asked (p : PeerDemand) (t : PeerTables) (r : Result KeyStarts Refusal) : Type 0 where
+  pub first : asked r ≡ first_no (peers_questions p t)
+  pub ready : (s : KeyStarts) → r ≡ Ok s → Readable p t s
 
--- a call on the keys of many records: the number of its first 'no', by that of questions 1 and 2
-pub record EachAsked (asked len w n room r : ℕ) : Type 0 where
-  pub first : (p : PeerDemand) (t : PeerTables) → asked ≡ first_no (peers_questions p t) → r ≡ first_no (each_questions p t len w n room)
-  pub state : r ≡ 0 → asked ≡ 0
+-- a call on the keys of many records: its first 'no', by the answer to questions 1 and 2; where there is none, it hands on that answer
+pub record EachAsked (starts : Result KeyStarts Refusal) (len w n room : ℕ) (r : Result KeyStarts Refusal) : Type 0 where
+  pub first : (p : PeerDemand) (t : PeerTables) → asked starts ≡ first_no (peers_questions p t) → asked r ≡ first_no (each_questions p t len w n room)
+  pub state : (s : KeyStarts) → r ≡ Ok s → starts ≡ Ok s

@@ -1,6 +1,5 @@
 -- The records that share a first word, in a table or by themselves, as the functions on a peer's keys take and leave them. Definitions only.
 use Rattle.std.specs.Prelude.{◌≡◌, ℕ, ◌*◌, ◌/◌, ◌%◌, ◌^◌, ◌<◌, ◌≤◌, Bool, true, cond, List, [], ◌∷◌, map, length, take, ◌==◌}
-use Rattle.std.proofs.Math.Option.{Option, none, some}
 use Rattle.records.specs.Records.{records, ascending}
 use Rattle.peers.specs.declared.peer_demand.DemandReport.{DemandReport}
 use Rattle.peers.specs.declared.peer_report.Verdict.{Verdict}
@@ -14,6 +13,8 @@ use Rattle.peers.specs.Peers.Steps.Stays.{Valid}
 use Rattle.records.specs.Typed.{Run}
 use Rattle.peers.specs.declared.peer_report.Verdict.TheVariants as verdict
 use Rattle.peers.specs.Peers.Changes as changes
+use Rattle.std.specs.declared.option.Option.{Option}
+use Rattle.std.specs.declared.option.Option.TheVariants.{None, Some}
 
 -- what the records in use stand for
 abbrev pub keys_in : ℕ → List ℕ → List SnapshotKey
@@ -101,13 +102,13 @@ pub record Contestable (n id : ℕ) (keys : List ℕ) (round at : ℕ) (xs : Lis
 
 -- a peer that is not known is one that said nothing (`or_default`)
 abbrev pub or_new : ℕ → Option PeerRecord → PeerRecord
-or_new id none = record { id = id; held_until = none; snapshot = none; past_epochs = [] }
-or_new id (some p) = p
+or_new id None = record { id = id; held_until = None; snapshot = None; past_epochs = [] }
+or_new id (Some p) = p
 
 -- the past epochs once a report of the given epoch is taken
 abbrev pub next_past : ℕ → Option Snapshot → List ℕ → List ℕ
-next_past epoch none past = []
-next_past epoch (some old) past = cond (old.epoch == epoch) past (old.epoch ∷ take 3 past)
+next_past epoch None past = []
+next_past epoch (Some old) past = cond (old.epoch == epoch) past (old.epoch ∷ take 3 past)
 
 -- the verdict with its past epochs
 abbrev pub verdict_with : List ℕ → Verdict → changes.Verdict

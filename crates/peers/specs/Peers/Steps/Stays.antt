@@ -1,6 +1,5 @@
 -- What the steps of a change do to a table: what private functions promise. Definitions only.
 use Rattle.std.specs.Prelude.{◌≡◌, ℕ, Bool, true, not, ◌&&◌, ◌||◌, List, nat_eq}
-use Rattle.std.proofs.Math.Option.{Option}
 use Rattle.records.specs.Records.{find_in}
 use Rattle.peers.specs.declared.peer_demand.PeerDemand.{PeerDemand}
 use Rattle.peers.specs.declared.peer_demand.PeersChanged.{PeersChanged}
@@ -8,12 +7,22 @@ use Rattle.questions.specs.Lists.{any, present}
 use Rattle.peers.specs.Peers.Records.{Snapshot, PeerRecord, ContestedKey}
 use Rattle.peers.specs.Peers.State.{PeerTables, is_held, is_known, lengths, have_room, is_valid}
 use Rattle.peers.specs.Peers.Changes.{hold_ended, not_ended, is_fresh, is_fresh_snapshot, is_exempt}
-use Rattle.records.specs.Typed.{found_or}
-use Rattle.peers.specs.declared.peer_demand.ChangeAnswer.TheVariants as change-answer
+use Rattle.records.specs.declared.Found.{Found}
+use Rattle.records.specs.declared.Found.TheVariants.{At, Gap, Unfit}
+use Rattle.std.specs.declared.option.Option.TheVariants.{None, Some}
+use Rattle.std.specs.declared.option.Option.{Option}
+use Rattle.std.specs.declared.result.Result.TheVariants.{Ok, Err}
+use Rattle.questions.specs.declared.Refusal.{Refusal}
 
--- the place of the peer `id` among the n peers; n, where it is not
-unfoldable pub place_of : (n id : ℕ) → List ℕ → ℕ
-place_of n id xs = found_or n (find_in 12 1 n id 0 xs)
+-- where a search found
+abbrev pub place_in : Found → Option ℕ
+place_in (At i) = Some i
+place_in (Gap i) = None
+place_in Unfit = None
+
+-- the place of the peer `id` among the n peers, if it is there
+unfoldable pub place_of : (n id : ℕ) → List ℕ → Option ℕ
+place_of n id xs = place_in (find_in 12 1 n id 0 xs)
 
 -- a contested key stays: its peer's hold has not ended, and the peer is held or the key was heard lately
 unfoldable pub stays_contested : (at max_age : ℕ) → List PeerRecord → ℕ → ℕ → Bool
@@ -35,8 +44,8 @@ pub record Valid (p : PeerDemand) (t : PeerTables) : Type 0 where
   pub state : is_valid p t ≡ true
 
 -- a 'no' with the peers as they were, and the peers after a change
-abbrev pub refused_with : ℕ → PeerDemand → PeersChanged
-refused_with n p = record { answer = change-answer.No n; peers = p }
+abbrev pub refused_with : Refusal → PeerDemand → PeersChanged
+refused_with e p = record { answer = Err e; peers = p }
 
 abbrev pub done_with : PeerDemand → PeersChanged
-done_with p = record { answer = change-answer.Done; peers = p }
+done_with p = record { answer = (Ok tt); peers = p }

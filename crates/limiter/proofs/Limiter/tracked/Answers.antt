@@ -1,0 +1,21 @@
+-- Question by question, and then the value.
+use mathlib.Core.Path.{refl}
+use Rattle.limiter.proofs.Checking.ReadyLaws.{lent-keys}
+use Rattle.questions.proofs.RefusalLaws.{refusal-is}
+use Rattle.limiter.proofs.Reading.ReaderLaws.{past, tells}
+use Rattle.limiter.specs.State.{tables, state_of, units_for}
+use Rattle.limiter.proofs.Limiter.tracked.Goals as goal
+
+pub returns-in_err-ask : goal.returns-in_err-ask
+returns-in_err-ask c = refusal-is _ _ c.in_err-ask.ensures _ c.from_residual.ensures.1 _
+
+pub is_tracked-requires : goal.is_tracked-requires
+unfolding units_for
+is_tracked-requires c =
+    let s = c.args in
+    let p = past s.self (tables s.keys.now s.hot.now s.shadows.now) _ c.in_ok-ask.ensures refl in
+    lent-keys s.self (tables s.keys.now s.hot.now s.shadows.now) p.room p.ok
+
+pub returns : goal.returns
+unfolding state_of units_for
+returns c = let s = c.args in tells s.self (tables s.keys.now s.hot.now s.shadows.now) (past s.self (tables s.keys.now s.hot.now s.shadows.now) _ c.in_ok-ask.ensures refl) _ _ c.is_tracked.ensures

@@ -1,0 +1,20 @@
+-- By the words, then by the answer.
+use mathlib.Core.Path.{refl}
+use mathlib.Core.Bool.{true}
+use Rattle.nultiway.proofs.Calls.CallLaws.{refused-call, passed-call, tells}
+use Rattle.nultiway.proofs.Words.DemandWordLaws.{demand-passed}
+use Rattle.nultiway.proofs.demand_calls.nultiway_demand_record_attempts.Goals as goal
+
+pub returns-then-no-ne0 : goal.returns-then-no-ne0
+returns-then-no-ne0 c = refused-call _ _ c.ask_demand-no.ensures c.if-no-ne0.true refl
+
+pub demand_of-before-requires : goal.demand_of-before-requires
+demand_of-before-requires c = (let a = c.args in demand-passed a.demand.now true c.ask_demand-no.ensures c.if-no-ne0.false).long
+
+pub put_answer-requires : goal.put_answer-requires
+put_answer-requires c = (let a = c.args in demand-passed a.demand.now true c.ask_demand-no.ensures c.if-no-ne0.false).long
+
+pub returns : goal.returns
+returns c =
+    passed-call _ _ (let a = c.args in demand-passed a.demand.now true c.ask_demand-no.ensures c.if-no-ne0.false).all
+    (tells c.demand_of-before.ensures c.record_attempts.result c.record_attempts.ensures c.put_answer.ensures.value c.put_answer.ensures.to_after)

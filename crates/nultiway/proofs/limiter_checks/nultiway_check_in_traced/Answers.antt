@@ -1,0 +1,22 @@
+use mathlib.Core.Path.{refl}
+use borrow.Author.Tests.{leb-true}
+use Rattle.nultiway.proofs.Calls.CallLaws.{refused-call, passed-call, opened, answers}
+use Rattle.nultiway.proofs.limiter_checks.nultiway_check_in_traced.Goals as goal
+
+pub returns-then-no-ne0 : goal.returns-then-no-ne0
+returns-then-no-ne0 c = refused-call _ _ c.ask_limiter-no.ensures c.if-no-ne0.true (refl, refl, refl)
+
+pub limiter_of-before-requires : goal.limiter_of-before-requires
+limiter_of-before-requires c = (opened _ _ _ _ c.ask_limiter-no.ensures c.if-no-ne0.false).long
+
+pub put_limiter-requires : goal.put_limiter-requires
+put_limiter-requires c = (opened _ _ _ _ c.ask_limiter-no.ensures c.if-no-ne0.false).long
+
+pub put_answer-requires : goal.put_answer-requires
+put_answer-requires c = leb-true _ _ (opened _ _ _ _ c.ask_limiter-no.ensures c.if-no-ne0.false).others
+
+pub returns : goal.returns
+returns c =
+    passed-call _ _ (opened _ _ _ _ c.ask_limiter-no.ensures c.if-no-ne0.false).passed
+    (answers (λ i. (c.limiter_of-before.ensures i, c.shadow_given-shadow.ensures i)) c.check_in_traced-checked.result c.check_in_traced-checked.ensures
+    c.put_answer.ensures.value c.put_limiter.ensures c.put_answer.ensures.to_after)

@@ -1,0 +1,10 @@
+use Rattle.std.proofs.Common.{◌≡◌, ℕ, length, replicate, sym}
+use Rattle.std.proofs.Math.ListN.{length-replicate}
+use Rattle.replay.proofs.main.Goals as goal
+
+-- Stated of any number: one so large is not to be counted up to.
+zeros : (n : ℕ) → n ≡ length {A = ℕ} (replicate n 0)
+zeros n = sym (length-replicate n 0)
+
+pub slice_bounds-start-end : goal.slice_bounds-start-end
+slice_bounds-start-end c = zeros 3145729

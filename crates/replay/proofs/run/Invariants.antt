@@ -1,9 +1,0 @@
--- `replay::run` ends. The measure is the number of turns that are left.
-use Rattle.std.proofs.Common.{◌≡◌, length}
-use Rattle.replay.proofs.run.Given as goal
-
-abbrev pub invariant-loop-turns : goal.invariant-loop-turns
-invariant-loop-turns g l = length l.input ≡ length l.initial.input
-
-abbrev pub decreases-loop-turns : goal.decreases-loop-turns
-decreases-loop-turns g l = l.turns
