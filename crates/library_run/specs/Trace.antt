@@ -1,7 +1,7 @@
 -- The calls of a run through the library, and its answers as the caller reads them, number and words: a list of `run`, of which the checks of each key
 -- are counted. Definitions only.
 use Rattle.std.specs.Prelude.{ℕ, Bool, true, cond, ◌&&◌, List, [], ◌∷◌, leb, eqb, length, get_or}
-use Rattle.questions.specs.Questions.{passes}
+use Rattle.questions.specs.Questions.{Answer, refused, given, passes}
 use Rattle.gcra.specs.declared.Decision.{Decision}
 use Rattle.gcra.specs.declared.Decision.TheVariants.{Allow, Deny}
 use Rattle.peers.specs.declared.peer_demand.DemandReport.{DemandReport}
@@ -12,10 +12,6 @@ use Rattle.nultiway.specs.Values.{limiter_width, peers_width}
 use Rattle.nultiway.specs.PeerCalls.{report_of, report_asked}
 use Rattle.library_run.specs.Calls.{Lent, Call, Said, Output}
 use Rattle.library_run.specs.Runs.{Move, Shown}
-use Rattle.std.specs.declared.result.Result.{Result}
-use Rattle.std.specs.declared.result.Result.TheVariants.{Ok, Err}
-use Rattle.questions.specs.declared.Refusal.{Refusal}
-use Rattle.questions.specs.Refusals.{refusal_of}
 
 -- ---- the call
 
@@ -82,8 +78,8 @@ call_in c = record { lent = tables_lent c c.what; what = what_of c.report c.what
 abbrev pub decision_in : List ℕ → Decision
 decision_in ws = cond (eqb (get_or ws 0 0) 0) Allow (Deny (get_or ws 1 0))
 
-abbrev pub change_in : ℕ → Result Unit Refusal
-change_in r = cond (eqb r 0) (Ok tt) (Err (refusal_of r))
+abbrev pub change_in : ℕ → Answer Unit
+change_in r = cond (eqb r 0) (given tt) (refused r)
 
 -- the words of an output: a `nultiway_check_each` that answers 0 has written three for each check
 abbrev pub words_in : Output → List ℕ
@@ -95,7 +91,7 @@ words_in (Output.flags bs) = []
 -- the number, and where it is 0 the decision of a check, or the output of many checks
 abbrev pub reply_of : Sort → Said → Reply
 reply_of (Sort.one_check key now) s =
-    Reply.decided (cond (eqb s.number 0) (Ok (decision_in s.answer)) (Err (refusal_of s.number)))
+    Reply.decided (cond (eqb s.number 0) (given (decision_in s.answer)) (refused s.number))
 reply_of (Sort.many_checks list n) s = Reply.decided-each (change_in s.number) (words_in s.output)
 reply_of (Sort.timed now) s = Reply.done (change_in s.number)
 reply_of Sort.timeless s = Reply.done (change_in s.number)

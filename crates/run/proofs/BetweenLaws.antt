@@ -36,7 +36,6 @@ use Rattle.limiter.proofs.Calls.BetweenTickLaws.{entry_key}
 use Rattle.limiter.proofs.LimiterTheorems.{one-settings}
 use Rattle.run.proofs.Count.TraceTurns.{taken, done-passed}
 use Rattle.run.proofs.Standing.Stands.{Stands}
-use Rattle.run.proofs.Standing.KnownLaws.{asked-back}
 use Rattle.run.proofs.Standing.Replied.{replied_to, replied}
 use Rattle.run.proofs.Standing.Began.{started-stands}
 use Rattle.run.proofs.Standing.Shows.{next, shown_by, goes_on, run-shows}
@@ -189,7 +188,7 @@ module _ (key : ℕ) where
       (meter_of (after n (What.changes x) s))
   unfolding asked made replied_to table
   many-follows n list count m out s =
-      rw (done-passed (asked n (Change.check-each list count m out) s) _ (asked-back n (Change.check-each list count m out) s tt))
+      rw (done-passed (asked n (Change.check-each list count m out) s))
       (split (passes (asked n (Change.check-each list count m out) s)) (λ p. rw p (each-follows m (records 2 count list) s.limiter _))
       (λ p. rw p nothing))
 
@@ -197,13 +196,12 @@ module _ (key : ℕ) where
       → Follows (meter_of s) (decided_in key (What.changes x) (replied_to n x s)) (meter_of (after n (What.changes x) s))
   unfolding asked made replied_to
   call-follows n (Change.check k now m) s w =
-      one-call meter_of (asked n (Change.check k now m) s) k now _ _ (asked-back n (Change.check k now m) s _) (λ p. check-follows s.limiter k (own_limit s.limiter) now m)
+      one-call meter_of (asked n (Change.check k now m) s) k now _ _ refl (λ p. check-follows s.limiter k (own_limit s.limiter) now m)
   call-follows n (Change.check-in k z now m) s w =
-      one-call meter_of (asked n (Change.check-in k z now m) s) k now _ _ (asked-back n (Change.check-in k z now m) s _) (λ p. check-follows s.limiter k z now m)
+      one-call meter_of (asked n (Change.check-in k z now m) s) k now _ _ refl (λ p. check-follows s.limiter k z now m)
   call-follows n (Change.check-traced k z y now m) s w =
       one-call meter_of (asked n (Change.check-traced k z y now m) s) k now _ _
-      (ap meters (asked-back n (Change.check-traced k z y now m) s _)
-      ∙ meters-answer (asked n (Change.check-traced k z y now m) s)
+      (meters-answer (asked n (Change.check-traced k z y now m) s)
       (record { decision = key_decision (units_of s.limiter.settings) s.limiter k z now m; shadow = shadow_decision (units_of s.limiter.settings) s.limiter k z y now m }))
       (λ p. traced-follows s.limiter k z y now m)
   call-follows n (Change.check-each list count m out) s w = many-follows n list count m out s

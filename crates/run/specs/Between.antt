@@ -15,7 +15,6 @@ use Rattle.run.specs.Run.{Change, What, Reply, Memory, Resume, Move, Shown, Runs
 use Rattle.run.specs.Typed.{typed_config, typed_move}
 use Rattle.run.specs.Trace.{Sort, sort, meters, is_done, output_of, new_states, state_after}
 use Rattle.std.specs.declared.option.Option.TheVariants.{Some}
-use Rattle.questions.specs.Refusals.{answer_of}
 
 -- a check that is not refused: its reading, and what the program answered
 pub record Decided : Type 0 where
@@ -27,8 +26,8 @@ decided_at at (refused n) = []
 decided_at at (given d) = record { at = at; decision = d } ∷ []
 
 abbrev pub decision_in : Reply → Answer Decision
-decision_in (Reply.decided r) = answer_of r
-decision_in (Reply.traced r) = meters (answer_of r)
+decision_in (Reply.decided r) = r
+decision_in (Reply.traced r) = meters r
 decision_in (Reply.decided-each r out) = refused 0
 decision_in (Reply.done r) = refused 0
 decision_in (Reply.tells r) = refused 0

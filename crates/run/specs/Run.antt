@@ -19,7 +19,9 @@ use Rattle.image.specs.Calls.{here, Saves, Loads}
 use Rattle.std.specs.declared.option.Option.{Option}
 use Rattle.std.specs.declared.result.Result.{Result}
 use Rattle.std.specs.declared.result.Result.TheVariants.{Ok}
+use Rattle.questions.specs.Questions.{Answer}
 use Rattle.questions.specs.declared.Refusal.{Refusal}
+use Rattle.questions.specs.Refusals.{answer_of}
 use Rattle.gcra.specs.declared.Quota.{Quota}
 use Rattle.gcra.specs.declared.Decision.{Decision}
 use Rattle.limiter.specs.declared.KeyRates.{KeyRates}
@@ -92,10 +94,10 @@ pub data Told : Type 0 where
   number : ℕ → Told
 
 pub data Reply : Type 0 where
-  decided : Result Decision Refusal → Reply
-  traced : Result Traced Refusal → Reply
-  decided-each : Result Unit Refusal → List ℕ → Reply
-  done : Result Unit Refusal → Reply
+  decided : Answer Decision → Reply
+  traced : Answer Traced → Reply
+  decided-each : Answer Unit → List ℕ → Reply
+  done : Answer Unit → Reply
   tells : Told → Reply
 
 -- ---- what the program holds: 'the limiter's state, the peers' state and the tables'
@@ -115,42 +117,42 @@ with_peers h p t = record { limiter = h.limiter; tables = h.tables; peers = p; p
 -- what each call does to what it is lent: its function's promise
 pub data Does (h : Memory) : Change → Reply → Memory → Type 0 where
   checks :
-      {key now n : ℕ} {r : Checked} {t : LimiterTables} → limiter.Checks h.limiter h.tables key now n r t
-      → Does h (check key now n) (decided r.answer) (with_limiter h r.limiter t)
+      {key now n : ℕ} {t : LimiterTables} (r : Checked) → limiter.Checks h.limiter h.tables key now n r t
+      → Does h (check key now n) (decided (answer_of r.answer)) (with_limiter h r.limiter t)
   checks_in :
-      {key now n : ℕ} {x : Limit} {r : Checked} {t : LimiterTables} → limiter.ChecksIn h.limiter h.tables key x now n r t
-      → Does h (check-in key x now n) (decided r.answer) (with_limiter h r.limiter t)
+      {key now n : ℕ} {x : Limit} {t : LimiterTables} (r : Checked) → limiter.ChecksIn h.limiter h.tables key x now n r t
+      → Does h (check-in key x now n) (decided (answer_of r.answer)) (with_limiter h r.limiter t)
   checks_traced :
-      {key now n : ℕ} {x : Limit} {y : Option Limit} {r : TracedCheck} {t : LimiterTables}
+      {key now n : ℕ} {x : Limit} {y : Option Limit} {t : LimiterTables} (r : TracedCheck)
       → limiter.ChecksTraced h.limiter h.tables key x y now n r t
-      → Does h (check-traced key x y now n) (traced r.answer) (with_limiter h r.limiter t)
+      → Does h (check-traced key x y now n) (traced (answer_of r.answer)) (with_limiter h r.limiter t)
   checks_each :
-      {count n : ℕ} {list out out' : List ℕ} {r : Changed} {t : LimiterTables} → limiter.ChecksEach h.limiter h.tables list count n out r t out'
-      → Does h (check-each list count n out) (decided-each r.answer out') (with_limiter h r.limiter t)
+      {count n : ℕ} {list out out' : List ℕ} {t : LimiterTables} (r : Changed) → limiter.ChecksEach h.limiter h.tables list count n out r t out'
+      → Does h (check-each list count n out) (decided-each (answer_of r.answer) out') (with_limiter h r.limiter t)
   tallies :
-      {key now n : ℕ} {y : Tally} {x : Limit} {r : Changed} {t : LimiterTables} → limiter.Records h.limiter h.tables key y x now n r t
-      → Does h (tally key y x now n) (done r.answer) (with_limiter h r.limiter t)
+      {key now n : ℕ} {y : Tally} {x : Limit} {t : LimiterTables} (r : Changed) → limiter.Records h.limiter h.tables key y x now n r t
+      → Does h (tally key y x now n) (done (answer_of r.answer)) (with_limiter h r.limiter t)
   sets_cap :
-      {x : Option Float} {r : Changed} → limiter.SetsCap h.limiter h.tables x r
-      → Does h (set-cap x) (done r.answer) (with_limiter h r.limiter h.tables)
+      {x : Option Float} (r : Changed) → limiter.SetsCap h.limiter h.tables x r
+      → Does h (set-cap x) (done (answer_of r.answer)) (with_limiter h r.limiter h.tables)
   ticks :
-      {now n : ℕ} {r : Changed} {t : LimiterTables} → limiter.Ticks h.limiter h.tables now n r t
-      → Does h (tick now n) (done r.answer) (with_limiter h r.limiter t)
+      {now n : ℕ} {t : LimiterTables} (r : Changed) → limiter.Ticks h.limiter h.tables now n r t
+      → Does h (tick now n) (done (answer_of r.answer)) (with_limiter h r.limiter t)
   ticks_with_shares :
-      {now n : ℕ} {r : Changed} {t : LimiterTables} → limiter.TicksWithShares h.limiter h.tables h.peers h.peer_tables now n r t
-      → Does h (tick-with-shares now n) (done r.answer) (with_limiter h r.limiter t)
+      {now n : ℕ} {t : LimiterTables} (r : Changed) → limiter.TicksWithShares h.limiter h.tables h.peers h.peer_tables now n r t
+      → Does h (tick-with-shares now n) (done (answer_of r.answer)) (with_limiter h r.limiter t)
   reports :
-      {sender now : ℕ} {x : DemandReport} {r : PeersChanged} {t : PeerTables} → peers.Applies h.peers h.peer_tables sender x now r t
-      → Does h (report sender x now) (done r.answer) (with_peers h r.peers t)
+      {sender now : ℕ} {x : DemandReport} {t : PeerTables} (r : PeersChanged) → peers.Applies h.peers h.peer_tables sender x now r t
+      → Does h (report sender x now) (done (answer_of r.answer)) (with_peers h r.peers t)
   forgets :
-      {peer : ℕ} {r : PeersChanged} {t : PeerTables} → peers.Forgets h.peers h.peer_tables peer r t
-      → Does h (forget peer) (done r.answer) (with_peers h r.peers t)
+      {peer : ℕ} {t : PeerTables} (r : PeersChanged) → peers.Forgets h.peers h.peer_tables peer r t
+      → Does h (forget peer) (done (answer_of r.answer)) (with_peers h r.peers t)
   leaves :
-      {peer now hold : ℕ} {r : PeersChanged} {t : PeerTables} → peers.Leaves h.peers h.peer_tables peer now hold r t
-      → Does h (leave peer now hold) (done r.answer) (with_peers h r.peers t)
+      {peer now hold : ℕ} {t : PeerTables} (r : PeersChanged) → peers.Leaves h.peers h.peer_tables peer now hold r t
+      → Does h (leave peer now hold) (done (answer_of r.answer)) (with_peers h r.peers t)
   expires :
-      {now max_age : ℕ} {r : PeersChanged} {t : PeerTables} → peers.Expires h.peers h.peer_tables now max_age r t
-      → Does h (expire now max_age) (done r.answer) (with_peers h r.peers t)
+      {now max_age : ℕ} {t : PeerTables} (r : PeersChanged) → peers.Expires h.peers h.peer_tables now max_age r t
+      → Does h (expire now max_age) (done (answer_of r.answer)) (with_peers h r.peers t)
 
 pub data Tells (h : Memory) : Query → Told → Type 0 where
   tells_rates : {key : ℕ} {r : Result (Option KeyRates) Refusal} → limiter.TellsRates h.limiter h.tables key r → Tells h (key_rates key) (rates r)

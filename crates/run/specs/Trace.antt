@@ -22,10 +22,6 @@ use Rattle.image.specs.Image.{State, valid}
 use Rattle.run.specs.Seen.{Seen}
 use Rattle.run.specs.Run.{Change, What, Lent, Reply, Move, Shown}
 use Rattle.std.specs.declared.option.Option.{Option}
-use Rattle.std.specs.declared.result.Result.{Result}
-use Rattle.std.specs.declared.result.Result.TheVariants.{Ok, Err}
-use Rattle.questions.specs.declared.Refusal.{Refusal}
-use Rattle.questions.specs.Refusals.{answer_of}
 use Rattle.limiter.specs.declared.Traced.{Traced}
 
 -- ---- the calls on the definitions' state
@@ -131,8 +127,8 @@ meters (refused n) = refused n
 meters (given d) = given d.decision
 
 abbrev pub allowed_by : Reply → ℕ
-allowed_by (Reply.decided r) = allows (answer_of r)
-allowed_by (Reply.traced r) = allows (meters (answer_of r))
+allowed_by (Reply.decided r) = allows r
+allowed_by (Reply.traced r) = allows (meters r)
 allowed_by (Reply.decided-each r out) = 0
 allowed_by (Reply.done r) = 0
 allowed_by (Reply.tells r) = 0
@@ -146,9 +142,9 @@ output_of (Reply.done r) = []
 output_of (Reply.tells r) = []
 
 -- whether a call on many was done, by its answer
-abbrev pub was_done : Result Unit Refusal → Bool
-was_done (Err x) = false
-was_done (Ok x) = true
+abbrev pub was_done : Answer Unit → Bool
+was_done (refused n) = false
+was_done (given x) = true
 
 abbrev pub is_done : Reply → Bool
 is_done (Reply.decided r) = false

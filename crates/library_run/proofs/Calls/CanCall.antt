@@ -72,18 +72,18 @@ module _ (b : Buffers) (a w : List ℕ) (l : Limiter) (p : PeerDemand) where
   change-made :
       (x : Change) {r : Reply} {m : Memory} → passes (own b w (change_takes a x).needs) ≡ true → run.Does (looks_at (part (change_takes a x).needs) b l p) (reported w x) r m
       → Changed x
-  change-made (Change.check key now n) e (run.Does.checks {r = r} c) = (_, _, calls.Does.check (answers_by e r c))
-  change-made (Change.check-in key x now n) e (run.Does.checks_in {r = r} c) = (_, _, calls.Does.check-in (answers_by e r c))
-  change-made (Change.check-traced key x y now n) e (run.Does.checks_traced {r = r} c) = (_, _, calls.Does.check_in_traced (answers_by e r c))
-  change-made (Change.check-each list count n out) e (run.Does.checks_each {r = r} c) = (_, _, calls.Does.check-each (changes-by e r c))
-  change-made (Change.tally key y x now n) e (run.Does.tallies {r = r} c) = (_, _, calls.Does.record-tally (changes-by e r c))
-  change-made (Change.set-cap x) e (run.Does.sets_cap {r = r} c) = (_, _, calls.Does.set-cap (changes-by e r c))
-  change-made (Change.tick now n) e (run.Does.ticks {r = r} c) = (_, _, calls.Does.tick (changes-by e r c))
-  change-made (Change.tick-with-shares now n) e (run.Does.ticks_with_shares {r = r} c) = (_, _, calls.Does.tick-with-shares (changes-by e r c))
-  change-made (Change.report sender x now) e (run.Does.reports {r = r} c) = (_, _, calls.Does.peers-apply (changes-by e r c))
-  change-made (Change.forget peer) e (run.Does.forgets {r = r} c) = (_, _, calls.Does.peers-forget (changes-by e r c))
-  change-made (Change.leave peer now hold) e (run.Does.leaves {r = r} c) = (_, _, calls.Does.peers-leave (changes-by e r c))
-  change-made (Change.expire now max_age) e (run.Does.expires {r = r} c) = (_, _, calls.Does.peers-expire (changes-by e r c))
+  change-made (Change.check key now n) e (run.Does.checks r c) = (_, _, calls.Does.check (answers_by e r c))
+  change-made (Change.check-in key x now n) e (run.Does.checks_in r c) = (_, _, calls.Does.check-in (answers_by e r c))
+  change-made (Change.check-traced key x y now n) e (run.Does.checks_traced r c) = (_, _, calls.Does.check_in_traced (answers_by e r c))
+  change-made (Change.check-each list count n out) e (run.Does.checks_each r c) = (_, _, calls.Does.check-each (changes-by e r c))
+  change-made (Change.tally key y x now n) e (run.Does.tallies r c) = (_, _, calls.Does.record-tally (changes-by e r c))
+  change-made (Change.set-cap x) e (run.Does.sets_cap r c) = (_, _, calls.Does.set-cap (changes-by e r c))
+  change-made (Change.tick now n) e (run.Does.ticks r c) = (_, _, calls.Does.tick (changes-by e r c))
+  change-made (Change.tick-with-shares now n) e (run.Does.ticks_with_shares r c) = (_, _, calls.Does.tick-with-shares (changes-by e r c))
+  change-made (Change.report sender x now) e (run.Does.reports r c) = (_, _, calls.Does.peers-apply (changes-by e r c))
+  change-made (Change.forget peer) e (run.Does.forgets r c) = (_, _, calls.Does.peers-forget (changes-by e r c))
+  change-made (Change.leave peer now hold) e (run.Does.leaves r c) = (_, _, calls.Does.peers-leave (changes-by e r c))
+  change-made (Change.expire now max_age) e (run.Does.expires r c) = (_, _, calls.Does.peers-expire (changes-by e r c))
 
   -- ---- a call that reads
 

@@ -52,10 +52,10 @@ told_in (Told.flags r out) a = said (number_of (answer_of r)) a (Output.flags ou
 told_in (Told.number n) a = said n a Output.nothing
 
 abbrev pub said_in : Reply → List ℕ → Said
-said_in (Reply.decided r) a = put decision_words (answer_of r) Output.nothing a
-said_in (Reply.traced r) a = put traced_words (answer_of r) Output.nothing a
-said_in (Reply.decided-each r out) a = said (number_of (answer_of r)) a (Output.words out)
-said_in (Reply.done r) a = said (number_of (answer_of r)) a Output.nothing
+said_in (Reply.decided r) a = put decision_words r Output.nothing a
+said_in (Reply.traced r) a = put traced_words r Output.nothing a
+said_in (Reply.decided-each r out) a = said (number_of r) a (Output.words out)
+said_in (Reply.done r) a = said (number_of r) a Output.nothing
 said_in (Reply.tells r) a = told_in r a
 
 -- ---- a call that its own questions let pass
@@ -142,13 +142,13 @@ module _ (b : Buffers) (a : List ℕ) {qs : List Question} {r : ℕ} {m : Memory
       {x : Change} {B : Type 0} {promise : B → Changed → Type 0} {v : B} {ws : List ℕ} {t : LimiterTables}
       → Called qs r ((ws ≡ b.limiter) × (t ≡ b.tables))
       (Changes promise v (λ (y : Changed). answer_of y.answer) (λ (y : Changed). limiter_words y.limiter) b.limiter r ws)
-      → ((y : Changed) → promise v y → run.Does m x (Reply.done y.answer) (run.with_limiter m y.limiter t))
+      → ((y : Changed) → promise v y → run.Does m x (Reply.done (answer_of y.answer)) (run.with_limiter m y.limiter t))
       → let s = said r a Output.nothing in
       Called qs r (Same b a Output.nothing s (with_limiter b ws t)) (Changing Written.limiter m b a x s (with_limiter b ws t))
   limiter-done {t = t} c does =
       through c (λ u. (refl, refl, λ i. with_limiter b (u.0 i) (u.1 i)))
       (λ k. record {
-        reply = Reply.done k.result.answer;
+        reply = Reply.done (answer_of k.result.answer);
         after = _;
         does = does k.result k.kept;
         says = λ i. said (k.number i) a Output.nothing;
@@ -161,13 +161,13 @@ module _ (b : Buffers) (a : List ℕ) {qs : List Question} {r : ℕ} {m : Memory
       {x : Change} {B : Type 0} {promise : B → PeersChanged → Type 0} {v : B} {ps : List ℕ} {t : PeerTables}
       → Called qs r ((ps ≡ b.peers) × (t ≡ b.peer_tables))
       (Changes promise v (λ (y : PeersChanged). answer_of y.answer) (λ (y : PeersChanged). peers_words y.peers) b.peers r ps)
-      → ((y : PeersChanged) → promise v y → run.Does m x (Reply.done y.answer) (run.with_peers m y.peers t))
+      → ((y : PeersChanged) → promise v y → run.Does m x (Reply.done (answer_of y.answer)) (run.with_peers m y.peers t))
       → let s = said r a Output.nothing in
       Called qs r (Same b a Output.nothing s (with_peers b ps t)) (Changing Written.peers m b a x s (with_peers b ps t))
   peers-done {t = t} c does =
       through c (λ u. (refl, refl, λ i. with_peers b (u.0 i) (u.1 i)))
       (λ k. record {
-        reply = Reply.done k.result.answer;
+        reply = Reply.done (answer_of k.result.answer);
         after = _;
         does = does k.result k.kept;
         says = λ i. said (k.number i) a Output.nothing;
@@ -209,30 +209,30 @@ module _ (b : Buffers) (a w : List ℕ) (l : Limiter) (p : PeerDemand) where
       Called (own b w k.needs) s.number (Same b a k.output s b')
       (Changing (written (part k.needs)) (looks_at (part k.needs) b l p) b a (reported w x) s b')
   changes-refined (Change.check key now n) (calls.Does.check c) =
-      limiter-answers b a (λ y. Reply.decided y.answer) (λ y. y.limiter) c (λ y k. run.Does.checks k) (λ y. refl)
+      limiter-answers b a (λ y. Reply.decided (answer_of y.answer)) (λ y. y.limiter) c (λ y k. run.Does.checks y k) (λ y. refl)
   changes-refined (Change.check-in key x now n) (calls.Does.check-in c) =
-      limiter-answers b a (λ y. Reply.decided y.answer) (λ y. y.limiter) c (λ y k. run.Does.checks_in k) (λ y. refl)
+      limiter-answers b a (λ y. Reply.decided (answer_of y.answer)) (λ y. y.limiter) c (λ y k. run.Does.checks_in y k) (λ y. refl)
   changes-refined (Change.check-traced key x y now n) (calls.Does.check_in_traced c) =
-      limiter-answers b a (λ y. Reply.traced y.answer) (λ y. y.limiter) c (λ y k. run.Does.checks_traced k) (λ y. refl)
+      limiter-answers b a (λ y. Reply.traced (answer_of y.answer)) (λ y. y.limiter) c (λ y k. run.Does.checks_traced y k) (λ y. refl)
   changes-refined (Change.check-each list count n out) (calls.Does.check-each {out' = out'} {t = t} c) =
       through c (λ u. (refl, (λ i. Output.words (u.2 i)), λ i. with_limiter b (u.0 i) (u.1 i)))
       (λ k. record {
-        reply = Reply.decided-each k.result.answer out';
+        reply = Reply.decided-each (answer_of k.result.answer) out';
         after = _;
-        does = run.Does.checks_each k.kept;
+        does = run.Does.checks_each k.result k.kept;
         says = λ i. said (k.number i) a (Output.words out');
         words = λ i. with_limiter b (k.value i) t;
         kept = refl;
       })
-  changes-refined (Change.tally key y x now n) (calls.Does.record-tally c) = limiter-done b a c (λ y k. run.Does.tallies k)
+  changes-refined (Change.tally key y x now n) (calls.Does.record-tally c) = limiter-done b a c (λ y k. run.Does.tallies y k)
   changes-refined (Change.set-cap x) (calls.Does.set-cap c) =
-      limiter-done b a (through c (λ u. (u, refl)) (λ k. k)) (λ y k. run.Does.sets_cap k)
-  changes-refined (Change.tick now n) (calls.Does.tick c) = limiter-done b a c (λ y k. run.Does.ticks k)
-  changes-refined (Change.tick-with-shares now n) (calls.Does.tick-with-shares c) = limiter-done b a c (λ y k. run.Does.ticks_with_shares k)
-  changes-refined (Change.report sender x now) (calls.Does.peers-apply c) = peers-done b a c (λ y k. run.Does.reports k)
-  changes-refined (Change.forget peer) (calls.Does.peers-forget c) = peers-done b a c (λ y k. run.Does.forgets k)
-  changes-refined (Change.leave peer now hold) (calls.Does.peers-leave c) = peers-done b a c (λ y k. run.Does.leaves k)
-  changes-refined (Change.expire now max_age) (calls.Does.peers-expire c) = peers-done b a c (λ y k. run.Does.expires k)
+      limiter-done b a (through c (λ u. (u, refl)) (λ k. k)) (λ y k. run.Does.sets_cap y k)
+  changes-refined (Change.tick now n) (calls.Does.tick c) = limiter-done b a c (λ y k. run.Does.ticks y k)
+  changes-refined (Change.tick-with-shares now n) (calls.Does.tick-with-shares c) = limiter-done b a c (λ y k. run.Does.ticks_with_shares y k)
+  changes-refined (Change.report sender x now) (calls.Does.peers-apply c) = peers-done b a c (λ y k. run.Does.reports y k)
+  changes-refined (Change.forget peer) (calls.Does.peers-forget c) = peers-done b a c (λ y k. run.Does.forgets y k)
+  changes-refined (Change.leave peer now hold) (calls.Does.peers-leave c) = peers-done b a c (λ y k. run.Does.leaves y k)
+  changes-refined (Change.expire now max_age) (calls.Does.peers-expire c) = peers-done b a c (λ y k. run.Does.expires y k)
 
   pub reads-refined :
       (x : Query) {s : Said} → calls.Tells b a x s

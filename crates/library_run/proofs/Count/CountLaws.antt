@@ -18,13 +18,11 @@ use Rattle.run.specs.Run as run
 use Rattle.run.specs.Run.{Change, What, Reply}
 use Rattle.run.specs.Seen.{Seen, KeepsToTheBound, Premises, NeverLowered}
 use Rattle.run.specs.Trace.{asked, made, after, Sort, sort, seen_of, seen_in, seen, if_key, trace, new_states, allows, meters}
-use Rattle.questions.proofs.RefusalLaws.{are_known, result_of, tested-back}
-use Rattle.run.proofs.Standing.KnownLaws.{asked-known}
 use Rattle.run.proofs.Standing.Replied.{replied_to, replied}
 use Rattle.run.proofs.Standing.Shows as values
 use Rattle.run.proofs.Count.TraceTurns as turns
 use Rattle.run.proofs.Count.TraceTurns.{taken, done-passed}
-use Rattle.nultiway.specs.Calls.{number_of, decision_words}
+use Rattle.nultiway.specs.Calls.{decision_words}
 use Rattle.nultiway.proofs.Calls.CallLaws.{number-first}
 use Rattle.library_run.specs.Calls.{Call, Said, said}
 use Rattle.library_run.specs.Runs.{Move}
@@ -41,11 +39,11 @@ use Rattle.limiter.specs.declared.Traced.{Traced}
 -- ---- the definitions' reply to a change, by what is counted of it
 
 data Replies (qs : List Question) : Sort → Reply → Type 0 where
-  decides : {k now : ℕ} (d : Decision) → Replies qs (Sort.one_check k now) (Reply.decided (result_of (answer qs d)))
-  traces : {k now : ℕ} (d : Traced) → Replies qs (Sort.one_check k now) (Reply.traced (result_of (answer qs d)))
-  decides_each : {rs : List (List ℕ)} {m : ℕ} {out : List ℕ} → Replies qs (Sort.many_checks rs m) (Reply.decided-each (result_of (answer qs tt)) out)
-  does_at : {now : ℕ} → Replies qs (Sort.timed now) (Reply.done (result_of (answer qs tt)))
-  does : Replies qs Sort.timeless (Reply.done (result_of (answer qs tt)))
+  decides : {k now : ℕ} (d : Decision) → Replies qs (Sort.one_check k now) (Reply.decided (answer qs d))
+  traces : {k now : ℕ} (d : Traced) → Replies qs (Sort.one_check k now) (Reply.traced (answer qs d))
+  decides_each : {rs : List (List ℕ)} {m : ℕ} {out : List ℕ} → Replies qs (Sort.many_checks rs m) (Reply.decided-each (answer qs tt) out)
+  does_at : {now : ℕ} → Replies qs (Sort.timed now) (Reply.done (answer qs tt))
+  does : Replies qs Sort.timeless (Reply.done (answer qs tt))
 
 replies : (n : run.Lent) (s : State) (x : Change) → Replies (asked n x s) (sort x) (replied_to n x s)
 unfolding replied_to
@@ -63,12 +61,12 @@ replies n s (Change.leave peer now hold) = Replies.does_at
 replies n s (Change.expire now max_age) = Replies.does_at
 
 -- its number is that of the first 'no'
-said-number : {qs : List Question} {k : Sort} {r : Reply} (a : List ℕ) → are_known qs ≡ true → Replies qs k r → (said_in r a).number ≡ first_no qs
-said-number a known (Replies.decides d) = ap number_of (tested-back _ d known) ∙ number-first _ d
-said-number a known (Replies.traces d) = ap number_of (tested-back _ d known) ∙ number-first _ d
-said-number a known Replies.decides_each = ap number_of (tested-back _ tt known) ∙ number-first _ tt
-said-number a known Replies.does_at = ap number_of (tested-back _ tt known) ∙ number-first _ tt
-said-number a known Replies.does = ap number_of (tested-back _ tt known) ∙ number-first _ tt
+said-number : {qs : List Question} {k : Sort} {r : Reply} (a : List ℕ) → Replies qs k r → (said_in r a).number ≡ first_no qs
+said-number a (Replies.decides d) = number-first _ d
+said-number a (Replies.traces d) = number-first _ d
+said-number a Replies.decides_each = number-first _ tt
+said-number a Replies.does_at = number-first _ tt
+said-number a Replies.does = number-first _ tt
 
 -- a decision is read back from its words
 decision-read : (d : Decision) (a : List ℕ) → decision_in (paste 0 (decision_words d) a) ≡ d
@@ -90,7 +88,6 @@ module _ (key : ℕ) (qs : List Question) (l l' : LimiterState) where
   answered-seen :
       (a : List ℕ) (k : Sort) (r : Reply) → passes qs ≡ true → Replies qs k r
       → seen_of key k (reply_of k (said_in r a)) l l' ≡ seen_of key k r l l'
-  unfolding result_of
   answered-seen a (Sort.one_check k now) _ e (Replies.decides d) =
       rw (sym (answer-passed d qs e)) (one_seen k now (ap (λ (x : Decision). allows (given x)) (decision-read d a)))
   answered-seen a (Sort.one_check k now) _ e (Replies.traces d) =
@@ -104,15 +101,14 @@ module _ (key : ℕ) (qs : List Question) (l l' : LimiterState) where
 
   -- of one that is refused, any number but 0 does
   refused-seen :
-      (z : Said) (k : Sort) (r : Reply) → eqb z.number 0 ≡ false → passes qs ≡ false → are_known qs ≡ true → Replies qs k r
+      (z : Said) (k : Sort) (r : Reply) → eqb z.number 0 ≡ false → passes qs ≡ false → Replies qs k r
       → seen_of key k (reply_of k z) l l' ≡ seen_of key k r l l'
-  refused-seen z (Sort.one_check k now) _ e p known (Replies.decides d) =
-      rw (e, tested-back qs d known) (one_seen k now (none_allowed allows d (λ i. refl) p))
-  refused-seen z (Sort.one_check k now) _ e p known (Replies.traces d) =
-      rw (e, tested-back qs d known) (one_seen k now (none_allowed (λ (y : Answer Traced). allows (meters y)) d (λ i. refl) p))
-  refused-seen z (Sort.many_checks rs m) _ e p known Replies.decides_each = rw (e, done-passed qs _ (tested-back qs tt known), p) refl
-  refused-seen z (Sort.timed now) _ e p known Replies.does_at = refl
-  refused-seen z Sort.timeless _ e p known Replies.does = refl
+  refused-seen z (Sort.one_check k now) _ e p (Replies.decides d) = rw e (one_seen k now (none_allowed allows d (λ i. refl) p))
+  refused-seen z (Sort.one_check k now) _ e p (Replies.traces d) =
+      rw e (one_seen k now (none_allowed (λ (y : Answer Traced). allows (meters y)) d (λ i. refl) p))
+  refused-seen z (Sort.many_checks rs m) _ e p Replies.decides_each = rw (e, done-passed qs, p) refl
+  refused-seen z (Sort.timed now) _ e p Replies.does_at = refl
+  refused-seen z Sort.timeless _ e p Replies.does = refl
 
 -- ---- a call as the caller reads it
 
@@ -123,7 +119,7 @@ module _ (c : Call) (s : State) where
 
   refused-reads : (n : run.Lent) (x : Change) (z : Said) → eqb z.number 0 ≡ false → passes (asked n x s) ≡ false → Reads n (What.changes x) z s
   refused-reads n x z e p =
-      (cond-false (passes (asked n x s)) (made x s) s p, λ key. refused-seen key (asked n x s) s.limiter _ z (sort x) (replied_to n x s) e p (asked-known n x s) (replies n s x))
+      (cond-false (passes (asked n x s)) (made x s) s p, λ key. refused-seen key (asked n x s) s.limiter _ z (sort x) (replied_to n x s) e p (replies n s x))
 
   answered-reads :
       (x : Change) → let n = c.lent.tables in passes (asked n x s) ≡ true
@@ -142,7 +138,7 @@ module _ (c : Call) (s : State) where
       split (passes (asked n x s))
       (λ e. answered-reads x e)
       (λ e. subst (Reads n (What.changes x) z) (sym (cond-false (passes (asked n x s)) (made x s) s e))
-      (refused-reads n x z (not-zero (asked n x s) z.number (asked-numbered n x s) (said-number c.answer (asked-known n x s) (replies n s x)) e) e))
+      (refused-reads n x z (not-zero (asked n x s) z.number (asked-numbered n x s) (said-number c.answer (replies n s x)) e) e))
 
   what-reads :
       (x : What) → let b = passes (own_in c x s) in Reads (tables_lent c x) (what_of c.report x) (said_where c x s b) (next_where c x s b)

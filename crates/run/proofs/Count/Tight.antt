@@ -15,7 +15,7 @@ use Rattle.run.specs.Trace.{new_states, asked, made, trace}
 use Rattle.float.specs.Integral.{ceil, round_away}
 use Rattle.float.specs.Order.{below, minimum_number, maximum_number, total_less}
 use Rattle.records.specs.Records.{before, same, leads, ascending}
-use Rattle.questions.specs.Questions.{answer, passes}
+use Rattle.questions.specs.Questions.{given, answer, passes}
 use Rattle.gcra.specs.Packed.{encode, rounded, with_interval, valid_quota, pack, unpack, tau, decode}
 use Rattle.gcra.specs.Meter.{decide, attempt, decision, check as meter-check, has_debt}
 use Rattle.gcra.specs.Rate.{quotient_nanos, per_second, debt_slots, slot_nanos, carry_tat, set_quota}
@@ -28,10 +28,8 @@ use Rattle.questions.specs.Lists.{only, all, any, those, replaced}
 use Rattle.limiter.specs.State.{is_tracked, settings_words, key_words, is_alpha, are_sizes, valid_limit, valid_settings, valid_key, valid_keys, valid_hot, valid_shadows, valid as state-valid, within, units_for, parameters_for}
 use Rattle.limiter.specs.Checks.{new_key_factor, cold_quota, entry as checks-entry, check_in, record_tally, has_place, counters_fit}
 use Rattle.limiter.specs.Ticks.{folded as ticks-folded, unbiased_rate, pass_one, rate_of, victims, capped, tick_with}
-use Rattle.questions.proofs.RefusalLaws.{result_of}
 use Rattle.run.proofs.Standing.Replied.{replied_to}
 use Rattle.run.proofs.Standing.Shows.{shown_by}
-use Rattle.std.specs.declared.result.Result.TheVariants.{Ok}
 
 -- T is 576,460,752,304,000,000 at first, and 576,460,752,305,000,000 from the tick on
 abbrev pub slow : Limit
@@ -89,13 +87,13 @@ replies_in (Shown.resumed image ∷ xs) = replies_in xs
 -- two checks are allowed, the third is denied until T; after the tick two more are
 abbrev pub replies : List Reply
 replies =
-    Reply.decided (Ok Allow)
-    ∷ Reply.decided (Ok Allow)
-    ∷ Reply.decided (Ok (Deny 576460752304000000))
-    ∷ Reply.done (Ok tt)
-    ∷ Reply.done (Ok tt)
-    ∷ Reply.decided (Ok Allow)
-    ∷ Reply.decided (Ok Allow)
+    Reply.decided (given Allow)
+    ∷ Reply.decided (given Allow)
+    ∷ Reply.decided (given (Deny 576460752304000000))
+    ∷ Reply.done (given tt)
+    ∷ Reply.done (given tt)
+    ∷ Reply.decided (given Allow)
+    ∷ Reply.decided (given Allow)
     ∷ []
 
 abbrev pub bound_of : List Seen → ℕ
@@ -111,7 +109,7 @@ pub record Reached (xs : List Shown) : Type 0 where
 
 -- by what the definitions show
 pub reached : Reached (shown_by (new_states settings) moves)
-unfolding moves shown_by replied_to result_of span climb ieee-size odd ieee-units ieee-round neg ieee-sum add sub mul div lt eq
+unfolding moves shown_by replied_to span climb ieee-size odd ieee-units ieee-round neg ieee-sum add sub mul div lt eq
     le ne of_int to_unsigned whole in_unsigned fits is_nan of_fields of_bits to_bits ceil round_away below minimum_number maximum_number total_less before same
     leads ascending answer passes encode rounded with_interval valid_quota pack unpack tau decode decide attempt decision meter-check has_debt
     quotient_nanos per_second debt_slots slot_nanos carry_tat set_quota next weight alpha estimator-folded ticked_from unbiased_from is_rate is_floor_factor

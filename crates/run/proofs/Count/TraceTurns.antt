@@ -1,8 +1,7 @@
 -- What the definitions show of a key is a list of turns, so the count's law holds of it.
 -- No state need be known to be valid: question 2 asks that of every call on the limiter.
 use Prim.Native.Nat.{ℕ}
-use native.Mathlib.Omega.{arith}
-use mathlib.Core.Path.{◌≡◌, refl, sym, ap, ◌∙◌, subst}
+use mathlib.Core.Path.{◌≡◌, refl, ap, subst}
 use mathlib.Core.Bool.{Bool, true, false, cond, ◌&&◌}
 use mathlib.Core.List.{List, [], ◌∷◌, ◌++◌, map, append_assoc}
 use lib.Dec.{eqb}
@@ -16,7 +15,6 @@ use Rattle.questions.specs.Questions.{Question, ◌asks◌, Answer, refused, giv
 use Rattle.gcra.specs.Packed.{valid_burst}
 use Rattle.gcra.specs.Meter.{is_allow}
 use Rattle.gcra.specs.declared.Units.{Units}
-use Rattle.questions.proofs.Answers.{given-passed, answer-passed}
 use Rattle.peers.specs.Peers.State as peer-state
 use Rattle.demand.specs.Allocation.{is_rate}
 use Rattle.limiter.specs.declared.Config.{Config}
@@ -41,15 +39,10 @@ use Rattle.limiter.proofs.States.StateValidLaws.{units-of-accepted}
 use Rattle.limiter.proofs.LimiterTheorems.{one-settings, each-settings}
 use Rattle.run.proofs.Count.CallTurns.{Acts, unmoved, own-burst, entered, tick-turns}
 use Rattle.run.proofs.Count.Spared.{Spares, Spared}
-use Rattle.run.proofs.Standing.KnownLaws.{asked-back}
 use Rattle.run.proofs.Standing.Replied.{replied_to, replied}
 use Rattle.run.proofs.Standing.Shows.{next, shown_by}
 use Rattle.std.specs.declared.option.Option.{Option}
 use Rattle.std.specs.declared.option.Option.TheVariants.{None, Some}
-use Rattle.std.specs.declared.result.Result.{Result}
-use Rattle.std.specs.declared.result.Result.TheVariants.{Ok, Err}
-use Rattle.questions.specs.declared.Refusal.{Refusal}
-use Rattle.questions.specs.Refusals.{number, answer_of}
 use Rattle.limiter.specs.declared.Traced.{Traced}
 
 -- ---- lists of what is seen
@@ -124,11 +117,10 @@ first-words true false d ws = (refl, refl)
 first-words false b d ws = (refl, refl)
 
 -- A call is done where no question is answered 'no'.
-pub done-passed : (qs : List Question) (r : Result Unit Refusal) → answer_of r ≡ answer qs tt → was_done r ≡ passes qs
-done-passed qs (Ok x) e = sym (given-passed qs x tt e).0
-done-passed qs (Err x) e =
-    split (passes qs) (λ p. let h : refused (number x) ≡ given tt = e ∙ sym (answer-passed tt qs p) in let z : ◌≡◌ {A = ℕ} 0 1 = cc in absurd (omega arith))
-    (λ p. sym p)
+pub done-passed : (qs : List Question) → was_done (answer qs tt) ≡ passes qs
+unfolding answer passes
+done-passed [] = refl
+done-passed (q ∷ qs) = split q.passed (λ e. rw e (done-passed qs)) (λ e. rw e)
 
 -- A premise may be asked for instead of what it gives.
 under : {u : Units} {S T : Type 0} {t a : ℕ} {m m' : Option Gcra} → (T → S) → Acts u S t m a m' → Acts u T t m a m'
@@ -234,7 +226,7 @@ module _ (key : ℕ) where
       (meter_of (trace.after n (What.changes x) s))
   unfolding asked made replied_to table passes
   many-turns n s list count m out =
-      rw (done-passed (asked n (Change.check-each list count m out) s) _ (asked-back n (Change.check-each list count m out) s tt))
+      rw (done-passed (asked n (Change.check-each list count m out) s))
       (split (passes (asked n (Change.check-each list count m out) s))
       (λ p.
       let v = (on-limiter n s (each_questions count m out) (both (fits (length list) 2 count) _ p).1).0 in
@@ -248,16 +240,16 @@ module _ (key : ℕ) where
   unfolding asked made replied_to
   call-turns n (Change.check k now m) s =
       let qs = asked n (Change.check k now m) s in
-      once (check-or-no meter_of qs k _ (ap allows (asked-back n (Change.check k now m) s _) ∙ taken allows 0 qs _ (λ i. refl))
+      once (check-or-no meter_of qs k _ (taken allows 0 qs _ (λ i. refl))
       (λ p. check-turns s.limiter k (own_limit s.limiter) now m (own-burst s.limiter (on-limiter n s _ p).0)))
   call-turns n (Change.check-in k l now m) s =
       let qs = asked n (Change.check-in k l now m) s in
-      once (check-or-no meter_of qs k _ (ap allows (asked-back n (Change.check-in k l now m) s _) ∙ taken allows 0 qs _ (λ i. refl))
+      once (check-or-no meter_of qs k _ (taken allows 0 qs _ (λ i. refl))
       (λ p. check-turns s.limiter k l now m (given-burst l _ (on-limiter n s _ p).1)))
   call-turns n (Change.check-traced k l y now m) s =
       let qs = asked n (Change.check-traced k l y now m) s in
       let f : Answer Traced → ℕ = λ z. allows (meters z) in
-      once (check-or-no meter_of qs k _ (ap f (asked-back n (Change.check-traced k l y now m) s _) ∙ taken f 0 qs _ (λ i. refl))
+      once (check-or-no meter_of qs k _ (taken f 0 qs _ (λ i. refl))
       (λ p. traced-turns s.limiter k l y now m (traced-burst l y _ (on-limiter n s _ p).1)))
   call-turns n (Change.check-each list count m out) s = many-turns n s list count m out
   call-turns n (Change.tally k y l now m) s =

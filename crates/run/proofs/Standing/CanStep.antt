@@ -11,7 +11,7 @@ use Rattle.limiter.specs.declared.Limiter.{Limiter}
 use Rattle.limiter.specs.Answered.{Changed}
 use Rattle.limiter.specs.State as limiter-state
 use Rattle.limiter.specs.State.{parameters_of, settings_of, LimiterState, LimiterTables, lengths, have_room, value_of, units_of, units_in}
-use Rattle.limiter.specs.Checks.{cluster_questions}
+use Rattle.limiter.specs.Checks.{both_limit_questions, cluster_questions}
 use Rattle.limiter.specs.Ticks.{tick, tick_with, tick_with_shares, no_others, peers_others}
 use Rattle.limiter.specs.Calls as limiter
 use Rattle.limiter.specs.Calls.{Ticking, state_questions, both_questions, here}
@@ -23,7 +23,9 @@ use Rattle.run.specs.Typed.{typed, typed_what}
 use Rattle.run.specs.Demand3.{CanCall}
 use Rattle.questions.specs.Refusals.{refusal_of}
 use Rattle.questions.proofs.RefusalLaws.{are_known, result_of, tested-back}
-use Rattle.run.proofs.Standing.KnownLaws.{traced-known}
+use Rattle.limiter.specs.declared.Limit.{Limit}
+use Rattle.std.specs.declared.option.Option.{Option}
+use Rattle.std.specs.declared.option.Option.TheVariants.{None, Some}
 
 -- ---- a tick: `written after t` is the witness
 
@@ -52,28 +54,34 @@ lent-valid l t e = (both (limiter-state.are_exact (units_in l) l t) _ e).1
 
 -- ---- each call that changes
 
+-- the questions of a limit and its shadow have refusals of their numbers, and so those with others after them
+traced-known : (x : Limit) (y : Option Limit) (rest : List Question) → are_known rest ≡ true → are_known (both_limit_questions x y ++ rest) ≡ true
+unfolding refusal_of
+traced-known x None rest k = k
+traced-known x (Some y) rest k = k
+
 can-do : (p : Memory) (c : Change) → typed c ≡ true → (r : Reply) × (p' : Memory) × Does p c r p'
 unfolding typed passes tick_with limiter-state.state_of refusal_of
 can-do p (Change.check key now m) w =
-    (_, _, Does.checks {r = record { answer = result_of _; limiter = _ }} (record { answered = tested-back _ _ refl; limiter = refl; words = refl }))
+    (_, _, Does.checks (record { answer = result_of _; limiter = _ }) (record { answered = tested-back _ _ refl; limiter = refl; words = refl }))
 can-do p (Change.check-in key z now m) w =
-    (_, _, Does.checks_in {r = record { answer = result_of _; limiter = _ }} (record { answered = tested-back _ _ refl; limiter = refl; words = refl }))
+    (_, _, Does.checks_in (record { answer = result_of _; limiter = _ }) (record { answered = tested-back _ _ refl; limiter = refl; words = refl }))
 can-do p (Change.check-traced key z y now m) w =
-    (_, _, Does.checks_traced {r = record { answer = result_of _; limiter = _ }} (record { answered = tested-back _ _ (traced-known z y _ refl); limiter = refl; words = refl }))
+    (_, _, Does.checks_traced (record { answer = result_of _; limiter = _ }) (record { answered = tested-back _ _ (traced-known z y _ refl); limiter = refl; words = refl }))
 can-do p (Change.check-each list count m out) w = (
   _,
   _,
-  Does.checks_each {r = record { answer = result_of _; limiter = _ }}
+  Does.checks_each (record { answer = result_of _; limiter = _ })
       (record { acts = record { answered = tested-back _ _ refl; limiter = refl; words = refl }; output = refl }),
 )
 can-do p (Change.tally key y z now m) w =
-    (_, _, Does.tallies {r = record { answer = result_of _; limiter = _ }} (record { answered = tested-back _ _ refl; limiter = refl; words = refl }))
+    (_, _, Does.tallies (record { answer = result_of _; limiter = _ }) (record { answered = tested-back _ _ refl; limiter = refl; words = refl }))
 can-do p (Change.set-cap z) w =
-    (_, _, Does.sets_cap {r = record { answer = result_of _; limiter = _ }} (record { answered = tested-back _ _ refl; limiter = refl }))
+    (_, _, Does.sets_cap (record { answer = result_of _; limiter = _ }) (record { answered = tested-back _ _ refl; limiter = refl }))
 can-do p (Change.tick now m) w = (
   _,
   _,
-  Does.ticks
+  Does.ticks _
       (can-tick (state_questions p.limiter p.tables ++ cluster_questions m) (tick (parameters_of (settings_of p.limiter)) (units_in p.limiter) now m (here p.limiter p.tables)) p.limiter
       p.tables refl
       (λ e.
@@ -84,7 +92,7 @@ can-do p (Change.tick now m) w = (
 can-do p (Change.tick-with-shares now m) w = (
   _,
   _,
-  Does.ticks_with_shares
+  Does.ticks_with_shares _
       (can-tick (both_questions p.limiter p.tables p.peers p.peer_tables ++ cluster_questions m)
       (tick_with_shares (parameters_of (settings_of p.limiter)) (units_in p.limiter) (peer-state.state_of p.peers p.peer_tables) now m (here p.limiter p.tables)) p.limiter p.tables refl
       (λ e.
@@ -97,13 +105,13 @@ can-do p (Change.tick-with-shares now m) w = (
       ))),
 )
 can-do p (Change.report sender z now) w =
-    (_, _, Does.reports {r = record { answer = result_of _; peers = _ }} (record { answered = tested-back _ _ refl; value = refl; words = refl }))
+    (_, _, Does.reports (record { answer = result_of _; peers = _ }) (record { answered = tested-back _ _ refl; value = refl; words = refl }))
 can-do p (Change.forget peer) w =
-    (_, _, Does.forgets {r = record { answer = result_of _; peers = _ }} (record { answered = tested-back _ _ refl; value = refl; words = refl }))
+    (_, _, Does.forgets (record { answer = result_of _; peers = _ }) (record { answered = tested-back _ _ refl; value = refl; words = refl }))
 can-do p (Change.leave peer now hold) w =
-    (_, _, Does.leaves {r = record { answer = result_of _; peers = _ }} (record { answered = tested-back _ _ refl; value = refl; words = refl }))
+    (_, _, Does.leaves (record { answer = result_of _; peers = _ }) (record { answered = tested-back _ _ refl; value = refl; words = refl }))
 can-do p (Change.expire now max_age) w =
-    (_, _, Does.expires {r = record { answer = result_of _; peers = _ }} (record { answered = tested-back _ _ refl; value = refl; words = refl }))
+    (_, _, Does.expires (record { answer = result_of _; peers = _ }) (record { answered = tested-back _ _ refl; value = refl; words = refl }))
 
 -- ---- each call that reads
 

@@ -35,25 +35,24 @@ decision_of n key z now m c s = answer (asked n c s) (key_decision (units_of s.l
 
 -- of a change
 unfoldable pub replied_to : Lent → Change → State → Reply
-replied_to n (Change.check key now m) s = Reply.decided (result_of (decision_of n key (own_limit s.limiter) now m (Change.check key now m) s))
-replied_to n (Change.check-in key z now m) s = Reply.decided (result_of (decision_of n key z now m (Change.check-in key z now m) s))
+replied_to n (Change.check key now m) s = Reply.decided (decision_of n key (own_limit s.limiter) now m (Change.check key now m) s)
+replied_to n (Change.check-in key z now m) s = Reply.decided (decision_of n key z now m (Change.check-in key z now m) s)
 replied_to n (Change.check-traced key z y now m) s =
     Reply.traced
-    (result_of
     (answer (asked n (Change.check-traced key z y now m) s)
-    (record { decision = key_decision (units_of s.limiter.settings) s.limiter key z now m; shadow = shadow_decision (units_of s.limiter.settings) s.limiter key z y now m })))
+    (record { decision = key_decision (units_of s.limiter.settings) s.limiter key z now m; shadow = shadow_decision (units_of s.limiter.settings) s.limiter key z y now m }))
 replied_to n (Change.check-each list count m out) s =
-    Reply.decided-each (result_of (answer (asked n (Change.check-each list count m out) s) tt))
+    Reply.decided-each (answer (asked n (Change.check-each list count m out) s) tt)
     (changed (asked n (Change.check-each list count m out) s) out
     (table (map answer_words (check_each (units_of s.limiter.settings) m (records 2 count list) s.limiter).answers) out))
-replied_to n (Change.tally key y z now m) s = Reply.done (result_of (answer (asked n (Change.tally key y z now m) s) tt))
-replied_to n (Change.set-cap z) s = Reply.done (result_of (answer (asked n (Change.set-cap z) s) tt))
-replied_to n (Change.tick now m) s = Reply.done (result_of (answer (asked n (Change.tick now m) s) tt))
-replied_to n (Change.tick-with-shares now m) s = Reply.done (result_of (answer (asked n (Change.tick-with-shares now m) s) tt))
-replied_to n (Change.report sender z now) s = Reply.done (result_of (answer (asked n (Change.report sender z now) s) tt))
-replied_to n (Change.forget peer) s = Reply.done (result_of (answer (asked n (Change.forget peer) s) tt))
-replied_to n (Change.leave peer now hold) s = Reply.done (result_of (answer (asked n (Change.leave peer now hold) s) tt))
-replied_to n (Change.expire now max_age) s = Reply.done (result_of (answer (asked n (Change.expire now max_age) s) tt))
+replied_to n (Change.tally key y z now m) s = Reply.done (answer (asked n (Change.tally key y z now m) s) tt)
+replied_to n (Change.set-cap z) s = Reply.done (answer (asked n (Change.set-cap z) s) tt)
+replied_to n (Change.tick now m) s = Reply.done (answer (asked n (Change.tick now m) s) tt)
+replied_to n (Change.tick-with-shares now m) s = Reply.done (answer (asked n (Change.tick-with-shares now m) s) tt)
+replied_to n (Change.report sender z now) s = Reply.done (answer (asked n (Change.report sender z now) s) tt)
+replied_to n (Change.forget peer) s = Reply.done (answer (asked n (Change.forget peer) s) tt)
+replied_to n (Change.leave peer now hold) s = Reply.done (answer (asked n (Change.leave peer now hold) s) tt)
+replied_to n (Change.expire now max_age) s = Reply.done (answer (asked n (Change.expire now max_age) s) tt)
 
 -- a list, and the output with it
 abbrev pub listing : Lent → (LimiterState → List (List ℕ)) → List ℕ → State → Told
@@ -113,62 +112,50 @@ module _ {h : Memory} {s : State} (n : Lent) (enough : lent_by (lend n h) ≡ n)
   -- of each call that changes
   does-reply : (c : Change) {r : Reply} {h' : Memory} → Does (lend n h) c r h' → r ≡ replied_to n c s
   unfolding asked replied_to limiter-state.state_of
-  does-reply (Change.check key now m) (Does.checks {r = r} c) =
+  does-reply (Change.check key now m) (Does.checks _ c) =
       ap Reply.decided
-      (result-said r.answer
       (c.answered
       ∙ same_answer (limiter-agrees n enough st) [] (λ (y : LimiterState). check_questions (units_of y.settings) y key now m)
-      (λ (y : LimiterState). key_decision (units_of y.settings) y key (own_limit y) now m)))
-  does-reply (Change.check-in key z now m) (Does.checks_in {r = r} c) =
+      (λ (y : LimiterState). key_decision (units_of y.settings) y key (own_limit y) now m))
+  does-reply (Change.check-in key z now m) (Does.checks_in _ c) =
       ap Reply.decided
-      (result-said r.answer
       (c.answered
       ∙ same_answer (limiter-agrees n enough st) [] (λ (y : LimiterState). check_in_questions (units_of y.settings) y key z now m)
-      (λ (y : LimiterState). key_decision (units_of y.settings) y key z now m)))
-  does-reply (Change.check-traced key z y now m) (Does.checks_traced {r = r} c) =
+      (λ (y : LimiterState). key_decision (units_of y.settings) y key z now m))
+  does-reply (Change.check-traced key z y now m) (Does.checks_traced _ c) =
       ap Reply.traced
-      (result-said r.answer
       (c.answered
       ∙ same_answer (limiter-agrees n enough st) [] (λ (x : LimiterState). traced_questions (units_of x.settings) x key z y now m)
-      (λ (x : LimiterState). record { decision = key_decision (units_of x.settings) x key z now m; shadow = shadow_decision (units_of x.settings) x key z y now m })))
-  does-reply (Change.check-each list count m out) (Does.checks_each {r = r} c) =
+      (λ (x : LimiterState). record { decision = key_decision (units_of x.settings) x key z now m; shadow = shadow_decision (units_of x.settings) x key z y now m }))
+  does-reply (Change.check-each list count m out) (Does.checks_each _ c) =
       let front : List Question = (1 asks fits (length list) 2 count) ∷ [] in
       (λ i. Reply.decided-each
-      (result-said r.answer
-      (c.acts.answered
+      ((c.acts.answered
       ∙ same_answer (limiter-agrees n enough st) front (λ (y : LimiterState). each_questions count m out) (λ (y : LimiterState). tt)) i)
       ((c.output
       ∙ same-changed (limiter-agrees n enough st) front (λ (y : LimiterState). each_questions count m out) out
       (λ (y : LimiterState). table (map answer_words (check_each (units_of y.settings) m (records 2 count list) y).answers) out)) i))
-  does-reply (Change.tally key y z now m) (Does.tallies {r = r} c) =
+  does-reply (Change.tally key y z now m) (Does.tallies _ c) =
       ap Reply.done
-      (result-said r.answer
       (c.answered
-      ∙ same_answer (limiter-agrees n enough st) [] (λ (x : LimiterState). record_questions (units_of x.settings) x key y z now m) (λ (x : LimiterState). tt)))
-  does-reply (Change.set-cap z) (Does.sets_cap {r = r} c) =
-      ap Reply.done (result-said r.answer
-      (c.answered ∙ same_answer (limiter-agrees n enough st) [] (λ (x : LimiterState). []) (λ (x : LimiterState). tt)))
-  does-reply (Change.tick now m) (Does.ticks {r = r} c) =
-      ap Reply.done (result-said r.answer
-      (c.answered ∙ same_answer (limiter-agrees n enough st) [] (λ (x : LimiterState). cluster_questions m) (λ (x : LimiterState). tt)))
-  does-reply (Change.tick-with-shares now m) (Does.ticks_with_shares {r = r} c) =
-      ap Reply.done (result-said r.answer
-      (c.answered ∙ same_answer (both-agree n enough st) [] (λ (x : State). cluster_questions m) (λ (x : State). tt)))
-  does-reply (Change.report sender z now) (Does.reports {r = r} c) =
+      ∙ same_answer (limiter-agrees n enough st) [] (λ (x : LimiterState). record_questions (units_of x.settings) x key y z now m) (λ (x : LimiterState). tt))
+  does-reply (Change.set-cap z) (Does.sets_cap _ c) =
+      ap Reply.done (c.answered ∙ same_answer (limiter-agrees n enough st) [] (λ (x : LimiterState). []) (λ (x : LimiterState). tt))
+  does-reply (Change.tick now m) (Does.ticks _ c) =
+      ap Reply.done (c.answered ∙ same_answer (limiter-agrees n enough st) [] (λ (x : LimiterState). cluster_questions m) (λ (x : LimiterState). tt))
+  does-reply (Change.tick-with-shares now m) (Does.ticks_with_shares _ c) =
+      ap Reply.done (c.answered ∙ same_answer (both-agree n enough st) [] (λ (x : State). cluster_questions m) (λ (x : State). tt))
+  does-reply (Change.report sender z now) (Does.reports _ c) =
       ap Reply.done
-      (result-said r.answer
       (c.answered
       ∙ same_answer (peers-agree n enough st) []
-      (λ (x : PeersState). report_questions_of x sender z) (λ (x : PeersState). tt)))
-  does-reply (Change.forget peer) (Does.forgets {r = r} c) =
-      ap Reply.done (result-said r.answer
-      (c.answered ∙ same_answer (peers-agree n enough st) [] (λ (x : PeersState). []) (λ (x : PeersState). tt)))
-  does-reply (Change.leave peer now hold) (Does.leaves {r = r} c) =
-      ap Reply.done (result-said r.answer
-      (c.answered ∙ same_answer (peers-agree n enough st) [] (λ (x : PeersState). []) (λ (x : PeersState). tt)))
-  does-reply (Change.expire now max_age) (Does.expires {r = r} c) =
-      ap Reply.done (result-said r.answer
-      (c.answered ∙ same_answer (peers-agree n enough st) [] (λ (x : PeersState). []) (λ (x : PeersState). tt)))
+      (λ (x : PeersState). report_questions_of x sender z) (λ (x : PeersState). tt))
+  does-reply (Change.forget peer) (Does.forgets _ c) =
+      ap Reply.done (c.answered ∙ same_answer (peers-agree n enough st) [] (λ (x : PeersState). []) (λ (x : PeersState). tt))
+  does-reply (Change.leave peer now hold) (Does.leaves _ c) =
+      ap Reply.done (c.answered ∙ same_answer (peers-agree n enough st) [] (λ (x : PeersState). []) (λ (x : PeersState). tt))
+  does-reply (Change.expire now max_age) (Does.expires _ c) =
+      ap Reply.done (c.answered ∙ same_answer (peers-agree n enough st) [] (λ (x : PeersState). []) (λ (x : PeersState). tt))
 
   -- what the limiter's state tells
   limiter-tells :

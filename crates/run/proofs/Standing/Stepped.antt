@@ -183,7 +183,7 @@ module _ {h : Memory} {s : State} (n : Lent) (enough : lent_by (lend n h) ≡ n)
   -- ---- each call that changes
   does-stand : (c : Change) {r : Reply} {h' : Memory} → typed c ≡ true → Does (lend n h) c r h' → LeftOf n h h' (after n (What.changes c) s)
   unfolding typed asked made check_in check_traced record_tally tick_with limiter-state.state_of
-  does-stand (Change.check key now m) w (Does.checks c) =
+  does-stand (Change.check key now m) w (Does.checks _ c) =
       let b = both (is_word key) (is_word now) w in
       limiter-steps
       (acts-leave h.tables
@@ -192,7 +192,7 @@ module _ {h : Memory} {s : State} (n : Lent) (enough : lent_by (lend n h) ≡ n)
       (λ (y : LimiterState). check_in (units_of y.settings) y key (own_limit y) now m) c)
       (λ e. lasts (passes-room [] _ _ e) refl
       (check-valid (units_of x.settings) (units-of-accepted x.settings) x x-valid key now m b.0 b.1 (passes-rest [] _ _ (check_questions (units_of x.settings) x key now m) e))))
-  does-stand (Change.check-in key z now m) w (Does.checks_in c) =
+  does-stand (Change.check-in key z now m) w (Does.checks_in _ c) =
       let a = both (is_word key) _ w in
       let b = both (is_word now) _ a.1 in
       limiter-steps
@@ -203,7 +203,7 @@ module _ {h : Memory} {s : State} (n : Lent) (enough : lent_by (lend n h) ≡ n)
       (λ e. lasts (passes-room [] _ _ e) refl
       (check-in-valid (units_of x.settings) (units-of-accepted x.settings) x x-valid key z now m (given key z now a.0 b.0 b.1)
       (passes-rest [] _ _ (check_in_questions (units_of x.settings) x key z now m) e))))
-  does-stand (Change.check-traced key z y now m) w (Does.checks_traced c) =
+  does-stand (Change.check-traced key z y now m) w (Does.checks_traced _ c) =
       let a = both (is_word key) _ w in
       let b = both (is_word now) _ a.1 in
       limiter-steps
@@ -215,7 +215,7 @@ module _ {h : Memory} {s : State} (n : Lent) (enough : lent_by (lend n h) ≡ n)
       lasts (passes-room [] _ _ e) refl
       (traced-valid (units_of x.settings) (units-of-accepted x.settings) x x-valid key z now m (given key z now a.0 b.0 b.1) y
       (passes-rest [] _ _ (traced_questions (units_of x.settings) x key z y now m) e))))
-  does-stand (Change.check-each list count m out) w (Does.checks_each c) =
+  does-stand (Change.check-each list count m out) w (Does.checks_each _ c) =
       limiter-steps
       (acts-leave h.tables
       (acts-there (limiter-agrees n enough st) ((1 asks fits (length list) 2 count) ∷ []) (λ (y : LimiterState). each_questions count m out)
@@ -225,7 +225,7 @@ module _ {h : Memory} {s : State} (n : Lent) (enough : lent_by (lend n h) ≡ n)
       lasts (passes-room ((1 asks fits (length list) 2 count) ∷ []) _ _ e)
       (ap (λ (z : Settings). z.config) (each-settings (units_of x.settings) m (records 2 count list) x))
       (check-each-valid (units_of x.settings) (units-of-accepted x.settings) m (records 2 count list) x (pairs-fit count list w) x-valid)))
-  does-stand (Change.tally key y z now m) w (Does.tallies c) =
+  does-stand (Change.tally key y z now m) w (Does.tallies _ c) =
       let a = both (is_word key) _ w in
       let b = both (is_word now) _ a.1 in
       limiter-steps
@@ -235,7 +235,7 @@ module _ {h : Memory} {s : State} (n : Lent) (enough : lent_by (lend n h) ≡ n)
       (λ e. lasts (passes-room [] _ _ e) refl
       (record-valid (units_of x.settings) (units-of-accepted x.settings) x x-valid key z now m (given key z now a.0 b.0 b.1) y
       (passes-rest [] _ _ (record_questions (units_of x.settings) x key y z now m) e))))
-  does-stand (Change.set-cap z) w (Does.sets_cap c) =
+  does-stand (Change.set-cap z) w (Does.sets_cap _ c) =
       limiter-steps
       (cap-leaves h.tables z
       (c.limiter ∙ same-changed (limiter-agrees n enough st) [] (λ (y : LimiterState). []) h.limiter (λ (y : LimiterState). value_of (set_cap z y)))
@@ -244,12 +244,12 @@ module _ {h : Memory} {s : State} (n : Lent) (enough : lent_by (lend n h) ≡ n)
         limiter-lent n.limiter ((λ i. have_room x.settings.config (enough i).limiter) ∙ room) st.limiter,
         lasts room refl (set-cap-valid (units_of x.settings) z x w x-valid),
       )))
-  does-stand (Change.tick now m) w (Does.ticks c) =
+  does-stand (Change.tick now m) w (Does.ticks _ c) =
       limiter-steps
       (ticking-leaves h.tables
       (ticking-there (limiter-agrees n enough st) [] (λ (y : LimiterState). cluster_questions m) (λ (y : LimiterState). tick (parameters_of y.settings) (units_of y.settings) now m y) c)
       (λ e. lasts (passes-room [] _ _ e) refl (tick-valid (parameters_of x.settings) (units_of x.settings) (units-of-accepted x.settings) (no_others m) now m x w x-valid)))
-  does-stand (Change.tick-with-shares now m) w (Does.ticks_with_shares c) =
+  does-stand (Change.tick-with-shares now m) w (Does.ticks_with_shares _ c) =
       limiter-steps
       (ticking-leaves h.tables
       (ticking-there (both-agree n enough st) [] (λ (y : State). cluster_questions m)
@@ -257,19 +257,19 @@ module _ {h : Memory} {s : State} (n : Lent) (enough : lent_by (lend n h) ≡ n)
       (λ e.
       lasts (both (have_room x.settings.config n.limiter) (peer-state.have_room n.peers) (passes-room [] _ _ e)).0 refl
       (tick-valid (parameters_of x.settings) (units_of x.settings) (units-of-accepted x.settings) (peers_others x.settings s.peers m) now m x w x-valid)))
-  does-stand (Change.report sender z now) w (Does.reports c) =
+  does-stand (Change.report sender z now) w (Does.reports _ c) =
       let a = both (is_word sender) _ w in
       let b = both (is_word now) _ a.1 in
       let ws = widths sender now z a.0 b.0 b.1 in
       peers-change (λ (y : PeersState). report_questions_of y sender z)
       (peer-changes.apply peer-changes.implausible_jump sender z now) c.value c.words
       (λ e. reported-valid peer-changes.implausible_jump sender now z ws.0 ws.1 e)
-  does-stand (Change.forget peer) w (Does.forgets c) =
+  does-stand (Change.forget peer) w (Does.forgets _ c) =
       peers-change (λ (y : PeersState). []) (peer-changes.forget peer) c.value c.words (λ e. forget-valid peer s.peers st.peers.valid)
-  does-stand (Change.leave peer now hold) w (Does.leaves c) =
+  does-stand (Change.leave peer now hold) w (Does.leaves _ c) =
       peers-change (λ (y : PeersState). []) (peer-changes.leave peer now hold) c.value c.words
       (λ e. leave-valid peer now hold s.peers st.peers.valid)
-  does-stand (Change.expire now max_age) w (Does.expires c) =
+  does-stand (Change.expire now max_age) w (Does.expires _ c) =
       peers-change (λ (y : PeersState). []) (peer-changes.expire now max_age) c.value c.words
       (λ e. expire-valid now max_age s.peers st.peers.valid)
 
