@@ -7,12 +7,20 @@ use std::fmt::InlineText;
 // Room for any of these decimals.
 type Text = InlineText<32>;
 
-// The first of the texts, by how many places each has, that reads back to a float. One with
-// seventeen digits does.
-fn fewest_places<F: Fn(usize) -> Text + Drop>(x: f64, text_of: F) -> Text
+// How many digits a decimal has behind its point.
+fn places_in(text: Text) -> usize {
+    match text.as_str().split_once('.') {
+        Some((_, behind)) => behind.find('e').unwrap_or(behind.len()),
+        None => 0,
+    }
+}
+
+// The first of the texts, by how many places each has, that reads back to a float. None does that
+// has fewer places than the library's, where they begin; one with seventeen digits does.
+fn fewest_places<F: Fn(usize) -> Text + Drop>(x: f64, least: usize, text_of: F) -> Text
     requires { F.IsAlwaysCallable text_of }
 {
-    for places in 0..20 {
+    for places in least..20 {
         let text = text_of(places);
         if text.as_str().parse::<f64>().is_ok_and(|y| y == x) {
             return text;
@@ -31,9 +39,11 @@ impl fmt::Display for Float64 {
         let size = x.abs();
         let is_plain = size == 0.0 || (0.0001 <= size && size < 1e16);
         let text = if is_plain {
-            fewest_places(x, |places| Text::of(format_args!("{x:.places$}")))
+            let least = places_in(Text::of(format_args!("{x}")));
+            fewest_places(x, least, |places| Text::of(format_args!("{x:.places$}")))
         } else {
-            fewest_places(x, |places| Text::of(format_args!("{x:.places$e}")))
+            let least = places_in(Text::of(format_args!("{x:e}")));
+            fewest_places(x, least, |places| Text::of(format_args!("{x:.places$e}")))
         };
         f.write_str(text.as_str())
     }
@@ -45,7 +55,7 @@ pub(crate) struct Float32(pub(crate) f32);
 
 // The shortest decimal of a float of 32 bits, as a float of 64 bits; nine digits always read back.
 fn widened(x: f32) -> f64 {
-    for places in 0..9 {
+    for places in places_in(Text::of(format_args!("{x:e}")))..9 {
         let text = Text::of(format_args!("{x:.places$e}"));
         if text.as_str().parse::<f32>().is_ok_and(|y| y == x) {
             return text.as_str().parse().unwrap_or(0.0);

@@ -31,10 +31,10 @@ impl KeyStarts {
         ensures { result ≡ own_keys self.now.snapshot_keys self.now.contested i }
     {
         OwnKeys {
-            snapshot_from: self.snapshot_keys[i],
-            snapshot_to: self.snapshot_keys[i + 1],
-            contested_from: self.contested[i],
-            contested_to: self.contested[i + 1],
+            snapshot_from: usize::from(self.snapshot_keys[i]),
+            snapshot_to: usize::from(self.snapshot_keys[i + 1]),
+            contested_from: usize::from(self.contested[i]),
+            contested_to: usize::from(self.contested[i + 1]),
         }
     }
 }

@@ -1,6 +1,6 @@
 // Question 2 of the peers' tables: whether their records could stand in a valid image. Integer
 // compares only.
-ghost use Rattle.std.specs.Prelude.{◌≡◌, suc, ◌+◌, ◌-◌, ◌*◌, ◌<◌, ◌≤◌, true, length, drop, slice_index, is_some, IfSome};
+ghost use Rattle.std.specs.Prelude.{◌≡◌, suc, ◌+◌, ◌-◌, ◌*◌, ◌^◌, ◌<◌, ◌≤◌, true, length, drop, slice_index, is_some, IfSome};
 ghost use Rattle.records.specs.Records.{records};
 ghost use Rattle.questions.specs.Lists.{all};
 ghost use Rattle.peers.specs.Peers.Steps.Scan.{is_snapshot, is_past_epoch, is_past, are_peer_words};
@@ -133,10 +133,11 @@ fn are_runs(
     p: usize,
     least: u64,
     bound: usize,
-) -> Option<[usize; STARTS]>
+) -> Option<[u16; STARTS]>
     requires p_in_bounds { p * 12 ≤ length peers.now }
     requires keys_ready { KeysReady w n t.now }
     requires few_peers { p ≤ 32 }
+    requires few_keys { n < 2 ^ 16 }
     ensures value { is_some result ≡ are_runs w least bound (records 12 p peers.now) (records w n t.now) }
     ensures starts { IfSome result (λ starts. Starts w n p n t.now peers.now starts) }
 {
@@ -147,7 +148,7 @@ fn are_runs(
         if !is_run(to - from, peers[i * PEER_WORDS + 3], least, bound) {
             return None;
         }
-        starts[i + 1] = to;
+        starts[i + 1] = to as u16;
         from = to;
     }
     (from == n).then_some(starts)
@@ -171,7 +172,7 @@ pub(crate) fn are_keys(
     p: usize,
     least: u64,
     bound: usize,
-) -> Option<[usize; STARTS]>
+) -> Option<[u16; STARTS]>
     requires peers_ready { PeersReady p peers.now }
     requires le_w { (4 ≤ w) × (bound ≤ 256) × ((32 * bound) * w ≤ length t.now) }
     ensures value { is_some result ≡ are_keys w least bound (records 12 p peers.now) (records w n t.now) }

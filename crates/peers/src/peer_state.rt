@@ -13,11 +13,11 @@ use crate::peer_scan;
 use questions::Refusal;
 
 // Where the keys of each peer start in both tables of keys, and after all peers where the last one's
-// keys end.
+// keys end. A table has at most 8,192 keys, and numbers of 16 bits make a value that is soon copied.
 #[derive(Clone, Copy)]
 pub(crate) struct KeyStarts {
-    pub(crate) snapshot_keys: [usize; STARTS],
-    pub(crate) contested: [usize; STARTS],
+    pub(crate) snapshot_keys: [u16; STARTS],
+    pub(crate) contested: [u16; STARTS],
 }
 
 // Whether the lent tables are long enough.

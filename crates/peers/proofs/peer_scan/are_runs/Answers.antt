@@ -10,6 +10,13 @@ returns-then-not-is_run-clause-value c =
     let l = c.loop-i in
     runs-fail s.w s.least s.bound s.n s.p l.from l.i s.t.now s.peers.now l.invariant.0 c.run_end-to.result c.loop-i-test.true c.run_end-to.ensures (sym c.is_run.ensures ∙ c.if-not-is_run.true)
 
+pub overflow_cast-starts : goal.overflow_cast-starts
+overflow_cast-starts c =
+    let s = c.args in
+    let l = c.loop-i in
+    let next = runs-go s.w s.least s.bound s.n s.p l.from l.i s.t.now s.peers.now l.invariant.0 c.run_end-to.result c.loop-i-test.true c.run_end-to.ensures (sym c.is_run.ensures ∙ c.if-not-is_run.false) in
+    omega (arith, next.within, c.requires.few_keys)
+
 pub loop-i-preserved : goal.loop-i-preserved
 loop-i-preserved c =
     let s = c.args in
