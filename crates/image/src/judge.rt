@@ -1,6 +1,7 @@
 // Judges an image before anything of it is stored: its counts, its settings, and its records, which
 // are read into tables of their own and tested there.
-ghost use Rattle.std.specs.Prelude.{◌≡◌, cond, ◌^◌, ltb};
+ghost use Rattle.std.specs.Prelude.{◌≡◌, cond, ◌^◌, ltb, eqb};
+ghost use Rattle.questions.specs.Refusals.{asked};
 ghost use Rattle.image.specs.Image.{kinds};
 ghost use Rattle.image.specs.Reader.{cap_from, sections_first};
 ghost use Rattle.image.specs.Steps.{Scans};
@@ -107,6 +108,13 @@ fn limiter_of(w: [u64; SETTINGS_WORDS], found: Sections) -> Limiter
     }
 }
 
+// Whether every question was answered 'yes'.
+fn passed(answer: Result<(), Refusal>) -> bool
+    ensures { result ≡ eqb (asked answer) 0 }
+{
+    answer.is_ok()
+}
+
 // Whether the records of keys, hot entries and shadows are valid under the limiter's settings.
 fn has_valid_limiter(image: &[u8], found: Sections, limiter: Limiter) -> bool
     requires { Scans image.now found × FewFound found × Counted found limiter }
@@ -130,7 +138,7 @@ fn has_valid_limiter(image: &[u8], found: Sections, limiter: Limiter) -> bool
         &mut shadows,
         found.shadows.n,
     );
-    limiter.ask(&keys, &hot, &shadows).is_ok()
+    passed(limiter.ask(&keys, &hot, &shadows))
 }
 
 // The same of the records of peers, their snapshot keys and contested keys.
@@ -162,9 +170,7 @@ fn has_valid_peers(image: &[u8], found: Sections) -> bool
         &mut contested,
         found.contested.n,
     );
-    peers_of(found)
-        .ask(&peers, &snapshot_keys, &contested)
-        .is_ok()
+    passed(peers_of(found).ask(&peers, &snapshot_keys, &contested))
 }
 
 // As many records of the peers as were found.

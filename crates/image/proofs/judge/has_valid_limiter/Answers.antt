@@ -1,7 +1,6 @@
 -- `has_valid_limiter` meets its contract: the tables that the records are read into pass question 1.
 use Rattle.std.proofs.Common.{ℕ, eqb, ap, ◌∙◌, arith}
 use lib.ListN.{replicate, length-replicate}
-use Rattle.questions.proofs.RefusalLaws.{ok-zero}
 use Rattle.image.proofs.Loading.AskLaws.{limiter-asked}
 use Rattle.image.proofs.judge.has_valid_limiter.Goals as goal
 
@@ -17,7 +16,7 @@ read_table-requires-3 c = (omega (arith, c.requires.1.shadows, length-replicate 
 
 pub returns : goal.returns
 returns c =
-    c.is_ok.ensures.value ∙ ok-zero c.ask.result ∙ ap (λ (n : ℕ). eqb n 0) c.ask.ensures
+    c.passed.ensures ∙ ap (λ (n : ℕ). eqb n 0) c.ask.ensures
     ∙ limiter-asked _ _ c.requires.0 c.requires.1 c.args.limiter c.requires.2 _
     (replicate 90112 0) (replicate 384 0) (replicate 16384 0)
     c.read_table.ensures c.read_table-2.ensures c.read_table-3.ensures
