@@ -15,8 +15,8 @@ fn places_in(text: Text) -> usize {
     }
 }
 
-// The first of the texts, by how many places each has, that reads back to a float. None does that
-// has fewer places than the library's, where they begin; one with seventeen digits does.
+// The first of the texts, by how many places each has, that reads back to a float. They begin at the
+// library's number of places, as none with fewer reads back; one with seventeen digits does.
 fn fewest_places<F: Fn(usize) -> Text + Drop>(x: f64, least: usize, text_of: F) -> Text
     requires { F.IsAlwaysCallable text_of }
 {
