@@ -10,6 +10,7 @@ use borrow.Author.Tests.{leb-true, lt-ltb, le-ltb, le-leb, eqb-true, eq-eqb, ne_
 use lib.Dec.{ltb, leb, eqb}
 use lib.ListN.{length, take, drop, length-append}
 use lib.Seq.{take-add, slice, length-slice, length-take-le, drop_at, take_all}
+use Rattle.std.specs.List as within
 use Rattle.records.specs.Words.{copy_within, paste}
 use Rattle.records.specs.Records.{records, flat, table, fits, splice, insert_at, remove_at, overwrite_at, spliceable, spliced, insertable, inserted, removable, removed, overwritable, overwritten}
 use Rattle.questions.proofs.Tests.{both, and_second, and_intro, leb-same, same_truth, cond_same}
@@ -66,7 +67,14 @@ pub slice_is : (f m : ℕ) (xs : List ℕ) → f + m ≤ length xs → take m (d
 slice_is f m xs h =
     sym (ap (drop f) (take-add f m xs) ∙ drop_at (take f xs) (take m (drop f xs)) f (length-take-le f xs (omega arith)))
 
--- a move to where the words are, by an equation
+-- std's copy
+pub copy_is : (f t d : ℕ) (xs : List ℕ) → f ≤ t → t ≤ length xs → within.copy_within xs f t d ≡ copy_within f t d xs
+unfolding copy_within
+copy_is f t d xs h k =
+    let e : f + (t - f) ≡ t = omega arith in
+    append_assoc (take d xs) (take (t - f) (drop f xs)) (drop (d + (t - f)) xs)
+    ∙ ap (λ (l : List ℕ). take d xs ++ (l ++ drop (d + (t - f)) xs)) (slice_is f (t - f) xs (omega arith) ∙ ap (λ (m : ℕ). slice f m xs) e)
+
 pub copy_stays : (f t d : ℕ) (xs : List ℕ) → f ≤ t → t ≤ length xs → d ≡ f → copy_within f t d xs ≡ xs
 copy_stays f t d xs h k e = ap (λ (m : ℕ). copy_within f t m xs) e ∙ copy-here f t xs h k
 
